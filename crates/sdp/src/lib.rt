@@ -1,0 +1,160 @@
+// What Rust and C call: byte slices and numbers in, numbers out. docs/FFI.md has the C declarations.
+ghost use mathlib.Core.Path.{_≡_};
+ghost use Rattle.sdp_bytes.specs.Utf8.{utf8End};
+ghost use Rattle.sdp_bytes.specs.Token.{isToken};
+ghost use Rattle.sdp_bytes.specs.Number.{wholeNumber, typedTime};
+ghost use Rattle.sdp_lines.specs.Lines.{cutAt};
+ghost use Rattle.sdp.specs.Boundary.{numeralOf, cursorAt, pieceOf};
+use sdp_bytes::number::Number;
+use sdp_lines::Cursor;
+use sdp_lines::Cut;
+use sdp_lines::LineNumber;
+use sdp_lines::Place;
+
+// A number that was read: refusal number 0 and the value, or 8 or 9 and 0.
+#[repr(C)]
+pub struct Numeral {
+    pub number: u64,
+    pub value: u64,
+}
+
+// One step of the line cutter. kind: 0 the end, 1 an empty line, 2 a line of good form, 3 a refused line. What a kind does not have is 0.
+#[repr(C)]
+pub struct Piece {
+    pub kind: u64,
+    pub number: u64,
+    pub line: u64,
+    pub letter: u64,
+    pub place: u64,
+    pub len: u64,
+    pub next_place: u64,
+    pub next_line: u64,
+}
+
+fn numeral_of(n: Number) -> Numeral
+    ensures { λ r. ⌜ r ≡ numeralOf n ⌝ }
+{
+    match n {
+        Number::Value(v) => Numeral {
+            number: 0,
+            value: v,
+        },
+        Number::Encoding => Numeral {
+            number: 8,
+            value: 0,
+        },
+        Number::Format => Numeral {
+            number: 9,
+            value: 0,
+        },
+    }
+}
+
+fn wide(b: u8) -> u64
+    ensures { λ r. ⌜ r ≡ b ⌝ }
+{
+    b as u64
+}
+
+fn piece_of(line: usize, c: Cut) -> Piece
+    ensures { λ r. ⌜ r ≡ pieceOf line c ⌝ }
+{
+    match c {
+        Cut::End => Piece {
+            kind: 0,
+            number: 0,
+            line: 0,
+            letter: 0,
+            place: 0,
+            len: 0,
+            next_place: 0,
+            next_line: 0,
+        },
+        Cut::Empty { next } => Piece {
+            kind: 1,
+            number: 0,
+            line: line as u64,
+            letter: 0,
+            place: 0,
+            len: 0,
+            next_place: next.at.0 as u64,
+            next_line: next.line.0 as u64,
+        },
+        Cut::Line {
+            letter,
+            value,
+            next,
+        } => Piece {
+            kind: 2,
+            number: 0,
+            line: line as u64,
+            letter: wide(letter),
+            place: value.at.0 as u64,
+            len: value.len as u64,
+            next_place: next.at.0 as u64,
+            next_line: next.line.0 as u64,
+        },
+        Cut::Refused { fault, line } => Piece {
+            kind: 3,
+            number: sdp_lines::fault_number(fault),
+            line: line.0 as u64,
+            letter: 0,
+            place: 0,
+            len: 0,
+            next_place: 0,
+            next_line: 0,
+        },
+    }
+}
+
+// The end of the longest well-formed UTF-8 beginning of s.
+#[no_mangle]
+pub extern "C" fn sdp_utf8_end(s: &[u8]) -> usize
+    ensures { λ r. ⌜ r ≡ utf8End (now (s .entry)) ⌝ }
+{
+    sdp_bytes::utf8::utf8_end(s)
+}
+
+// Whether s is a token.
+#[no_mangle]
+pub extern "C" fn sdp_is_token(s: &[u8]) -> bool
+    ensures { λ r. ⌜ r ≡ isToken (now (s .entry)) ⌝ }
+{
+    sdp_bytes::token::is_token(s)
+}
+
+// A whole number of 16 bits.
+#[no_mangle]
+pub extern "C" fn sdp_number16(s: &[u8]) -> Numeral
+    ensures { λ r. ⌜ r ≡ numeralOf (wholeNumber 16 (now (s .entry))) ⌝ }
+{
+    numeral_of(sdp_bytes::number::number16(s))
+}
+
+// A whole number of 64 bits.
+#[no_mangle]
+pub extern "C" fn sdp_number64(s: &[u8]) -> Numeral
+    ensures { λ r. ⌜ r ≡ numeralOf (wholeNumber 64 (now (s .entry))) ⌝ }
+{
+    numeral_of(sdp_bytes::number::number64(s))
+}
+
+// A typed time in seconds.
+#[no_mangle]
+pub extern "C" fn sdp_typed_time(s: &[u8]) -> Numeral
+    ensures { λ r. ⌜ r ≡ numeralOf (typedTime (now (s .entry))) ⌝ }
+{
+    numeral_of(sdp_bytes::number::typed_time(s))
+}
+
+// What stands at a place of the text, where the line of that number is due.
+#[no_mangle]
+pub extern "C" fn sdp_cut(text: &[u8], place: usize, line: usize) -> Piece
+    ensures { λ r. ⌜ r ≡ pieceOf line (cutAt (now (text .entry)) (cursorAt place line)) ⌝ }
+{
+    let c = Cursor {
+        at: Place(place),
+        line: LineNumber(line),
+    };
+    piece_of(line, c.cut(text))
+}

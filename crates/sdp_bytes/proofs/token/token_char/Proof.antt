@@ -1,0 +1,6 @@
+use borrow.Author.Needs.{needs}
+use Rattle.sdp_bytes.proofs.token.token_char.Statement.{statement}
+use Rattle.sdp_bytes.proofs.token.token_char.Tie as tie
+
+pub token-char-spec : {M : Type 1} → statement M
+token-char-spec = tie.close (tie.spec (λ c κs. search needs) (λ c κs. search needs) (λ c κs. search needs) (λ c. cc))

@@ -1,0 +1,10 @@
+use Rattle.sdp_bytes.proofs.Utf8Laws.{fits2}
+use borrow.Author.Needs.{needs}
+use Rattle.sdp_bytes.proofs.utf8.is_two.Statement.{statement}
+use Rattle.sdp_bytes.proofs.utf8.is_two.Tie as tie
+
+returns : tie.Need-returns
+returns c = rw (c .before .in-at .ensures, c .in-at2 .ensures) (fits2 _ _ _)
+
+pub is-two-spec : {M : Type 1} → statement M
+is-two-spec = tie.close (tie.spec (λ c κs. search needs) (λ c κs. search needs) returns)

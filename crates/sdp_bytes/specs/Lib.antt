@@ -1,0 +1,5 @@
+pub mod Ranges
+pub mod Runs
+pub mod Utf8
+pub mod Token
+pub mod Number

@@ -1,0 +1,69 @@
+//! The C interface of the archive libsdp.a, which the Rattle crate `sdp` exports. Nothing checks these declarations
+//! against it, so they stand here only, and `unsafe` too. A Rattle `&[u8]` is a pointer, then a length.
+
+/// A number that was read: `number` 0 and the value; or 8 (not UTF-8) or 9 (bad format), and 0.
+#[repr(C)]
+#[derive(Debug, Clone, Copy, PartialEq, Eq)]
+pub struct Numeral {
+    pub number: u64,
+    pub value: u64,
+}
+
+/// What stands at a place where a line is due. What isn't named for a kind is 0.
+#[repr(C)]
+#[derive(Debug, Clone, Copy, PartialEq, Eq, Default)]
+pub struct Piece {
+    /// 0 the end of the text, 1 an empty line, 2 a line of good form, 3 a refused line
+    pub kind: u64,
+    /// of a refused line: 3, 4 or 5
+    pub number: u64,
+    /// the number of this line, from 1; not at the end
+    pub line: u64,
+    /// of a line of good form, as place and length of its value are
+    pub letter: u64,
+    pub place: u64,
+    pub len: u64,
+    /// where the next line starts, and its number; for the kinds 1 and 2
+    pub next_place: u64,
+    pub next_line: u64,
+}
+
+mod raw {
+    use super::{Numeral, Piece};
+    extern "C" {
+        pub fn sdp_utf8_end(bytes: *const u8, len: usize) -> usize;
+        pub fn sdp_is_token(bytes: *const u8, len: usize) -> bool;
+        pub fn sdp_number16(bytes: *const u8, len: usize) -> Numeral;
+        pub fn sdp_number64(bytes: *const u8, len: usize) -> Numeral;
+        pub fn sdp_typed_time(bytes: *const u8, len: usize) -> Numeral;
+        pub fn sdp_cut(text: *const u8, len: usize, place: usize, line: usize) -> Piece;
+    }
+}
+
+/// The end of the longest well-formed UTF-8 beginning.
+pub fn utf8_end(bytes: &[u8]) -> usize {
+    unsafe { raw::sdp_utf8_end(bytes.as_ptr(), bytes.len()) }
+}
+
+pub fn is_token(bytes: &[u8]) -> bool {
+    unsafe { raw::sdp_is_token(bytes.as_ptr(), bytes.len()) }
+}
+
+/// A whole number of 16 bits.
+pub fn number16(bytes: &[u8]) -> Numeral {
+    unsafe { raw::sdp_number16(bytes.as_ptr(), bytes.len()) }
+}
+
+/// A whole number of 64 bits.
+pub fn number64(bytes: &[u8]) -> Numeral {
+    unsafe { raw::sdp_number64(bytes.as_ptr(), bytes.len()) }
+}
+
+pub fn typed_time(bytes: &[u8]) -> Numeral {
+    unsafe { raw::sdp_typed_time(bytes.as_ptr(), bytes.len()) }
+}
+
+/// What stands at `place`, where line number `line` is due.
+pub fn cut(text: &[u8], place: usize, line: usize) -> Piece {
+    unsafe { raw::sdp_cut(text.as_ptr(), text.len(), place, line) }
+}

@@ -1,0 +1,23 @@
+//! Writes the stored answers: `cargo run --release -p oracle --bin vectors -- ../crates/vectors`.
+use std::{env, fs, path::PathBuf, process::ExitCode};
+
+fn main() -> ExitCode {
+    let (Some(folder), None) = (env::args_os().nth(1).map(PathBuf::from), env::args_os().nth(2)) else {
+        eprintln!("usage: vectors FOLDER");
+        return ExitCode::from(2);
+    };
+    let (stdin, stdout) = oracle::vectors::files();
+    for (name, text) in [("stdin", &stdin), ("stdout", &stdout)] {
+        if let Err(error) = fs::write(folder.join(name), text) {
+            eprintln!("{}: {error}", folder.join(name).display());
+            return ExitCode::FAILURE;
+        }
+    }
+    println!(
+        "{} inputs, {} answer lines, {} bytes",
+        stdin.lines().count(),
+        stdout.lines().count(),
+        stdin.len() + stdout.len()
+    );
+    ExitCode::SUCCESS
+}

@@ -1,0 +1,23 @@
+//! What the project's answers are compared with: the running crate, its refusals in document 01's numbers, and the
+//! two rules that document 01 adds on top of it. Nothing here calls the project's own code.
+pub mod fold;
+pub mod leaf;
+pub mod limits;
+pub mod refusal;
+pub mod vectors;
+
+pub use refusal::Refusal;
+pub use sdp_types;
+pub use sdp_types::Session;
+
+/// Reads as document 01 says: the crate with the limits on top.
+pub fn read(text: &[u8]) -> Result<Session, Refusal> {
+    limits::read(text)
+}
+
+/// The written form, by the crate's writer.
+pub fn written(session: &Session) -> Vec<u8> {
+    let mut output = Vec::new();
+    session.write(&mut output).expect("a vector takes all that is written");
+    output
+}

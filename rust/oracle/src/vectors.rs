@@ -1,0 +1,319 @@
+//! The fixed list of stored answers: inputs of the leaf functions and what std and the crate say to them. The program
+//! crates/vectors reads the list and must print the same.
+//!
+//! An input line is `K=HEX`, an answer line `K` and decimal numbers:
+//! - `u` end of the longest UTF-8 beginning; `t` 1 for a token, else 0;
+//! - `p`, `n`, `d` a number of 16 bits, of 64 bits, a typed time: 0 and the value, or 8 or 9, and 0;
+//! - `c` the cuts of a text, a line for each: kind, number, line, letter, place and length.
+use crate::leaf::{self, Numeral};
+use generate::{fields, texts, Random};
+use std::collections::BTreeSet;
+use std::fmt::Write;
+
+/// The longest input, so that the program can have a fixed room for it.
+pub const LONGEST: usize = 2_000;
+
+/// The inputs, each with its kind, in their order and without repeats.
+pub fn inputs() -> Vec<(u8, Vec<u8>)> {
+    let mut list = List::default();
+    utf8(&mut list);
+    tokens(&mut list);
+    numbers(&mut list);
+    typed_times(&mut list);
+    cuts(&mut list);
+    random(&mut list);
+    list.inputs
+}
+
+/// The two files of the program: its standard input and the answers.
+pub fn files() -> (String, String) {
+    let (mut stdin, mut stdout) = (String::new(), String::new());
+    for (kind, bytes) in inputs() {
+        write!(stdin, "{}=", kind as char).unwrap();
+        bytes.iter().for_each(|byte| write!(stdin, "{byte:02x}").unwrap());
+        stdin.push('\n');
+        answer(&mut stdout, kind, &bytes);
+    }
+    (stdin, stdout)
+}
+
+fn answer(out: &mut String, kind: u8, bytes: &[u8]) {
+    let mut line = |kind: char, numbers: &[u64]| {
+        out.push(kind);
+        numbers.iter().for_each(|number| write!(out, " {number}").unwrap());
+        out.push('\n');
+    };
+    let numeral = |Numeral { number, value }| [number, value];
+    match kind {
+        b'u' => line('u', &[leaf::utf8_end(bytes) as u64]),
+        b't' => line('t', &[u64::from(leaf::is_token(bytes))]),
+        b'p' => line('p', &numeral(leaf::number16(bytes))),
+        b'n' => line('n', &numeral(leaf::number64(bytes))),
+        b'd' => line('d', &numeral(leaf::typed_time(bytes))),
+        b'c' => leaf::cuts(bytes)
+            .iter()
+            .for_each(|cut| line('c', &[cut.kind, cut.number, cut.line, cut.letter, cut.place, cut.len])),
+        _ => panic!("no kind {}", kind as char),
+    }
+}
+
+#[derive(Default)]
+struct List {
+    inputs: Vec<(u8, Vec<u8>)>,
+    seen: BTreeSet<(u8, Vec<u8>)>,
+}
+
+impl List {
+    fn add(&mut self, kinds: &str, bytes: &[u8]) {
+        assert!(bytes.len() <= LONGEST);
+        for kind in kinds.bytes() {
+            if self.seen.insert((kind, bytes.to_vec())) {
+                self.inputs.push((kind, bytes.to_vec()));
+            }
+        }
+    }
+}
+
+fn utf8(list: &mut List) {
+    list.add("u", b"");
+    // first and last of each row of RFC 3629's table
+    for scalar in [
+        0, 0x7f, 0x80, 0x7ff, 0x800, 0xfff, 0x1000, 0xcfff, 0xd000, 0xd7ff, 0xe000, 0xffff, 0x1_0000, 0x3_ffff,
+        0x4_0000, 0xf_ffff, 0x10_0000, 0x10_ffff,
+    ] {
+        let whole = char::from_u32(scalar).unwrap().to_string().into_bytes();
+        list.add("u", &whole);
+        // cut short, and with a last byte that doesn't continue
+        for end in 1..whole.len() {
+            list.add("u", &whole[..end]);
+            list.add("u", &[&whole[..end], b"A"].concat());
+        }
+    }
+    for broken in fields::BROKEN {
+        list.add("u", broken);
+        list.add("u", &[b"ab", broken, b"cd"].concat());
+    }
+    // blocks of eight, with a byte that is not ASCII around each edge
+    for run in [7, 8, 9, 15, 16, 17, 24, 40] {
+        let ascii = vec![b'a'; run];
+        list.add("u", &ascii);
+        list.add("u", &[&ascii[..], b"\xc3\xa9", &ascii[..]].concat());
+        list.add("u", &[&ascii[..], b"\xff", &ascii[..]].concat());
+    }
+    list.add("u", &[&vec![b'x'; LONGEST - 1][..], b"\x80"].concat());
+}
+
+fn tokens(list: &mut List) {
+    list.add("t", b"");
+    // both sides of each edge of the token's ranges
+    for byte in [
+        0x00, 0x09, 0x20, 0x21, 0x22, 0x23, 0x27, 0x28, 0x29, 0x2a, 0x2b, 0x2c, 0x2d, 0x2e, 0x2f, 0x30, 0x39, 0x3a,
+        0x40, 0x41, 0x5a, 0x5b, 0x5c, 0x5d, 0x5e, 0x7e, 0x7f, 0x80, 0xff,
+    ] {
+        list.add("t", &[byte]);
+        list.add("t", &[b'I', byte]);
+    }
+    for word in ["IN", "IP4", "in", "PSTN", "x-y.z", "I N", "IN ", " IN", "\u{e9}"] {
+        list.add("t", word.as_bytes());
+    }
+}
+
+fn numbers(list: &mut List) {
+    for text in [
+        "",
+        "+",
+        "-",
+        "++",
+        "+-1",
+        "-0",
+        "-1",
+        "0",
+        "+0",
+        "00",
+        "007",
+        "+007",
+        "1 ",
+        " 1",
+        "1a",
+        "0x1",
+        "1_0",
+        "/",
+        ":",
+        "9",
+        "10",
+        "\u{661}",
+        "\u{e9}",
+        "255",
+        "256",
+        "65534",
+        "65535",
+        "65536",
+        "+65535",
+        "065535",
+        "065536",
+        "65540",
+        "65600",
+        "66000",
+        "70000",
+        "99999",
+        "100000",
+        "655350",
+        "4294967295",
+        "4294967296",
+        "9223372036854775807",
+        "9223372036854775808",
+        "18446744073709551614",
+        "18446744073709551615",
+        "18446744073709551616",
+        "18446744073709551620",
+        "18446744073709551700",
+        "18446744073709552000",
+        "+18446744073709551615",
+        "0018446744073709551615",
+        "0018446744073709551616",
+        "28446744073709551615",
+        "20000000000000000000",
+        "99999999999999999999",
+        "100000000000000000000",
+        "184467440737095516150",
+        "000000000000000000000000000000000000000000000000007",
+    ] {
+        list.add("pn", text.as_bytes());
+    }
+    for bytes in [
+        &b"\xff"[..],
+        b"1\xff",
+        b"\xff1",
+        b"+\x80",
+        b"12\xed\xa0\x80",
+        b"1\xc3",
+        b"1\0",
+        b"1\r",
+        b"x\xff",
+    ] {
+        list.add("pn", bytes);
+    }
+}
+
+fn typed_times(list: &mut List) {
+    for text in [
+        "",
+        "d",
+        "h",
+        "m",
+        "s",
+        "+",
+        "+d",
+        "-",
+        "-d",
+        "-1d",
+        "+-1",
+        "0",
+        "0d",
+        "+0s",
+        "00h",
+        "1d",
+        "+1d",
+        "1h",
+        "1m",
+        "1s",
+        "1",
+        "7d",
+        "168h",
+        "3600",
+        "90",
+        "1D",
+        "1w",
+        "1dd",
+        "1sd",
+        "1ms",
+        "1 d",
+        " 1d",
+        "1d ",
+        "1\u{e9}",
+        "\u{e9}d",
+        "1.5h",
+        "18446744073709551615",
+        "18446744073709551616",
+    ] {
+        list.add("d", text.as_bytes());
+    }
+    for (factor, unit) in [(86_400, "d"), (3_600, "h"), (60, "m"), (1, "s")] {
+        for more in [-1, 0, 1] {
+            let value = i128::from(u64::MAX / factor) + more;
+            list.add("d", format!("{value}{unit}").as_bytes());
+            list.add("d", format!("+00{value}{unit}").as_bytes());
+        }
+        list.add("d", format!("18446744073709551615{unit}").as_bytes());
+        list.add("d", format!("18446744073709551616{unit}").as_bytes());
+    }
+    for bytes in [
+        &b"\xff"[..],
+        b"\xffd",
+        b"1\xffd",
+        b"1d\xff",
+        b"1\xc3d",
+        b"\xed\xa0\x80s",
+        b"x\xff",
+        b"d\xff",
+    ] {
+        list.add("d", bytes);
+    }
+}
+
+fn cuts(list: &mut List) {
+    // document 01, "Samples" and "Lines"
+    for text in [
+        "", "v=0", "v=0 ", "v=0\r", "v=0\r\n", "v=0\n", "v=0\n=x", "v=0\nabc", "v=0\nt=0 0\nr=d 1", "v=0\nz=\nz=", "v=0\na=x:\na=x",
+        "\n", "\r", "\r\n", "\n\n", "\r\n\r\n", "\r\r\n", "\n\r", "v=0\n\r", "\nv=0", "\r\nv=0\r\n\r\ns=x\r\n", "=", "==", "=\n",
+        "v", "v\n", "v=", "v=\n", "v==", "v==x\n", "vv=0", "v\r=0\n", "v=0\r\r\n", "v=\r\n", "v=\r\r\n", "\0", "v=\0\n", "v=0\0\r\n",
+        "\0=x", "a\0b", "a\rb", "no\rform", "ab\0=", " v=0", "v =0", "\u{feff}v=0", "v=0\nx=\u{e9}\n\u{e9}=x\n",
+        "v=0\ns=Desk 4\nx=new\nt=+60 0\nr=168h 3600 0 90\nz=60 -1h 61 +0\na=recvonly\nm=audio 5004/2 RTP/AVP 96\na=note:\n",
+        "v=0\r\no=jdoe 3724394400 3724394405 IN IP4 198.51.100.1\r\ns=Call to John Smith\r\n\
+         i=SDP Offer #1\r\nu=http://www.jdoe.example.com/home.html\r\ne=Jane Doe <jane@jdoe.example.com>\r\n\
+         p=+1 617 555-6011\r\nc=IN IP4 198.51.100.1\r\nt=0 0\r\nm=audio 49170 RTP/AVP 0\r\nm=audio 49180 RTP/AVP 0\r\n\
+         m=video 51372 RTP/AVP 99\r\nc=IN IP6 2001:db8::2\r\na=rtpmap:99 h263-1998/90000\r\n",
+    ] {
+        list.add("c", text.as_bytes());
+    }
+    for bytes in [
+        &b"v=0\ns=\xed\xa0\x80"[..],
+        b"v=0\ns=\xf4\x8f\xbf\xbf\n",
+        b"\xff=\xff\n\xff",
+        b"\xef\xbb\xbfv=0\n",
+    ] {
+        list.add("c", bytes);
+    }
+    list.add("c", &vec![b'\n'; 40]);
+    list.add("c", &[&b"a="[..], &vec![b'x'; LONGEST - 2][..]].concat());
+}
+
+fn random(list: &mut List) {
+    // a seed of its own: the list is fixed
+    let mut random = Random::new(8866, "vectors");
+    for _ in 0..25 {
+        let mut string = fields::string(&mut random, 60);
+        list.add("u", &string);
+        fields::damage(&mut random, &mut string);
+        list.add("u", &string);
+        let mut token = fields::token(&mut random);
+        list.add("t", &token);
+        fields::damage(&mut random, &mut token);
+        list.add("t", &token);
+        let mut number = fields::number(&mut random);
+        list.add("pn", &number);
+        fields::damage(&mut random, &mut number);
+        list.add("pn", &number);
+        let mut time = fields::typed_time(&mut random);
+        list.add("d", &time);
+        fields::damage(&mut random, &mut time);
+        list.add("d", &time);
+    }
+    for _ in 0..12 {
+        let mut lines = texts::lines(&mut random);
+        lines.truncate(500);
+        list.add("c", &lines);
+        let text = texts::text(&mut random);
+        list.add("c", &text[..text.len().min(500)]);
+    }
+}

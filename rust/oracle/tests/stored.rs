@@ -1,0 +1,75 @@
+//! The stored answers of crates/vectors are what std and the crate say today.
+use oracle::vectors::{files, inputs, LONGEST};
+use std::fs;
+
+fn stored(name: &str) -> String {
+    let path = format!("{}/../../crates/vectors/{name}", env!("CARGO_MANIFEST_DIR"));
+    fs::read_to_string(&path).unwrap_or_else(|error| panic!("{path}: {error}"))
+}
+
+#[test]
+fn stored_answers_are_the_oracles() {
+    let (stdin, stdout) = files();
+    let stored_in = stored("stdin");
+    let differs = stored_in
+        .lines()
+        .zip(stdin.lines())
+        .position(|(stored, due)| stored != due);
+    assert!(
+        stored_in == stdin,
+        "crates/vectors/stdin is not the list (line {differs:?}): make it again by the bin vectors"
+    );
+    let stored_out = stored("stdout");
+    let differs = stored_out
+        .lines()
+        .zip(stdout.lines())
+        .position(|(stored, due)| stored != due);
+    assert!(
+        stored_out == stdout,
+        "crates/vectors/stdout has other answers than the crate (line {differs:?})"
+    );
+    println!(
+        "stored answers: {} inputs, {} answer lines compared",
+        stdin.lines().count(),
+        stdout.lines().count()
+    );
+}
+
+#[test]
+fn the_list_has_each_kind_and_each_answer() {
+    let (stdin, stdout) = files();
+    assert!(stdin.len() + stdout.len() < 60_000);
+    for (kind, bytes) in inputs() {
+        assert!(b"utpndc".contains(&kind) && bytes.len() <= LONGEST);
+    }
+    for kind in ["u", "t", "p", "n", "d", "c"] {
+        assert!(
+            stdin.lines().filter(|line| line.starts_with(kind)).count() >= 40,
+            "few of kind {kind}"
+        );
+    }
+    for answer in [
+        "t 0",
+        "t 1",
+        "p 0 ",
+        "p 8 0",
+        "p 9 0",
+        "n 0 ",
+        "n 8 0",
+        "n 9 0",
+        "d 0 ",
+        "d 8 0",
+        "d 9 0",
+        "c 0 0 0 0 0 0",
+        "c 1 0 ",
+        "c 2 0 ",
+        "c 3 3 ",
+        "c 3 4 ",
+        "c 3 5 ",
+    ] {
+        assert!(
+            stdout.lines().any(|line| line.starts_with(answer)),
+            "no answer {answer}"
+        );
+    }
+}
