@@ -60,11 +60,11 @@ endFrom k [] = 0
 endFrom (suc k) (b ∷ s) = suc (endFrom k s)
 endFrom zero (b ∷ s) = stopAt (charLen (b ∷ s)) (suc (endFrom (pred (charLen (b ∷ s))) s))
 
--- the end of the longest well-formed beginning (laws utf8-sound and utf8-longest of proofs/Whole)
+-- the end of the longest well-formed beginning (laws utf8-sound and utf8-longest of proofs/Utf8Text)
 unfoldable pub utf8End : List ℕ → ℕ
 utf8End s = endFrom 0 s
 
--- the whole list is well-formed (law utf8-text of proofs/Whole: exactly when it is a Text)
+-- the whole list is well-formed (law utf8-text of proofs/Utf8Text: exactly when it is a Text)
 unfoldable pub isUtf8 : List ℕ → Bool
 isUtf8 s = eqb (utf8End s) (length s)
 
