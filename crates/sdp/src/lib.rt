@@ -4,12 +4,15 @@ ghost use Rattle.sdp_bytes.specs.Utf8.{utf8End};
 ghost use Rattle.sdp_bytes.specs.Token.{isToken};
 ghost use Rattle.sdp_bytes.specs.Number.{wholeNumber, typedTime};
 ghost use Rattle.sdp_lines.specs.Lines.{cutAt};
+ghost use Rattle.sdp_area.specs.Area.{size};
+ghost use Rattle.sdp_read.specs.Run.{readText};
 ghost use Rattle.sdp.specs.Boundary.{numeralOf, cursorAt, pieceOf};
 use sdp_bytes::number::Number;
 use sdp_lines::Cursor;
 use sdp_lines::Cut;
 use sdp_lines::LineNumber;
 use sdp_lines::Place;
+use sdp_read::Answer;
 
 // A number that was read: refusal number 0 and the value, or 8 or 9 and 0.
 #[repr(C)]
@@ -157,4 +160,21 @@ pub extern "C" fn sdp_cut(text: &[u8], place: usize, line: usize) -> Piece
         line: LineNumber(line),
     };
     piece_of(line, c.cut(text))
+}
+
+// Reads a text into the record area. docs/AREA.md has the area's layout and what it holds after each answer.
+#[no_mangle]
+pub extern "C" fn sdp_read(text: &[u8], area: &mut [u8]) -> Answer
+    ensures { λ r. ⌜ r ≡ readText (now (text .entry)) (now (area .entry)) .answer ⌝ }
+    ensures { λ r. ⌜ now (area .exit) ≡ readText (now (text .entry)) (now (area .entry)) .area ⌝ }
+{
+    sdp_read::read(text, area)
+}
+
+// The size of the record area in bytes.
+#[no_mangle]
+pub extern "C" fn sdp_area_size() -> usize
+    ensures { λ r. ⌜ r ≡ size ⌝ }
+{
+    sdp_area::SIZE
 }

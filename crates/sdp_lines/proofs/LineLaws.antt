@@ -14,6 +14,7 @@ use Rattle.sdp_bytes.specs.Runs.{indexOf}
 use Rattle.sdp_bytes.proofs.ScanLaws.{and-left, and-right, index-le}
 use Rattle.sdp_lines.specs.Lines.{Raw, onto, split, chop, content, width, hasNulOrCr, plainForm, formOf}
 use Rattle.sdp_lines.specs.Quick.{stopIndex, crlfAt, firstRaw, firstOf}
+use Rattle.sdp_lines.specs.declared.Fault.the-variants as fault
 use Rattle.sdp_lines.specs.declared.Fault.the-variants.{NoEquals, NotSecond}
 use Rattle.sdp_lines.specs.declared.Form.{Form}
 use Rattle.sdp_lines.specs.declared.Form.the-variants.{Blank, Good, Bad}
@@ -45,6 +46,19 @@ width-le s = go (ltb (indexOf 10 s) (length s)) refl
     go : (t : Bool) → ltb (indexOf 10 s) (length s) ≡ t → cond t (length (take (indexOf 10 s) s) + 1) (length (take (indexOf 10 s) s)) ≤ length s
     go true h = simp length-take (omega (arith, ltb-true (indexOf 10 s) (length s) h))
     go false h = simp length-take (omega arith)
+
+pub width-pos : (s : List ℕ) → 0 < length s → 0 < width (firstRaw s)
+unfolding width indexOf
+width-pos [] h = absurd (omega arith)
+width-pos (x ∷ s) h = go (eqb x 10)
+  where
+    more : (t : Bool) → 0 < cond t (length (x ∷ take (indexOf 10 s) s) + 1) (length (x ∷ take (indexOf 10 s) s))
+    more true = omega arith
+    more false = omega arith
+
+    go : (t : Bool) → 0 < cond (ltb (cond t 0 (suc (indexOf 10 s))) (suc (length s))) (length (take (cond t 0 (suc (indexOf 10 s))) (x ∷ s)) + 1) (length (take (cond t 0 (suc (indexOf 10 s))) (x ∷ s)))
+    go true = rw (lt-ltb 0 (suc (length s)) (omega arith)) (omega arith)
+    go false = more (ltb (suc (indexOf 10 s)) (suc (length s)))
 
 -- ---- cutting off the first line
 width-cons : (x : ℕ) (b : List ℕ) (t : Bool) → width (record { body = x ∷ b; ended = t }) ≡ suc (width (record { body = b; ended = t }))
@@ -285,3 +299,11 @@ good-long l c = go (eqb (length l) 0) (eqb (indexOf 0x3d l) (length l)) (eqb (in
     go false true t₃ p q h = absurd (let z : _≡_ {A = ℕ} 0 1 = cc in omega arith)
     go false false true p q h = omega (arith, eqb-false (indexOf 0x3d l) (length l) p, eqb-true (indexOf 0x3d l) 1 q, index-le 0x3d l)
     go false false false p q h = absurd (let z : _≡_ {A = ℕ} 0 1 = cc in omega arith)
+
+pub good-form : (l : List ℕ) (c : ℕ) → formOf l ≡ Good c → 2 ≤ length l
+unfolding formOf
+good-form l c = go (hasNulOrCr l)
+  where
+    go : (t : Bool) → cond t (Bad fault.NulOrCr) (plainForm l) ≡ Good c → 2 ≤ length l
+    go true e = absurd (let z : _≡_ {A = ℕ} 0 1 = cc in omega arith)
+    go false e = good-long l c e

@@ -1,5 +1,6 @@
 // Runs the stored inputs through the leaves and prints their answers; crates/vectors/stdout has the oracle's, made by rust/.
-// A line of standard input is K=HEX: u UTF-8, t token, p and n whole numbers of 16 and 64 bits, d typed time, c line cutting.
+// A line of standard input is K=HEX: u UTF-8, t token, p and n whole numbers of 16 and 64 bits, d typed time, c line cutting,
+// r reading: the answer, and how many rows each table then has.
 ghost use Prim.Native.Nat.{_≤_};
 ghost use lib.ListN.{length};
 use libc::STDIN_FILENO;
@@ -8,6 +9,7 @@ use sdp::Numeral;
 use sdp::Piece;
 use sdp_lines::Cursor;
 use sdp_lines::Cut;
+use sdp_read::Answer;
 
 fn letter_out(b: u8) {
     io::write_all(STDOUT_FILENO, &[b]);
@@ -71,9 +73,58 @@ fn cuts_out(s: &[u8]) {
     piece_out(sdp::sdp_cut(s, place, line));
 }
 
+fn wide(b: u8) -> u64
+    ensures { λ r. ⌜ r ≤ 255 ⌝ }
+{
+    b as u64
+}
+
+// The count of the table at a place of the area.
+fn count_out(area: &[u8], at: usize) {
+    if at < area.len() {
+        if at + 1 < area.len() {
+            number_out(wide(area[at]) + 256 * wide(area[at + 1]));
+        }
+    }
+}
+
+fn counts_out(area: &[u8]) {
+    count_out(area, 74);
+    count_out(area, 140);
+    count_out(area, 206);
+    count_out(area, 1104);
+    count_out(area, 2002);
+    count_out(area, 2516);
+    count_out(area, 3670);
+    count_out(area, 6232);
+    count_out(area, 7258);
+    count_out(area, 13404);
+}
+
+fn answer_out(a: Answer) {
+    number_out(a.number);
+    number_out(a.line);
+    number_out(a.field);
+    number_out(a.place);
+    number_out(a.len);
+}
+
+fn read_out(s: &[u8]) {
+    let mut area = [0u8; 14558];
+    let a = sdp::sdp_read(s, &mut area);
+    letter_out(b'r');
+    answer_out(a);
+    counts_out(&area);
+    line_out();
+}
+
 fn answer(kind: u8, s: &[u8]) {
     if kind == b'c' {
         cuts_out(s);
+        return;
+    }
+    if kind == b'r' {
+        read_out(s);
         return;
     }
     letter_out(kind);

@@ -28,8 +28,19 @@ pub struct Piece {
     pub next_line: u64,
 }
 
+/// What reading a text says: `number` 0 for accepted, else document 01's refusal number and what it names; else 0.
+#[repr(C)]
+#[derive(Debug, Clone, Copy, PartialEq, Eq, Default)]
+pub struct Answer {
+    pub number: u64,
+    pub line: u64,
+    pub field: u64,
+    pub place: u64,
+    pub len: u64,
+}
+
 mod raw {
-    use super::{Numeral, Piece};
+    use super::{Answer, Numeral, Piece};
     extern "C" {
         pub fn sdp_utf8_end(bytes: *const u8, len: usize) -> usize;
         pub fn sdp_is_token(bytes: *const u8, len: usize) -> bool;
@@ -37,6 +48,8 @@ mod raw {
         pub fn sdp_number64(bytes: *const u8, len: usize) -> Numeral;
         pub fn sdp_typed_time(bytes: *const u8, len: usize) -> Numeral;
         pub fn sdp_cut(text: *const u8, len: usize, place: usize, line: usize) -> Piece;
+        pub fn sdp_read(text: *const u8, text_len: usize, area: *mut u8, area_len: usize) -> Answer;
+        pub fn sdp_area_size() -> usize;
     }
 }
 
@@ -66,4 +79,16 @@ pub fn typed_time(bytes: &[u8]) -> Numeral {
 /// What stands at `place`, where line number `line` is due.
 pub fn cut(text: &[u8], place: usize, line: usize) -> Piece {
     unsafe { raw::sdp_cut(text.as_ptr(), text.len(), place, line) }
+}
+
+/// Reads a text into an area that is lent. docs/AREA.md says what it holds afterwards.
+#[inline] // so that only a program that reads needs the archive to have it
+pub fn read(text: &[u8], area: &mut [u8]) -> Answer {
+    unsafe { raw::sdp_read(text.as_ptr(), text.len(), area.as_mut_ptr(), area.len()) }
+}
+
+/// How many bytes an area must have.
+#[inline]
+pub fn area_size() -> usize {
+    unsafe { raw::sdp_area_size() }
 }

@@ -1,3 +1,11 @@
-//! The project's functions as Rust calls them, for comparing them with others.
+//! The project's functions as Rust calls them, and what compares them with others.
+pub mod area;
+#[cfg(feature = "crate")]
+pub mod bench;
 mod ffi;
+pub mod interrupt;
+#[cfg(feature = "crate")]
+pub mod placed;
+#[cfg(feature = "crate")]
+pub mod theirs;
 pub use ffi::*;

@@ -62,7 +62,7 @@ pub fn count(usual: u64) -> u64 {
 }
 
 /// A value that is there and isn't a number is an error, never the usual number in silence.
-fn from_env(name: &str, usual: u64) -> u64 {
+pub fn from_env(name: &str, usual: u64) -> u64 {
     match std::env::var(name) {
         Ok(text) => text
             .parse()

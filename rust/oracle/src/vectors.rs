@@ -4,16 +4,18 @@
 //! An input line is `K=HEX`, an answer line `K` and decimal numbers:
 //! - `u` end of the longest UTF-8 beginning; `t` 1 for a token, else 0;
 //! - `p`, `n`, `d` a number of 16 bits, of 64 bits, a typed time: 0 and the value, or 8 or 9, and 0;
-//! - `c` the cuts of a text, a line for each: kind, number, line, letter, place and length.
+//! - `c` the cuts of a text, a line for each: kind, number, line, letter, place and length;
+//! - `r` reading a text: number, line, field, place and length, and then the counts of the ten tables, 0 when refused.
 use crate::leaf::{self, Numeral};
-use generate::{fields, texts, Random};
+use crate::limits;
+use generate::{fields, Random};
 use std::collections::BTreeSet;
 use std::fmt::Write;
 
 /// The longest input, so that the program can have a fixed room for it.
 pub const LONGEST: usize = 2_000;
 
-/// The inputs, each with its kind, in their order and without repeats.
+/// The inputs, each with its kind, in their order and without repeats; those of kind `r` come last.
 pub fn inputs() -> Vec<(u8, Vec<u8>)> {
     let mut list = List::default();
     utf8(&mut list);
@@ -22,6 +24,7 @@ pub fn inputs() -> Vec<(u8, Vec<u8>)> {
     typed_times(&mut list);
     cuts(&mut list);
     random(&mut list);
+    texts(&mut list);
     list.inputs
 }
 
@@ -53,8 +56,24 @@ fn answer(out: &mut String, kind: u8, bytes: &[u8]) {
         b'c' => leaf::cuts(bytes)
             .iter()
             .for_each(|cut| line('c', &[cut.kind, cut.number, cut.line, cut.letter, cut.place, cut.len])),
+        b'r' => line('r', &reading(bytes)),
         _ => panic!("no kind {}", kind as char),
     }
+}
+
+fn reading(text: &[u8]) -> [u64; 15] {
+    let mut numbers = [0; 15];
+    match crate::read(text) {
+        Ok(session) => {
+            let counts = limits::counts(&session).map(|count| count as u64);
+            numbers[5..].copy_from_slice(&counts);
+        }
+        Err(refusal) => {
+            let answer = [refusal.number, refusal.line, refusal.field, refusal.place, refusal.len];
+            numbers[..5].copy_from_slice(&answer);
+        }
+    }
+    numbers
 }
 
 #[derive(Default)]
@@ -310,10 +329,60 @@ fn random(list: &mut List) {
         list.add("d", &time);
     }
     for _ in 0..12 {
-        let mut lines = texts::lines(&mut random);
+        let mut lines = generate::texts::lines(&mut random);
         lines.truncate(500);
         list.add("c", &lines);
-        let text = texts::text(&mut random);
+        let text = generate::texts::text(&mut random);
         list.add("c", &text[..text.len().min(500)]);
+    }
+}
+
+/// Whole texts: each refusal that a short text can have, each pair of 8 to 11 and a field, and some that are accepted.
+#[rustfmt::skip] // a row for each letter
+fn texts(list: &mut List) {
+    for text in [
+        &b""[..],
+        b"v=0",
+        b"v=0 ",
+        b"v=0\r",
+        b"\r\n\nv=\n",
+        b"v=0\n=x",
+        b"v=0\nabc",
+        b"x=\nv=0",
+        b"v=0\nv=9\nx=\xff",
+        b"v=0\nr=x",
+        b"v=0\nm=a 1 p f\ni=\ni=",
+        b"v=0\nm=  \nk=",
+        b"v=0\nm=a 1 p \nr=x\nm=b 2/3 q \ni=\nc=I J h\nb=:1\nk=\na=",
+        b"v=0\nt=0 0\nr=213503982334601d 1 0 1h\nt=1 2\nr=1 1 1",
+        b"v=0\nz=0 -9223372036854775808 1 -+5",
+        b"v=0\no= u  1 2 in Ip4 h \ns=\xf4\x8f\xbf\xbf",
+        b"v=0\ns=Desk 4\nx=new\nt=+60 0\nr=168h 3600 0 90\nz=60 -1h 61 +0\na=recvonly\n\
+          m=audio 5004/2 RTP/AVP 96\na=note:\n",
+    ] {
+        list.add("r", text);
+    }
+    // once more what may stand once
+    for line in ["o=- 0 0 I J h", "s=", "i=", "u=", "c=I J h", "z=", "k="] {
+        list.add("r", format!("v=0\n{line}\n{}=", &line[..1]).as_bytes());
+    }
+    // a full table, and one record more
+    for emails in [16, 17] {
+        list.add("r", &[&b"v=0"[..], &b"\ne=".repeat(emails)].concat());
+    }
+    for line in [
+        &b"o="[..], b"o=\xff", b"o=-", b"o=- \xff", b"o=- 0", b"o=- 0 \xff", b"o=- 0 x", b"o=- 0 0", b"o=- 0 0 (", b"o=- 0 0 I",
+        b"o=- 0 0 I (", b"o=- 0 0 I J", b"o=- 0 0 I J \xff", b"o=- 0 0 I J h x",
+        b"c=", b"c=(", b"c=I", b"c=I \xff", b"c=I J", b"c=I J \xff", b"c=I J h \xff",
+        b"b=\xff", b"b=", b"b=:\xff", b"b=:x", b"b=:1:",
+        b"t=", b"t=\xff", b"t=x", b"t=0", b"t=0 \xff", b"t=0 x", b"t=0 0 \xff",
+        b"z=\xff", b"z=x", b"z=0", b"z=0 \xff", b"z=0 9223372036854775808",
+        b"a=\xff", b"a=:\xff", b"k=\xff", b"k=:\xff",
+        b"m=\xff", b"m=", b"m= 65536", b"m= 1/\xff", b"m= 1/", b"m= 1", b"m= 1 \xff", b"m= 1 ", b"m= 1  \xff",
+        b"s=\xed\xa0\x80", b"i=\xff", b"u=\xff", b"e=\xff", b"p=\xff", b"m= 1  \ni=\xff",
+        b"t=0 0\nr=", b"t=0 0\nr=\xffd", b"t=0 0\nr=d", b"t=0 0\nr=1", b"t=0 0\nr=1 \xff", b"t=0 0\nr=1 x", b"t=0 0\nr=1 1 \xff",
+        b"t=0 0\nr=1 1 x",
+    ] {
+        list.add("r", &[b"v=0\n", line].concat());
     }
 }

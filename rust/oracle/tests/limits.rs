@@ -2,9 +2,15 @@
 mod common;
 use common::{accepted, join, refused};
 use generate::{random::count, texts, Random};
-use oracle::limits::{counts, full};
+use oracle::limits::{counts, full, TABLES, TEXT};
 use oracle::refusal::{line_start, parse};
 use oracle::{read, Refusal};
+
+#[test]
+fn the_generator_has_the_same_limits() {
+    assert_eq!(generate::sessions::TABLES, TABLES);
+    assert_eq!(generate::sessions::LONGEST, TEXT);
+}
 
 #[test]
 fn text_too_long() {

@@ -225,6 +225,8 @@ fn pairs_of_number_and_field() {
     }
     assert_eq!(seen, possible());
     assert_eq!(seen.len(), 65);
+    // the generator aims at these
+    assert_eq!(seen, generate::sessions::PAIRS.into_iter().collect());
 }
 
 #[test]

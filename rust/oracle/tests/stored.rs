@@ -1,5 +1,6 @@
 //! The stored answers of crates/vectors are what std and the crate say today.
 use oracle::vectors::{files, inputs, LONGEST};
+use std::collections::BTreeSet;
 use std::fs;
 
 fn stored(name: &str) -> String {
@@ -38,11 +39,12 @@ fn stored_answers_are_the_oracles() {
 #[test]
 fn the_list_has_each_kind_and_each_answer() {
     let (stdin, stdout) = files();
+    println!("stored answers: {} bytes with those of kind r", stdin.len() + stdout.len());
     assert!(stdin.len() + stdout.len() < 60_000);
     for (kind, bytes) in inputs() {
-        assert!(b"utpndc".contains(&kind) && bytes.len() <= LONGEST);
+        assert!(b"utpndcr".contains(&kind) && bytes.len() <= LONGEST);
     }
-    for kind in ["u", "t", "p", "n", "d", "c"] {
+    for kind in ["u", "t", "p", "n", "d", "c", "r"] {
         assert!(
             stdin.lines().filter(|line| line.starts_with(kind)).count() >= 40,
             "few of kind {kind}"
@@ -72,4 +74,23 @@ fn the_list_has_each_kind_and_each_answer() {
             "no answer {answer}"
         );
     }
+}
+
+#[test]
+fn the_texts_have_each_refusal() {
+    let (_, stdout) = files();
+    let mut numbers = BTreeSet::new();
+    let mut pairs = BTreeSet::new();
+    for answer in stdout.lines().filter_map(|line| line.strip_prefix("r ")) {
+        let answer: Vec<u64> = answer.split(' ').map(|number| number.parse().unwrap()).collect();
+        assert_eq!(answer.len(), 15);
+        assert!(answer[0] == 0 || answer[5..].iter().all(|count| *count == 0));
+        numbers.insert(answer[0]);
+        if (8..=11).contains(&answer[0]) {
+            pairs.insert((answer[0], answer[2]));
+        }
+    }
+    // a text that is too long and an area that is too short have no place in the list
+    assert_eq!(numbers, (3..=21).chain([0]).collect());
+    assert_eq!(pairs, generate::sessions::PAIRS.into_iter().collect());
 }

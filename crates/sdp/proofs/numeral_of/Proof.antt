@@ -1,3 +1,4 @@
+-- `sdp::numeral_of` meets its contract. Assumes nothing.
 use mathlib.Core.Path.{sym, ap}
 use Rattle.sdp.specs.Boundary.{numeralOf}
 use borrow.Author.Needs.{needs}

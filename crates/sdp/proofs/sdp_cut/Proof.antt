@@ -1,3 +1,4 @@
+-- `sdp::sdp_cut` meets its contract. Assumes nothing.
 use mathlib.Core.Path.{ap, _∙_}
 use Rattle.sdp.specs.Boundary.{pieceOf}
 use borrow.Author.Needs.{needs}

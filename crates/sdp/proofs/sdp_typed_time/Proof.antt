@@ -1,3 +1,4 @@
+-- `sdp::sdp_typed_time` meets its contract. Assumes nothing.
 use mathlib.Core.Path.{ap, _∙_}
 use Rattle.sdp.specs.Boundary.{numeralOf}
 use borrow.Author.Needs.{needs}

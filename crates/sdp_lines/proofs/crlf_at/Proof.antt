@@ -1,3 +1,4 @@
+-- `sdp_lines::crlf_at` meets its contract. Assumes nothing.
 use mathlib.Core.Path.{sym}
 use native.Mathlib.Omega.{arith}
 use Rattle.sdp_lines.proofs.StopLaws.{crlf-short, crlf-is}

@@ -1,3 +1,4 @@
+-- `sdp_lines::first_line` meets its contract. Assumes nothing.
 use mathlib.Core.Path.{sym, _∙_}
 use native.Mathlib.Omega.{arith}
 use Rattle.sdp_lines.proofs.LineLaws.{first-last, first-lf, first-crlf, first-bad}

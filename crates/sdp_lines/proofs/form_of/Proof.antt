@@ -1,3 +1,4 @@
+-- `sdp_lines::form_of` meets its contract. Assumes nothing.
 use mathlib.Core.Path.{sym}
 use Rattle.sdp_lines.proofs.LineLaws.{form-blank, form-none, form-good, form-far}
 use borrow.Author.Needs.{needs}

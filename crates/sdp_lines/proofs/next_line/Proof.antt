@@ -1,3 +1,4 @@
+-- `sdp_lines::next_line` meets its contract. Assumes nothing.
 use borrow.Author.Tests.{lt-ltb, le-ltb}
 use borrow.Author.Needs.{needs}
 use Rattle.sdp_lines.proofs.next_line.Statement.{statement}

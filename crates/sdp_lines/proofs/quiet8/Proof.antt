@@ -1,3 +1,4 @@
+-- `sdp_lines::quiet8` meets its contract. Assumes nothing.
 use Rattle.sdp_lines.specs.Quick.{quiet}
 use mathlib.Core.Path.{sym}
 use Rattle.sdp_bytes.proofs.ScanLaws.{run-short, run8}

@@ -1,3 +1,4 @@
+-- `sdp_lines::step_len` meets its contract. Assumes nothing.
 use mathlib.Core.Path.{sym, _∙_}
 use native.Mathlib.Omega.{arith}
 use Rattle.sdp_lines.proofs.StopLaws.{step-eight, step-none, step-one}

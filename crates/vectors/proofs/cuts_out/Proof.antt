@@ -1,3 +1,4 @@
+-- `vectors::cuts_out` meets its contract. Assumes nothing.
 use borrow.Author.Needs.{needs}
 use Rattle.vectors.proofs.cuts_out.Statement.{statement}
 use Rattle.vectors.proofs.cuts_out.Tie as tie

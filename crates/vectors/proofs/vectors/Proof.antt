@@ -1,3 +1,4 @@
+-- `vectors::vectors` meets its contract. Assumes nothing.
 use borrow.Author.Needs.{needs}
 use Rattle.vectors.proofs.vectors.Statement.{statement}
 use Rattle.vectors.proofs.vectors.Tie as tie

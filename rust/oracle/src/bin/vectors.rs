@@ -2,10 +2,12 @@
 use std::{env, fs, path::PathBuf, process::ExitCode};
 
 fn main() -> ExitCode {
-    let (Some(folder), None) = (env::args_os().nth(1).map(PathBuf::from), env::args_os().nth(2)) else {
+    let words: Vec<_> = env::args_os().skip(1).collect();
+    let [folder] = &words[..] else {
         eprintln!("usage: vectors FOLDER");
         return ExitCode::from(2);
     };
+    let folder = PathBuf::from(folder);
     let (stdin, stdout) = oracle::vectors::files();
     for (name, text) in [("stdin", &stdin), ("stdout", &stdout)] {
         if let Err(error) = fs::write(folder.join(name), text) {

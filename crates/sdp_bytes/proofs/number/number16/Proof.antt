@@ -1,3 +1,4 @@
+-- `sdp_bytes::number::number16` meets its contract. Assumes nothing.
 use Rattle.sdp_bytes.specs.Number.{numeral, wholeNumber}
 use borrow.Author.Needs.{needs}
 use Rattle.sdp_bytes.proofs.number.number16.Statement.{statement}

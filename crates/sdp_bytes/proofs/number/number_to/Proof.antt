@@ -1,3 +1,4 @@
+-- `sdp_bytes::number::number_to` meets its contract. Assumes nothing.
 use mathlib.Core.Path.{sym, _∙_}
 use Rattle.sdp_bytes.proofs.NumberLaws.{number-value, number-encoding, number-format}
 use borrow.Author.Needs.{needs}

@@ -1,3 +1,4 @@
+-- `sdp_bytes::number::numeral_to` meets its contract. Assumes nothing.
 use mathlib.Core.Path.{sym, ap, _∙_}
 use Rattle.sdp_bytes.proofs.ScanLaws.{rest-from}
 use Rattle.sdp_bytes.proofs.NumberLaws.{plus-none, plus-yes, plus-no}

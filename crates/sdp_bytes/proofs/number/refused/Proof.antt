@@ -1,3 +1,4 @@
+-- `sdp_bytes::number::refused` meets its contract. Assumes nothing.
 use borrow.Author.Needs.{needs}
 use Rattle.sdp_bytes.proofs.number.refused.Statement.{statement}
 use Rattle.sdp_bytes.proofs.number.refused.Tie as tie

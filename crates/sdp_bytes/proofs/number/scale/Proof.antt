@@ -1,3 +1,4 @@
+-- `sdp_bytes::number::scale` meets its contract. Assumes nothing.
 use mathlib.Core.Path.{sym, ap, _∙_}
 use Rattle.sdp_bytes.proofs.NumberLaws.{scale-fits, scale-value, scale-bad}
 use Rattle.sdp_bytes.specs.Number.{scaled}

@@ -1,3 +1,4 @@
+-- `sdp_bytes::number::typed_time` meets its contract. Assumes nothing.
 use mathlib.Core.Path.{sym, ap, _∙_}
 use native.Mathlib.Omega.{arith}
 use lib.Seq.{length-take-le}

@@ -1,3 +1,4 @@
+-- `sdp_bytes::token::token_char` meets its contract. Assumes nothing.
 use borrow.Author.Needs.{needs}
 use Rattle.sdp_bytes.proofs.token.token_char.Statement.{statement}
 use Rattle.sdp_bytes.proofs.token.token_char.Tie as tie

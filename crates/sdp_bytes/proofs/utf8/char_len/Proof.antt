@@ -1,3 +1,4 @@
+-- `sdp_bytes::utf8::char_len` meets its contract. Assumes nothing.
 use mathlib.Core.Path.{sym, _∙_}
 use native.Mathlib.Omega.{arith}
 use Rattle.sdp_bytes.proofs.Utf8Laws.{none-len, one-len, two-len, three-len, four-len}

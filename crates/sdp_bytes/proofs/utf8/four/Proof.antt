@@ -1,3 +1,4 @@
+-- `sdp_bytes::utf8::four` meets its contract. Assumes nothing.
 use Rattle.sdp_bytes.proofs.Utf8Laws.{fits4}
 use borrow.Author.Needs.{needs}
 use Rattle.sdp_bytes.proofs.utf8.four.Statement.{statement}

@@ -1,3 +1,4 @@
+-- `sdp_bytes::utf8::in_at` meets its contract. Assumes nothing.
 use borrow.Author.Tests.{lt-ltb, le-ltb}
 use borrow.Author.Needs.{needs}
 use Rattle.sdp_bytes.proofs.utf8.in_at.Statement.{statement}

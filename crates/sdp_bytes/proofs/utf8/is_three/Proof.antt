@@ -1,3 +1,4 @@
+-- `sdp_bytes::utf8::is_three` meets its contract. Assumes nothing.
 use borrow.Author.Needs.{needs}
 use Rattle.sdp_bytes.proofs.utf8.is_three.Statement.{statement}
 use Rattle.sdp_bytes.proofs.utf8.is_three.Tie as tie

@@ -1,3 +1,4 @@
+-- `sdp_bytes::utf8::is_two` meets its contract. Assumes nothing.
 use Rattle.sdp_bytes.proofs.Utf8Laws.{fits2}
 use borrow.Author.Needs.{needs}
 use Rattle.sdp_bytes.proofs.utf8.is_two.Statement.{statement}

@@ -1,3 +1,4 @@
+-- `sdp_bytes::utf8::is_utf8` meets its contract. Assumes nothing.
 use Rattle.sdp_bytes.specs.Utf8.{isUtf8}
 use borrow.Author.Needs.{needs}
 use Rattle.sdp_bytes.proofs.utf8.is_utf8.Statement.{statement}

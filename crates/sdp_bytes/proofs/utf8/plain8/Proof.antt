@@ -1,3 +1,4 @@
+-- `sdp_bytes::utf8::plain8` meets its contract. Assumes nothing.
 use Rattle.sdp_bytes.specs.Utf8.{ascii}
 use mathlib.Core.Path.{sym}
 use Rattle.sdp_bytes.proofs.ScanLaws.{run-short, run8}

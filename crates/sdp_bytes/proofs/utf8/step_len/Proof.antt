@@ -1,3 +1,4 @@
+-- `sdp_bytes::utf8::step_len` meets its contract. Assumes nothing.
 use Rattle.sdp_bytes.specs.Utf8.{stepLen}
 use borrow.Author.Needs.{needs}
 use Rattle.sdp_bytes.proofs.utf8.step_len.Statement.{statement}

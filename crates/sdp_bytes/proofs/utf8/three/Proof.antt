@@ -1,3 +1,4 @@
+-- `sdp_bytes::utf8::three` meets its contract. Assumes nothing.
 use Rattle.sdp_bytes.proofs.Utf8Laws.{fits3}
 use borrow.Author.Needs.{needs}
 use Rattle.sdp_bytes.proofs.utf8.three.Statement.{statement}

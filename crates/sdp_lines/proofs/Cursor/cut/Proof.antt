@@ -1,3 +1,4 @@
+-- `sdp_lines::Cursor::cut` meets its contract. Assumes nothing.
 use native.Mathlib.Omega.{arith}
 use Rattle.sdp_lines.proofs.CutLaws.{cut-end, cut-spoilt, whole-fits, good-has-two, cut-blank, cut-bad, cut-good}
 use borrow.Author.Needs.{needs}

@@ -1,0 +1,8 @@
+pub mod ByteLaws
+pub mod TableLaws
+pub mod WordLaws
+pub mod SegmentLaws
+pub mod WidthLaws
+pub mod GrownLaws
+pub mod HeadLaws
+pub mod LatestLaws

@@ -1,0 +1,21 @@
+-- `sdp_area::push_offset` meets its contract.
+-- Assumes nothing.
+use mathlib.Core.Path.{ap, _∙_}
+use borrow.Author.Needs.{needs}
+use Rattle.sdp_area.specs.Tables.{grown}
+use Rattle.sdp_area.specs.Area.{offsetRow}
+use Rattle.sdp_area.proofs.WordLaws.{_and_, word-is, eight-is}
+use Rattle.sdp_area.proofs.push_offset.Statement.{statement}
+use Rattle.sdp_area.proofs.push_offset.Tie as tie
+
+returns : tie.Need-returns
+unfolding offsetRow
+returns c =
+    let b = c .before .before .before .before .before .before .args in
+    let k = c .before .before .push-words .ensures in
+    let row = word-is (b .owner) and eight-is (b .offset) in
+    (k .0, k .1 ∙ ap (grown _ _ _) (row .is))
+
+pub push-offset-spec : {M : Type 1} → statement M
+push-offset-spec =
+    tie.close (tie.spec (λ c. search needs) (λ c κs. search needs) (λ c. search needs) returns)

@@ -1,0 +1,40 @@
+-- `sdp_area::put_last` meets its contract.
+-- Assumes nothing.
+use native.Mathlib.Omega.{arith}
+use borrow.Author.Needs.{needs}
+use Rattle.sdp_area.specs.Latest.{overLast}
+use Rattle.sdp_area.proofs.LatestLaws.{none-there, too-many, one-there}
+use Rattle.sdp_area.proofs.put_last.Statement.{statement}
+use Rattle.sdp_area.proofs.put_last.Tie as tie
+
+returns : tie.Need-returns
+unfolding overLast
+returns c = rw (none-there _ _ (c .before .get2 .ensures .0) (c .if1 .taken))
+
+returns-2 : tie.Need-returns-2
+unfolding overLast
+returns-2 c = rw (too-many _ _ (c .before .before .get2 .ensures .0) (c .if2 .taken))
+
+returns-3 : tie.Need-returns-3
+unfolding overLast
+returns-3 c =
+    let n = c .before .before .before .before .before .before .get2 in
+    rw (one-there _ _ (n .ensures .0) (omega arith) (omega arith), ← n .ensures .0) (c .before .before .put-words .ensures)
+
+pub put-last-spec : {M : Type 1} → statement M
+put-last-spec =
+    tie.close
+    (tie.spec
+    (λ c κs. search needs)
+    (λ c. search needs)
+    returns
+    (λ c. search needs)
+    returns-2
+    (λ c. search needs)
+    (λ c. search needs)
+    (λ c. search needs)
+    (λ c. search needs)
+    (λ c. search needs)
+    (λ c κs. search needs)
+    (λ c. search needs)
+    returns-3)

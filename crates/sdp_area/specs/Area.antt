@@ -1,0 +1,154 @@
+-- How a session lies in the record area: docs/AREA.md has the same byte by byte. Places, lengths, marks, owners, counts and ports take two
+-- bytes, other numbers eight, the lower first. A mark is 1 for present and 0 for absent; "unused cells, an absent field's too, are zero".
+use mathlib.Core.List.{List, [], _∷_, _++_}
+use mathlib.Core.Option.{Option, none, some}
+use Prim.Native.Nat.{ℕ, _+_}
+use Rattle.sdp_lines.specs.declared.Span.{Span}
+use Rattle.sdp_area.specs.Bytes.{le, zeros}
+use Rattle.sdp_area.specs.Tables.{tab}
+use Rattle.sdp_area.specs.Session.{Origin, Connection, Key, MediaConnection, Bandwidth, Time, Repeat, Offset, Zone, Attribute, Media, Session}
+
+-- a string: its place and its length
+unfoldable pub span : Span → List ℕ
+span x = le 2 (x .at .0) ++ le 2 (x .len)
+
+-- what may be absent: a mark, and then w bytes
+unfoldable pub opt : {X : Type 0} → ℕ → (X → List ℕ) → Option X → List ℕ
+opt w f none = zeros (2 + w)
+opt w f (some x) = le 2 1 ++ f x
+
+-- 30 bytes
+unfoldable pub originBytes : Origin Span → List ℕ
+originBytes o =
+    opt 4 span (o .username) ++ (span (o .sessId) ++ (le 8 (o .sessVersion) ++ (span (o .nettype) ++ (span (o .addrtype) ++ span (o .unicastAddress)))))
+
+-- the name has no mark: 4 bytes
+unfoldable pub nameBytes : Option Span → List ℕ
+nameBytes none = zeros 4
+nameBytes (some x) = span x
+
+-- 12 bytes
+unfoldable pub connectionBytes : Connection Span → List ℕ
+connectionBytes c = span (c .nettype) ++ (span (c .addrtype) ++ span (c .connectionAddress))
+
+-- 10 bytes
+unfoldable pub keyBytes : Key Span → List ℕ
+keyBytes k = span (k .method) ++ opt 4 span (k .encryptionKey)
+
+-- ---- rows
+-- 14 bytes
+unfoldable pub mediaConnectionRow : MediaConnection Span → List ℕ
+mediaConnectionRow c = le 2 (c .owner) ++ connectionBytes (c .connection)
+
+-- 14 bytes
+unfoldable pub bandwidthRow : Bandwidth Span → List ℕ
+bandwidthRow b = le 2 (b .owner) ++ (span (b .bwtype) ++ le 8 (b .bandwidth))
+
+-- 16 bytes
+unfoldable pub timeRow : Time → List ℕ
+timeRow t = le 8 (t .startTime) ++ le 8 (t .stopTime)
+
+-- 18 bytes
+unfoldable pub repeatRow : Repeat → List ℕ
+repeatRow r = le 2 (r .owner) ++ (le 8 (r .repeatInterval) ++ le 8 (r .activeDuration))
+
+-- 10 bytes
+unfoldable pub offsetRow : Offset → List ℕ
+offsetRow o = le 2 (o .owner) ++ le 8 (o .offset)
+
+-- 16 bytes
+unfoldable pub zoneRow : Zone → List ℕ
+zoneRow z = le 8 (z .adjustmentTime) ++ le 8 (z .offset)
+
+-- 12 bytes
+unfoldable pub attributeRow : Attribute Span → List ℕ
+attributeRow a = le 2 (a .owner) ++ (span (a .attribute) ++ opt 4 span (a .value))
+
+-- 36 bytes
+unfoldable pub mediaRow : Media Span → List ℕ
+mediaRow m =
+    span (m .media)
+    ++ (le 2 (m .port) ++ (opt 2 (le 2) (m .numPorts) ++ (span (m .proto) ++ (span (m .fmt) ++ (opt 4 span (m .mediaTitle) ++ opt 10 keyBytes (m .key))))))
+
+-- ---- the whole
+-- the segments, one after the other
+unfoldable pub cat : List (List ℕ) → List ℕ
+cat [] = []
+cat (x ∷ xs) = x ++ cat xs
+
+-- six fields and ten tables, in this order
+abbrev pub segments : Session Span → List (List ℕ)
+segments s =
+    opt 30 originBytes (s .head .origin)
+    ∷ nameBytes (s .head .name)
+    ∷ opt 4 span (s .head .description)
+    ∷ opt 4 span (s .head .uri)
+    ∷ opt 12 connectionBytes (s .head .connection)
+    ∷ opt 10 keyBytes (s .head .key)
+    ∷ tab 16 4 span (s .tables .emails)
+    ∷ tab 16 4 span (s .tables .phones)
+    ∷ tab 64 14 mediaConnectionRow (s .tables .connections)
+    ∷ tab 64 14 bandwidthRow (s .tables .bandwidths)
+    ∷ tab 32 16 timeRow (s .tables .times)
+    ∷ tab 64 18 repeatRow (s .tables .repeats)
+    ∷ tab 256 10 offsetRow (s .tables .offsets)
+    ∷ tab 64 16 zoneRow (s .tables .zones)
+    ∷ tab 512 12 attributeRow (s .tables .attributes)
+    ∷ tab 32 36 mediaRow (s .tables .medias)
+    ∷ []
+
+unfoldable pub encode : Session Span → List ℕ
+encode s = cat (segments s)
+
+-- "one record area of a fixed size"
+abbrev pub size : ℕ
+size = 14558
+
+-- where each segment begins
+abbrev pub originAt : ℕ
+originAt = 0
+
+abbrev pub nameAt : ℕ
+nameAt = 32
+
+abbrev pub descriptionAt : ℕ
+descriptionAt = 36
+
+abbrev pub uriAt : ℕ
+uriAt = 42
+
+abbrev pub connectionAt : ℕ
+connectionAt = 48
+
+abbrev pub keyAt : ℕ
+keyAt = 62
+
+abbrev pub emailsAt : ℕ
+emailsAt = 74
+
+abbrev pub phonesAt : ℕ
+phonesAt = 140
+
+abbrev pub connectionsAt : ℕ
+connectionsAt = 206
+
+abbrev pub bandwidthsAt : ℕ
+bandwidthsAt = 1104
+
+abbrev pub timesAt : ℕ
+timesAt = 2002
+
+abbrev pub repeatsAt : ℕ
+repeatsAt = 2516
+
+abbrev pub offsetsAt : ℕ
+offsetsAt = 3670
+
+abbrev pub zonesAt : ℕ
+zonesAt = 6232
+
+abbrev pub attributesAt : ℕ
+attributesAt = 7258
+
+abbrev pub mediasAt : ℕ
+mediasAt = 13404

@@ -1,0 +1,42 @@
+-- The latest media's row: its title's mark stands at 18 of the row's 36 bytes, its key's at 24.
+use mathlib.Core.Bool.{Bool, true, false, _&&_, cond}
+use mathlib.Core.List.{List, [], _∷_}
+use mathlib.Core.Option.{Option, none, some}
+use Prim.Native.Nat.{ℕ, _+_, _*_, _-_}
+use lib.Dec.{ltb, leb, eqb}
+use Rattle.sdp_area.specs.Bytes.{num, over}
+use Rattle.sdp_area.specs.Area.{mediasAt}
+use Rattle.sdp_area.specs.Session.{Media}
+
+-- there is a latest media: the count is 1 to 32
+abbrev pub anyMedia : List ℕ → Bool
+anyMedia a = ltb 0 (num 2 a mediasAt) && leb (num 2 a mediasAt) 32
+
+-- the place of byte off of the latest row
+abbrev pub latestAt : List ℕ → ℕ → ℕ
+latestAt a off = mediasAt + (2 + ((num 2 a mediasAt - 1) * 36 + off))
+
+-- bs written over the latest row from byte off on
+unfoldable pub overLast : List ℕ → ℕ → List ℕ → List ℕ
+overLast a off bs = cond (anyMedia a) (over a (latestAt a off) bs) a
+
+-- the mark at byte off of the latest row says present
+unfoldable pub markLast : List ℕ → ℕ → Bool
+markLast a off = cond (anyMedia a) (eqb (num 2 a (latestAt a off)) 1) false
+
+-- ---- the same of the session
+-- present or absent
+abbrev pub given : {X : Type 0} → Option X → Bool
+given none = false
+given (some x) = true
+
+-- whether the latest media has a title, and a key
+unfoldable pub lastTitled : {S : Type 0} → List (Media S) → Bool
+lastTitled [] = false
+lastTitled (m ∷ []) = given (m .mediaTitle)
+lastTitled (m ∷ n ∷ ms) = lastTitled (n ∷ ms)
+
+unfoldable pub lastKeyed : {S : Type 0} → List (Media S) → Bool
+lastKeyed [] = false
+lastKeyed (m ∷ []) = given (m .key)
+lastKeyed (m ∷ n ∷ ms) = lastKeyed (n ∷ ms)

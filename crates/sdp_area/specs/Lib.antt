@@ -1,0 +1,7 @@
+pub mod Bytes
+pub mod Tables
+pub mod Session
+pub mod With
+pub mod Area
+pub mod Maybe
+pub mod Latest

@@ -1,0 +1,113 @@
+-- Document 01, "Fields" and "Tables": a session over any type S of strings. S is a place and a length where the area is meant, and the
+-- bytes themselves where two sessions are compared. Names are the crate's.
+use Prim.Native.Nat.{ℕ, _≤_}
+use mathlib.Core.List.{List, []}
+use mathlib.Core.Option.{Option, none}
+use lib.ListN.{length}
+
+pub record Origin (S : Type 0) : Type 0 where
+  pub username : Option S
+  pub sessId : S
+  pub sessVersion : ℕ
+  pub nettype : S
+  pub addrtype : S
+  pub unicastAddress : S
+
+pub record Connection (S : Type 0) : Type 0 where
+  pub nettype : S
+  pub addrtype : S
+  pub connectionAddress : S
+
+pub record Key (S : Type 0) : Type 0 where
+  pub method : S
+  pub encryptionKey : Option S
+
+-- "Bandwidths, connections and attributes name their owner (0 the session, else the media; never 0 for connections), repeats their time,
+-- offsets their repeat, counted from 1"
+pub record MediaConnection (S : Type 0) : Type 0 where
+  pub owner : ℕ
+  pub connection : Connection S
+
+pub record Bandwidth (S : Type 0) : Type 0 where
+  pub owner : ℕ
+  pub bwtype : S
+  pub bandwidth : ℕ
+
+pub record Time : Type 0 where
+  pub startTime : ℕ
+  pub stopTime : ℕ
+
+pub record Repeat : Type 0 where
+  pub owner : ℕ
+  pub repeatInterval : ℕ
+  pub activeDuration : ℕ
+
+pub record Offset : Type 0 where
+  pub owner : ℕ
+  pub offset : ℕ
+
+-- the offset as the 64 bits of an i64
+pub record Zone : Type 0 where
+  pub adjustmentTime : ℕ
+  pub offset : ℕ
+
+pub record Attribute (S : Type 0) : Type 0 where
+  pub owner : ℕ
+  pub attribute : S
+  pub value : Option S
+
+pub record Media (S : Type 0) : Type 0 where
+  pub media : S
+  pub port : ℕ
+  pub numPorts : Option ℕ
+  pub proto : S
+  pub fmt : S
+  pub mediaTitle : Option S
+  pub key : Option (Key S)
+
+-- what a session has at most once. No name is "an empty name, place and length 0"
+pub record Head (S : Type 0) : Type 0 where
+  pub origin : Option (Origin S)
+  pub name : Option S
+  pub description : Option S
+  pub uri : Option S
+  pub connection : Option (Connection S)
+  pub key : Option (Key S)
+
+-- the ten tables
+pub record Tables (S : Type 0) : Type 0 where
+  pub emails : List S
+  pub phones : List S
+  pub connections : List (MediaConnection S)
+  pub bandwidths : List (Bandwidth S)
+  pub times : List Time
+  pub repeats : List Repeat
+  pub offsets : List Offset
+  pub zones : List Zone
+  pub attributes : List (Attribute S)
+  pub medias : List (Media S)
+
+pub record Session (S : Type 0) : Type 0 where
+  pub head : Head S
+  pub tables : Tables S
+
+-- "1 emails 16; 2 phones 16; 3 media connections 64; 4 bandwidths 64; 5 times 32; 6 repeats 64; 7 offsets 256; 8 zones 64; 9 attributes 512;
+-- 10 medias 32"
+pub record Within {S : Type 0} (s : Session S) : Type 0 where
+  pub emails : length (s .tables .emails) ≤ 16
+  pub phones : length (s .tables .phones) ≤ 16
+  pub connections : length (s .tables .connections) ≤ 64
+  pub bandwidths : length (s .tables .bandwidths) ≤ 64
+  pub times : length (s .tables .times) ≤ 32
+  pub repeats : length (s .tables .repeats) ≤ 64
+  pub offsets : length (s .tables .offsets) ≤ 256
+  pub zones : length (s .tables .zones) ≤ 64
+  pub attributes : length (s .tables .attributes) ≤ 512
+  pub medias : length (s .tables .medias) ≤ 32
+
+-- before the first line
+abbrev pub empty : {S : Type 0} → Session S
+empty = record {
+  head = record { origin = none; name = none; description = none; uri = none; connection = none; key = none };
+  tables = record { emails = []; phones = []; connections = []; bandwidths = []; times = []; repeats = []; offsets = []; zones = []; attributes = []; medias = [] };
+}

@@ -1,0 +1,580 @@
+// The record area: a session in bytes at fixed places that the caller lends. docs/AREA.md has its layout.
+ghost use mathlib.Core.Path.{_≡_};
+ghost use mathlib.Core.Option.{none};
+ghost use mathlib.Core.Bool.{cond};
+ghost use mathlib.Core.List.{_++_};
+ghost use Prim.Native.Nat.{_+_, _*_, _≤_, _<_};
+ghost use lib.ListN.{length, drop};
+ghost use lib.Dec.{eqb};
+ghost use Rattle.sdp_area.specs.Bytes.{le, num, over, zeros};
+ghost use Rattle.sdp_area.specs.Tables.{pairs, grown, told};
+ghost use Rattle.sdp_area.specs.Area.{size, span, originBytes, connectionBytes, keyBytes, mediaConnectionRow, bandwidthRow, timeRow, repeatRow, offsetRow, zoneRow, attributeRow, mediaRow, originAt, nameAt, descriptionAt, uriAt, connectionAt, keyAt, emailsAt, phonesAt, connectionsAt, bandwidthsAt, timesAt, repeatsAt, offsetsAt, zonesAt, attributesAt, mediasAt};
+ghost use Rattle.sdp_area.specs.Latest.{overLast, markLast};
+ghost use Rattle.sdp_area.specs.Maybe.{maybe, maybePorts};
+use sdp_lines::Span;
+
+// Bytes of the area.
+pub const SIZE: usize = 14558;
+
+const ORIGIN: usize = 0;
+
+const NAME: usize = 32;
+
+const DESCRIPTION: usize = 36;
+
+const URI: usize = 42;
+
+const CONNECTION: usize = 48;
+
+const KEY: usize = 62;
+
+const EMAILS: usize = 74;
+
+const PHONES: usize = 140;
+
+const CONNECTIONS: usize = 206;
+
+const BANDWIDTHS: usize = 1104;
+
+const TIMES: usize = 2002;
+
+const REPEATS: usize = 2516;
+
+const OFFSETS: usize = 3670;
+
+const ZONES: usize = 6232;
+
+const ATTRIBUTES: usize = 7258;
+
+const MEDIAS: usize = 13404;
+
+// Whether a row was stored.
+pub enum Pushed {
+    Stored,
+    Full,
+}
+
+// A string that may be absent.
+pub struct MaybeSpan {
+    pub there: bool,
+    pub span: Span,
+}
+
+// A number of ports that may be absent.
+pub struct MaybePorts {
+    pub there: bool,
+    pub value: usize,
+}
+
+fn put2(a: &mut [u8], at: usize, v: usize)
+    requires { ⌜ at + 2 ≤ length (now a) ⌝ }
+    ensures { λ _. ⌜ now (a .exit) ≡ over (now (a .entry)) at (le 2 v) ⌝ }
+{
+    a[at] = (v % 256) as u8;
+    a[at + 1] = (v / 256 % 256) as u8;
+}
+
+fn get2(a: &[u8], at: usize) -> usize
+    requires { ⌜ at + 2 ≤ length (now a) ⌝ }
+    ensures { λ r. ⌜ (r ≡ num 2 (now (a .entry)) at) × (r < 65536) ⌝ }
+{
+    (a[at] as usize) + 256 * (a[at + 1] as usize)
+}
+
+// Numbers of two bytes each, one after the other.
+fn put_words(a: &mut [u8], at: usize, ws: &[usize])
+    requires { ⌜ at + length (now ws) * 2 ≤ length (now a) ⌝ }
+    ensures { λ _. ⌜ now (a .exit) ≡ over (now (a .entry)) at (pairs (now (ws .entry))) ⌝ }
+{
+    let mut i: usize = 0;
+    let mut p = at;
+    while i < ws.len() {
+        put2(a, p, ws[i]);
+        p += 2;
+        i += 1;
+    }
+}
+
+// One row more in the table at base.
+fn push_words(area: &mut [u8], base: usize, cap: usize, ws: &[usize]) -> Pushed
+    requires { ⌜ base + (2 + cap * (length (now ws) * 2)) ≤ length (now area) ⌝ }
+    ensures { λ r. ⌜ r ≡ told (now (area .entry)) base cap ⌝ }
+    ensures { λ r. ⌜ now (area .exit) ≡ grown (now (area .entry)) base cap (pairs (now (ws .entry))) ⌝ }
+{
+    let n = get2(area, base);
+    if cap <= n {
+        return Pushed::Full;
+    }
+    let at = base + (2 + n * (ws.len() * 2));
+    put_words(area, at, ws);
+    put2(area, base, n + 1);
+    Pushed::Stored
+}
+
+// All of the area zero; what stands behind it stays.
+pub fn clear(area: &mut [u8])
+    requires { ⌜ size ≤ length (now area) ⌝ }
+    ensures { λ _. ⌜ now (area .exit) ≡ zeros size ++ drop size (now (area .entry)) ⌝ }
+{
+    let mut i: usize = 0;
+    while i < SIZE {
+        area[i] = 0;
+        i += 1;
+    }
+}
+
+// Whether the mark at a place says present.
+fn marked(area: &[u8], at: usize) -> bool
+    requires { ⌜ at + 2 ≤ length (now area) ⌝ }
+    ensures { λ r. ⌜ r ≡ eqb (num 2 (now (area .entry)) at) 1 ⌝ }
+{
+    get2(area, at) == 1
+}
+
+// Numbers of two bytes each, over the latest media's row from byte off on; nothing where there is no media.
+fn put_last(area: &mut [u8], off: usize, ws: &[usize])
+    requires { ⌜ (size ≤ length (now area)) × (off + length (now ws) * 2 ≤ 36) ⌝ }
+    ensures { λ _. ⌜ now (area .exit) ≡ overLast (now (area .entry)) off (pairs (now (ws .entry))) ⌝ }
+{
+    let n = get2(area, MEDIAS);
+    if n == 0 {
+        return;
+    }
+    if 32 < n {
+        return;
+    }
+    put_words(area, MEDIAS + (2 + ((n - 1) * 36 + off)), ws);
+}
+
+// Whether the mark at byte off of the latest media's row says present; false where there is no media.
+fn marked_last(area: &[u8], off: usize) -> bool
+    requires { ⌜ (size ≤ length (now area)) × (off + 2 ≤ 36) ⌝ }
+    ensures { λ r. ⌜ r ≡ markLast (now (area .entry)) off ⌝ }
+{
+    let n = get2(area, MEDIAS);
+    if n == 0 {
+        return false;
+    }
+    if 32 < n {
+        return false;
+    }
+    marked(area, MEDIAS + (2 + ((n - 1) * 36 + off)))
+}
+
+// 1 for present, 0 for absent.
+fn mark(there: bool) -> usize
+    ensures { λ r. ⌜ r ≡ cond there 1 0 ⌝ }
+{
+    if there { 1 } else { 0 }
+}
+
+// The place, 0 where the string is absent.
+fn place_of(m: MaybeSpan) -> usize
+    ensures { λ r. ⌜ r ≡ cond (m .there) (m .span .at .0) 0 ⌝ }
+{
+    let x = m.span;
+    if m.there { x.at.0 } else { 0 }
+}
+
+// The length, 0 where the string is absent.
+fn len_of(m: MaybeSpan) -> usize
+    ensures { λ r. ⌜ r ≡ cond (m .there) (m .span .len) 0 ⌝ }
+{
+    let x = m.span;
+    if m.there { x.len } else { 0 }
+}
+
+// The number of ports, 0 where it is absent.
+fn ports_of(m: MaybePorts) -> usize
+    ensures { λ r. ⌜ r ≡ cond (m .there) (m .value) 0 ⌝ }
+{
+    if m.there { m.value } else { 0 }
+}
+
+// An e line.
+pub fn push_email(area: &mut [u8], x: Span) -> Pushed
+    requires { ⌜ size ≤ length (now area) ⌝ }
+    ensures { λ r. ⌜ r ≡ told (now (area .entry)) emailsAt 16 ⌝ }
+    ensures { λ r. ⌜ now (area .exit) ≡ grown (now (area .entry)) emailsAt 16 (span (x)) ⌝ }
+{
+    let row = [x.at.0, x.len];
+    push_words(area, EMAILS, 16, &row)
+}
+
+// A p line.
+pub fn push_phone(area: &mut [u8], x: Span) -> Pushed
+    requires { ⌜ size ≤ length (now area) ⌝ }
+    ensures { λ r. ⌜ r ≡ told (now (area .entry)) phonesAt 16 ⌝ }
+    ensures { λ r. ⌜ now (area .exit) ≡ grown (now (area .entry)) phonesAt 16 (span (x)) ⌝ }
+{
+    let row = [x.at.0, x.len];
+    push_words(area, PHONES, 16, &row)
+}
+
+// A c line of a media.
+pub fn push_connection(
+    area: &mut [u8],
+    owner: usize,
+    nettype: Span,
+    addrtype: Span,
+    address: Span,
+) -> Pushed
+    requires { ⌜ size ≤ length (now area) ⌝ }
+    ensures { λ r. ⌜ r ≡ told (now (area .entry)) connectionsAt 64 ⌝ }
+    ensures { λ r. ⌜ now (area .exit) ≡ grown (now (area .entry)) connectionsAt 64 (mediaConnectionRow (record { owner = owner; connection = record { nettype = nettype; addrtype = addrtype; connectionAddress = address } })) ⌝ }
+{
+    let row = [
+        owner,
+        nettype.at.0,
+        nettype.len,
+        addrtype.at.0,
+        addrtype.len,
+        address.at.0,
+        address.len,
+    ];
+    push_words(area, CONNECTIONS, 64, &row)
+}
+
+// A b line.
+pub fn push_bandwidth(area: &mut [u8], owner: usize, bwtype: Span, bandwidth: u64) -> Pushed
+    requires { ⌜ size ≤ length (now area) ⌝ }
+    ensures { λ r. ⌜ r ≡ told (now (area .entry)) bandwidthsAt 64 ⌝ }
+    ensures { λ r. ⌜ now (area .exit) ≡ grown (now (area .entry)) bandwidthsAt 64 (bandwidthRow (record { owner = owner; bwtype = bwtype; bandwidth = bandwidth })) ⌝ }
+{
+    let row = [
+        owner,
+        bwtype.at.0,
+        bwtype.len,
+        bandwidth as usize,
+        (bandwidth / 65536) as usize,
+        (bandwidth / 4294967296) as usize,
+        (bandwidth / 281474976710656) as usize,
+    ];
+    push_words(area, BANDWIDTHS, 64, &row)
+}
+
+// A t line.
+pub fn push_time(area: &mut [u8], start: u64, stop: u64) -> Pushed
+    requires { ⌜ size ≤ length (now area) ⌝ }
+    ensures { λ r. ⌜ r ≡ told (now (area .entry)) timesAt 32 ⌝ }
+    ensures { λ r. ⌜ now (area .exit) ≡ grown (now (area .entry)) timesAt 32 (timeRow (record { startTime = start; stopTime = stop })) ⌝ }
+{
+    let row = [
+        start as usize,
+        (start / 65536) as usize,
+        (start / 4294967296) as usize,
+        (start / 281474976710656) as usize,
+        stop as usize,
+        (stop / 65536) as usize,
+        (stop / 4294967296) as usize,
+        (stop / 281474976710656) as usize,
+    ];
+    push_words(area, TIMES, 32, &row)
+}
+
+// An r line, without its offsets.
+pub fn push_repeat(area: &mut [u8], owner: usize, interval: u64, duration: u64) -> Pushed
+    requires { ⌜ size ≤ length (now area) ⌝ }
+    ensures { λ r. ⌜ r ≡ told (now (area .entry)) repeatsAt 64 ⌝ }
+    ensures { λ r. ⌜ now (area .exit) ≡ grown (now (area .entry)) repeatsAt 64 (repeatRow (record { owner = owner; repeatInterval = interval; activeDuration = duration })) ⌝ }
+{
+    let row = [
+        owner,
+        interval as usize,
+        (interval / 65536) as usize,
+        (interval / 4294967296) as usize,
+        (interval / 281474976710656) as usize,
+        duration as usize,
+        (duration / 65536) as usize,
+        (duration / 4294967296) as usize,
+        (duration / 281474976710656) as usize,
+    ];
+    push_words(area, REPEATS, 64, &row)
+}
+
+// An offset of an r line.
+pub fn push_offset(area: &mut [u8], owner: usize, offset: u64) -> Pushed
+    requires { ⌜ size ≤ length (now area) ⌝ }
+    ensures { λ r. ⌜ r ≡ told (now (area .entry)) offsetsAt 256 ⌝ }
+    ensures { λ r. ⌜ now (area .exit) ≡ grown (now (area .entry)) offsetsAt 256 (offsetRow (record { owner = owner; offset = offset })) ⌝ }
+{
+    let row = [
+        owner,
+        offset as usize,
+        (offset / 65536) as usize,
+        (offset / 4294967296) as usize,
+        (offset / 281474976710656) as usize,
+    ];
+    push_words(area, OFFSETS, 256, &row)
+}
+
+// A pair of the z line.
+pub fn push_zone(area: &mut [u8], adjustment: u64, offset: u64) -> Pushed
+    requires { ⌜ size ≤ length (now area) ⌝ }
+    ensures { λ r. ⌜ r ≡ told (now (area .entry)) zonesAt 64 ⌝ }
+    ensures { λ r. ⌜ now (area .exit) ≡ grown (now (area .entry)) zonesAt 64 (zoneRow (record { adjustmentTime = adjustment; offset = offset })) ⌝ }
+{
+    let row = [
+        adjustment as usize,
+        (adjustment / 65536) as usize,
+        (adjustment / 4294967296) as usize,
+        (adjustment / 281474976710656) as usize,
+        offset as usize,
+        (offset / 65536) as usize,
+        (offset / 4294967296) as usize,
+        (offset / 281474976710656) as usize,
+    ];
+    push_words(area, ZONES, 64, &row)
+}
+
+// An a line.
+pub fn push_attribute(area: &mut [u8], owner: usize, name: Span, value: MaybeSpan) -> Pushed
+    requires { ⌜ size ≤ length (now area) ⌝ }
+    ensures { λ r. ⌜ r ≡ told (now (area .entry)) attributesAt 512 ⌝ }
+    ensures { λ r. ⌜ now (area .exit) ≡ grown (now (area .entry)) attributesAt 512 (attributeRow (record { owner = owner; attribute = name; value = maybe value })) ⌝ }
+{
+    let row = [
+        owner,
+        name.at.0,
+        name.len,
+        mark(value.there),
+        place_of(value),
+        len_of(value),
+    ];
+    push_words(area, ATTRIBUTES, 512, &row)
+}
+
+// An m line.
+pub fn push_media(
+    area: &mut [u8],
+    media: Span,
+    port: usize,
+    ports: MaybePorts,
+    proto: Span,
+    fmt: Span,
+) -> Pushed
+    requires { ⌜ size ≤ length (now area) ⌝ }
+    ensures { λ r. ⌜ r ≡ told (now (area .entry)) mediasAt 32 ⌝ }
+    ensures { λ r. ⌜ now (area .exit) ≡ grown (now (area .entry)) mediasAt 32 (mediaRow (record { media = media; port = port; numPorts = maybePorts ports; proto = proto; fmt = fmt; mediaTitle = none; key = none })) ⌝ }
+{
+    let row = [
+        media.at.0,
+        media.len,
+        port,
+        mark(ports.there),
+        ports_of(ports),
+        proto.at.0,
+        proto.len,
+        fmt.at.0,
+        fmt.len,
+        0,
+        0,
+        0,
+        0,
+        0,
+        0,
+        0,
+        0,
+        0,
+    ];
+    push_words(area, MEDIAS, 32, &row)
+}
+
+// The o line.
+pub fn set_origin(
+    area: &mut [u8],
+    username: MaybeSpan,
+    sess_id: Span,
+    version: u64,
+    nettype: Span,
+    addrtype: Span,
+    address: Span,
+)
+    requires { ⌜ size ≤ length (now area) ⌝ }
+    ensures { λ _. ⌜ now (area .exit) ≡ over (now (area .entry)) originAt (le 2 1 ++ originBytes (record { username = maybe username; sessId = «sess_id»; sessVersion = version; nettype = nettype; addrtype = addrtype; unicastAddress = address })) ⌝ }
+{
+    let row = [
+        1,
+        mark(username.there),
+        place_of(username),
+        len_of(username),
+        sess_id.at.0,
+        sess_id.len,
+        version as usize,
+        (version / 65536) as usize,
+        (version / 4294967296) as usize,
+        (version / 281474976710656) as usize,
+        nettype.at.0,
+        nettype.len,
+        addrtype.at.0,
+        addrtype.len,
+        address.at.0,
+        address.len,
+    ];
+    put_words(area, ORIGIN, &row);
+}
+
+// The s line.
+pub fn set_name(area: &mut [u8], x: Span)
+    requires { ⌜ size ≤ length (now area) ⌝ }
+    ensures { λ _. ⌜ now (area .exit) ≡ over (now (area .entry)) nameAt (span x) ⌝ }
+{
+    let row = [x.at.0, x.len];
+    put_words(area, NAME, &row);
+}
+
+// The i line of the session.
+pub fn set_description(area: &mut [u8], x: Span)
+    requires { ⌜ size ≤ length (now area) ⌝ }
+    ensures { λ _. ⌜ now (area .exit) ≡ over (now (area .entry)) descriptionAt (le 2 1 ++ span x) ⌝ }
+{
+    let row = [1, x.at.0, x.len];
+    put_words(area, DESCRIPTION, &row);
+}
+
+// The u line.
+pub fn set_uri(area: &mut [u8], x: Span)
+    requires { ⌜ size ≤ length (now area) ⌝ }
+    ensures { λ _. ⌜ now (area .exit) ≡ over (now (area .entry)) uriAt (le 2 1 ++ span x) ⌝ }
+{
+    let row = [1, x.at.0, x.len];
+    put_words(area, URI, &row);
+}
+
+// The c line of the session.
+pub fn set_connection(area: &mut [u8], nettype: Span, addrtype: Span, address: Span)
+    requires { ⌜ size ≤ length (now area) ⌝ }
+    ensures { λ _. ⌜ now (area .exit) ≡ over (now (area .entry)) connectionAt (le 2 1 ++ connectionBytes (record { nettype = nettype; addrtype = addrtype; connectionAddress = address })) ⌝ }
+{
+    let row = [
+        1,
+        nettype.at.0,
+        nettype.len,
+        addrtype.at.0,
+        addrtype.len,
+        address.at.0,
+        address.len,
+    ];
+    put_words(area, CONNECTION, &row);
+}
+
+// The k line of the session.
+pub fn set_key(area: &mut [u8], method: Span, key: MaybeSpan)
+    requires { ⌜ size ≤ length (now area) ⌝ }
+    ensures { λ _. ⌜ now (area .exit) ≡ over (now (area .entry)) keyAt (le 2 1 ++ keyBytes (record { method = method; encryptionKey = maybe key })) ⌝ }
+{
+    let row = [
+        1,
+        method.at.0,
+        method.len,
+        mark(key.there),
+        place_of(key),
+        len_of(key),
+    ];
+    put_words(area, KEY, &row);
+}
+
+// The i line of the latest media.
+pub fn set_media_title(area: &mut [u8], x: Span)
+    requires { ⌜ size ≤ length (now area) ⌝ }
+    ensures { λ _. ⌜ now (area .exit) ≡ overLast (now (area .entry)) 18 (le 2 1 ++ span x) ⌝ }
+{
+    let row = [1, x.at.0, x.len];
+    put_last(area, 18, &row);
+}
+
+// The k line of the latest media.
+pub fn set_media_key(area: &mut [u8], method: Span, key: MaybeSpan)
+    requires { ⌜ size ≤ length (now area) ⌝ }
+    ensures { λ _. ⌜ now (area .exit) ≡ overLast (now (area .entry)) 24 (le 2 1 ++ keyBytes (record { method = method; encryptionKey = maybe key })) ⌝ }
+{
+    let row = [
+        1,
+        method.at.0,
+        method.len,
+        mark(key.there),
+        place_of(key),
+        len_of(key),
+    ];
+    put_last(area, 24, &row);
+}
+
+// Whether there was an o line.
+pub fn has_origin(area: &[u8]) -> bool
+    requires { ⌜ size ≤ length (now area) ⌝ }
+    ensures { λ r. ⌜ r ≡ eqb (num 2 (now (area .entry)) originAt) 1 ⌝ }
+{
+    marked(area, ORIGIN)
+}
+
+// Whether there was an i line of the session.
+pub fn has_description(area: &[u8]) -> bool
+    requires { ⌜ size ≤ length (now area) ⌝ }
+    ensures { λ r. ⌜ r ≡ eqb (num 2 (now (area .entry)) descriptionAt) 1 ⌝ }
+{
+    marked(area, DESCRIPTION)
+}
+
+// Whether there was a u line.
+pub fn has_uri(area: &[u8]) -> bool
+    requires { ⌜ size ≤ length (now area) ⌝ }
+    ensures { λ r. ⌜ r ≡ eqb (num 2 (now (area .entry)) uriAt) 1 ⌝ }
+{
+    marked(area, URI)
+}
+
+// Whether there was a c line of the session.
+pub fn has_connection(area: &[u8]) -> bool
+    requires { ⌜ size ≤ length (now area) ⌝ }
+    ensures { λ r. ⌜ r ≡ eqb (num 2 (now (area .entry)) connectionAt) 1 ⌝ }
+{
+    marked(area, CONNECTION)
+}
+
+// Whether there was a k line of the session.
+pub fn has_key(area: &[u8]) -> bool
+    requires { ⌜ size ≤ length (now area) ⌝ }
+    ensures { λ r. ⌜ r ≡ eqb (num 2 (now (area .entry)) keyAt) 1 ⌝ }
+{
+    marked(area, KEY)
+}
+
+// Whether the latest media has a title.
+pub fn has_media_title(area: &[u8]) -> bool
+    requires { ⌜ size ≤ length (now area) ⌝ }
+    ensures { λ r. ⌜ r ≡ markLast (now (area .entry)) 18 ⌝ }
+{
+    marked_last(area, 18)
+}
+
+// Whether the latest media has a key.
+pub fn has_media_key(area: &[u8]) -> bool
+    requires { ⌜ size ≤ length (now area) ⌝ }
+    ensures { λ r. ⌜ r ≡ markLast (now (area .entry)) 24 ⌝ }
+{
+    marked_last(area, 24)
+}
+
+// How many times there are.
+pub fn times(area: &[u8]) -> usize
+    requires { ⌜ size ≤ length (now area) ⌝ }
+    ensures { λ r. ⌜ (r ≡ num 2 (now (area .entry)) timesAt) × (r < 65536) ⌝ }
+{
+    get2(area, TIMES)
+}
+
+// How many repeats there are.
+pub fn repeats(area: &[u8]) -> usize
+    requires { ⌜ size ≤ length (now area) ⌝ }
+    ensures { λ r. ⌜ (r ≡ num 2 (now (area .entry)) repeatsAt) × (r < 65536) ⌝ }
+{
+    get2(area, REPEATS)
+}
+
+// How many medias there are.
+pub fn medias(area: &[u8]) -> usize
+    requires { ⌜ size ≤ length (now area) ⌝ }
+    ensures { λ r. ⌜ (r ≡ num 2 (now (area .entry)) mediasAt) × (r < 65536) ⌝ }
+{
+    get2(area, MEDIAS)
+}

@@ -1,0 +1,7 @@
+pub mod SplitLaws
+pub mod ReadLaws
+pub mod PortLaws
+pub mod OffsetLaws
+pub mod AddressLaws
+pub mod WordLaws
+pub mod BoundLaws

@@ -1,0 +1,157 @@
+-- Document 01, "Fields": one reader for each record. "Fields are judged left to right".
+use Prim.Native.Nat.{ℕ, _+_, _-_, _^_}
+use mathlib.Core.Bool.{Bool, true, false, _&&_, cond}
+use mathlib.Core.List.{List}
+use lib.ListN.{length, getD, take, drop}
+use lib.Dec.{ltb, leb, eqb}
+use Rattle.sdp_bytes.specs.Runs.{indexOf}
+use Rattle.sdp_bytes.specs.Utf8.{isUtf8}
+use Rattle.sdp_bytes.specs.Number.{wholeNumber, typedTime}
+use Rattle.sdp_bytes.specs.declared.number.Number.{Number}
+use Rattle.sdp_bytes.specs.declared.number.Number.the-variants.{Value, Encoding, Format}
+use Rattle.sdp_fields.specs.Split.{part, wordAt, firstPiece, pieceAfter, restAfter}
+use Rattle.sdp_fields.specs.Read.{Read, got, refused, encoding, format, missing, textOf, tokenOf, numberOf, timeOf, choiceOf, afterText, afterAmount, afterChoice, ending, andThen}
+use Rattle.sdp_fields.specs.declared.Piece.{Piece}
+use Rattle.sdp_fields.specs.declared.MaybePiece.{MaybePiece}
+use Rattle.sdp_fields.specs.declared.MaybeNumber.{MaybeNumber}
+use Rattle.sdp_fields.specs.declared.Field.{Field}
+use Rattle.sdp_fields.specs.declared.Field.the-variants as field
+use Rattle.sdp_fields.specs.declared.Origin.{Origin}
+use Rattle.sdp_fields.specs.declared.Connection.{Connection}
+use Rattle.sdp_fields.specs.declared.Bandwidth.{Bandwidth}
+use Rattle.sdp_fields.specs.declared.Time.{Time}
+use Rattle.sdp_fields.specs.declared.Pair.{Pair}
+use Rattle.sdp_fields.specs.declared.Port.{Port}
+use Rattle.sdp_fields.specs.declared.Media.{Media}
+use Rattle.sdp_fields.specs.declared.RepeatHead.{RepeatHead}
+
+-- the whole value as one string of field w: s, i, u, e, p
+unfoldable pub wholeOf : ℕ → List ℕ → Read Piece
+wholeOf w v = cond (isUtf8 v) (got (record { at = 0; len = length v })) (refused (encoding w))
+
+-- "Username `-` means absent"
+abbrev pub usernameOf : List ℕ → Piece → MaybePiece
+usernameOf v p =
+    cond (eqb (p .len) 1 && eqb (getD v (p .at) 0) 0x2d)
+    (record { there = false; piece = record { at = 0; len = 0 } })
+    (record { there = true; piece = p })
+
+-- "o: username, sess-id, version number, nettype, addrtype, address"
+unfoldable pub originOf : List ℕ → Read Origin
+originOf v =
+    afterText (textOf 1 v (wordAt v 0)) (λ user e.
+    afterText (textOf 2 v (wordAt v e)) (λ id e.
+    afterAmount (numberOf 3 v (wordAt v e)) (λ version e.
+    afterText (tokenOf 4 v (wordAt v e)) (λ net e.
+    afterText (tokenOf 5 v (wordAt v e)) (λ kind e.
+    afterText (textOf 6 v (wordAt v e)) (λ address e.
+    ending 7 (wordAt v e)
+    (got (record { username = usernameOf v user; «sess_id» = id; «sess_version» = version; nettype = net; addrtype = kind; «unicast_address» = address }))))))))
+
+-- c: nettype, addrtype, connection-address
+unfoldable pub connectionOf : List ℕ → Read Connection
+connectionOf v =
+    afterText (tokenOf 8 v (wordAt v 0)) (λ net e.
+    afterText (tokenOf 9 v (wordAt v e)) (λ kind e.
+    afterText (textOf 10 v (wordAt v e)) (λ address e.
+    ending 11 (wordAt v e)
+    (got (record { nettype = net; addrtype = kind; «connection_address» = address })))))
+
+-- how o and c end: nettype, addrtype and address from place i on and nothing after them, the fields w, w + 1 and w + 2
+unfoldable pub addressOf : ℕ → List ℕ → ℕ → Read Connection
+addressOf w v i =
+    afterText (tokenOf w v (wordAt v i)) (λ net e.
+    afterText (tokenOf (w + 1) v (wordAt v e)) (λ kind e.
+    afterText (textOf (w + 2) v (wordAt v e)) (λ address e.
+    ending (w + 3) (wordAt v e)
+    (got (record { nettype = net; addrtype = kind; «connection_address» = address })))))
+
+-- b: bwtype and bandwidth, "split at every colon"
+unfoldable pub bandwidthOf : List ℕ → Read Bandwidth
+bandwidthOf v =
+    afterText (textOf 12 v (firstPiece 0x3a v)) (λ kind e.
+    afterAmount (numberOf 13 v (pieceAfter 0x3a v e)) (λ n e.
+    ending 14 (pieceAfter 0x3a v e)
+    (got (record { bwtype = kind; bandwidth = n }))))
+
+-- t: start-time and stop-time
+unfoldable pub timesOf : List ℕ → Read Time
+timesOf v =
+    afterAmount (numberOf 15 v (wordAt v 0)) (λ start e.
+    afterAmount (numberOf 16 v (wordAt v e)) (λ stop e.
+    ending 17 (wordAt v e)
+    (got (record { «start_time» = start; «stop_time» = stop }))))
+
+-- a and k, "at the first colon": a name of field w, and perhaps a value of field x
+unfoldable pub pairOf : ℕ → ℕ → List ℕ → Read Pair
+pairOf w x v =
+    afterText (textOf w v (firstPiece 0x3a v)) (λ name e.
+    afterChoice (choiceOf x v (restAfter v e)) (λ value.
+    got (record { name = name; value = value })))
+
+-- ---- m: "at the first three spaces, empty fields kept"
+-- a port number, else 9 at field w
+abbrev pub portNumber : {A : Type 0} → ℕ → Number → (ℕ → Read A) → Read A
+portNumber w (Value n) k = k n
+portNumber w Encoding k = refused (format w)
+portNumber w Format k = refused (format w)
+
+-- num-ports of a field that was cut at the slash at i
+abbrev pub numPorts : List ℕ → ℕ → (MaybeNumber → Read Port) → Read Port
+numPorts s i k =
+    cond (ltb i (length s))
+    (portNumber 30 (wholeNumber 16 (drop (i + 1) s)) (λ n. k (record { there = true; value = n })))
+    (k (record { there = false; value = 0 }))
+
+-- "`port` or `port/num`, cut at the first slash; the whole field's UTF-8 (8, field 29) is tested before the cut, then the port is judged, then num"
+unfoldable pub portOf : List ℕ → Read Port
+portOf s =
+    cond (isUtf8 s)
+    (portNumber 28 (wholeNumber 16 (take (indexOf 0x2f s) s)) (λ port.
+    numPorts s (indexOf 0x2f s) (λ num. got (record { port = port; «num_ports» = num }))))
+    (refused (encoding 29))
+
+-- the port's field; a missing one is 10 at field 28
+abbrev pub afterPort : {A : Type 0} → List ℕ → Field → (Port → ℕ → Read A) → Read A
+afterPort v field.Nothing k = refused (missing 28)
+afterPort v (field.Got p e) k = andThen (portOf (part v p)) (λ port. k port e)
+
+-- m: media name, port, proto, fmt
+unfoldable pub mediaOf : List ℕ → Read Media
+mediaOf v =
+    afterText (textOf 27 v (firstPiece 0x20 v)) (λ name e.
+    afterPort v (pieceAfter 0x20 v e) (λ port e.
+    afterText (textOf 31 v (pieceAfter 0x20 v e)) (λ proto e.
+    afterText (textOf 32 v (restAfter v e)) (λ fmt e.
+    got (record { media = name; port = port .port; «num_ports» = port .«num_ports»; proto = proto; fmt = fmt })))))
+
+-- ---- r: "interval, duration, any count of offsets, none allowed"
+-- interval and duration, and where the offsets begin
+unfoldable pub repeatHead : List ℕ → Read RepeatHead
+repeatHead v =
+    afterAmount (timeOf 18 v (wordAt v 0)) (λ interval e.
+    afterAmount (timeOf 19 v (wordAt v e)) (λ duration e.
+    got (record { «repeat_interval» = interval; «active_duration» = duration; next = e })))
+
+-- ---- z: "sign and 64-bit magnitude judged apart"
+-- the offset in the 64 bits of an i64, two's complement: -m is 2^64 - m
+abbrev pub negated : ℕ → ℕ
+negated m = cond (eqb m 0) 0 (2 ^ 64 - m)
+
+-- "the result lies in -2^63 to 2^63-1"
+abbrev pub signed : Bool → ℕ → Read ℕ
+signed true m = cond (leb m (2 ^ 63)) (got (negated m)) (refused (format 22))
+signed false m = cond (ltb m (2 ^ 63)) (got m) (refused (format 22))
+
+-- sign and the magnitude that was read
+abbrev pub signedOf : Bool → Number → Read ℕ
+signedOf neg (Value m) = signed neg m
+signedOf neg Encoding = refused (encoding 22)
+signedOf neg Format = refused (format 22)
+
+-- "An offset may start with one `-`; the rest is a typed time"
+unfoldable pub offsetOf : List ℕ → Read ℕ
+offsetOf s =
+    cond (ltb 0 (length s) && eqb (getD s 0 0) 0x2d)
+    (signedOf true (typedTime (drop 1 s)))
+    (signedOf false (typedTime s))

@@ -1,0 +1,4 @@
+pub mod RunLaws
+pub mod LoopLaws
+pub mod VersionLaws
+pub mod ReadLaws

@@ -1,0 +1,61 @@
+-- The answers of read, and what the area holds after each.
+-- Assumes nothing.
+use Prim.Native.Nat.{ℕ, _≤_, _<_}
+use mathlib.Core.Path.{_≡_, refl, sym, ap, _∙_}
+use mathlib.Core.List.{List, _++_}
+use lib.ListN.{length, drop}
+use borrow.Author.Tests.{lt-ltb, le-ltb}
+use Rattle.sdp_lines.specs.Lines.{start}
+use Rattle.sdp_lines.specs.declared.Span.{Span}
+use Rattle.sdp_lines.specs.declared.Cursor.{Cursor}
+use Rattle.sdp_area.specs.Bytes.{zeros}
+use Rattle.sdp_area.specs.Session.{empty}
+use Rattle.sdp_area.specs.Area.{encode, size}
+use Rattle.sdp_area.proofs.WidthLaws.{encode-empty}
+use Rattle.sdp_step.specs.Strings.{spanAt}
+use Rattle.sdp_step.specs.Step.{fresh}
+use Rattle.sdp_read.specs.Run.{Verdict, accepted, refused, answer, lines, outcomeOf, readText}
+use Rattle.sdp_read.specs.From.{runAt, beginAt, Left}
+use Rattle.sdp_read.specs.declared.Answer.{Answer}
+use Rattle.sdp_read.specs.declared.Ended.the-variants.{Accepted, Stopped}
+
+-- the answer x and the area b are what readText says
+abbrev pub Says : List ℕ → List ℕ → Answer → List ℕ → Type 0
+Says s a x b = (x ≡ readText s a .answer) × (b ≡ readText s a .area)
+
+-- the cleared area holds the empty session
+pub cleared-empty : (a b : List ℕ) → b ≡ zeros size ++ drop size a → b ≡ encode empty ++ drop size a
+cleared-empty a b e = e ∙ ap (λ (z : List ℕ). z ++ drop size a) (sym encode-empty)
+
+module _ (s a : List ℕ) where
+  pub says-short : length a < size → Says s a (answer 2 0 0) a
+  unfolding readText
+  says-short h = rw (lt-ltb (length a) size h) (refl, refl)
+
+  module _ (fits : size ≤ length a) where
+    pub says-long : 32768 < length s → Says s a (answer 1 0 0) a
+    unfolding readText
+    says-long h = rw (le-ltb (length a) size fits, lt-ltb 32768 (length s) h) (refl, refl)
+
+    module _ (short : length s ≤ 32768) where
+      read-is : readText s a ≡ outcomeOf a (beginAt s start)
+      unfolding readText lines beginAt
+      read-is = rw (le-ltb (length a) size fits, le-ltb 32768 (length s) short)
+
+      pub says-refused : (x : Answer) (b : List ℕ) → beginAt s start ≡ refused x → b ≡ zeros size ++ drop size a → Says s a x b
+      says-refused x b e f = rw (read-is, e) (refl, f)
+
+      module _ (c : Cursor) (e : beginAt s start ≡ runAt s fresh c) (b : List ℕ) where
+        pub says-accepted : Left (runAt s fresh c) Accepted b (drop size a) → Says s a (answer 0 0 0) b
+        says-accepted h = rw (read-is, e) (go (runAt s fresh c) h)
+          where
+            go : (v : Verdict Span) → Left v Accepted b (drop size a) → (answer 0 0 0 ≡ outcomeOf a v .answer) × (b ≡ outcomeOf a v .area)
+            go (accepted σ) h = (refl, h)
+            go (refused x) h = absurd h
+
+        pub says-stopped : (y : Answer) (b′ : List ℕ) → Left (runAt s fresh c) (Stopped y) b (drop size a) → b′ ≡ zeros size ++ drop size b → Says s a y b′
+        says-stopped y b′ h f = rw (read-is, e) (go (runAt s fresh c) h)
+          where
+            go : (v : Verdict Span) → Left v (Stopped y) b (drop size a) → (y ≡ outcomeOf a v .answer) × (b′ ≡ outcomeOf a v .area)
+            go (accepted σ) h = absurd h
+            go (refused x) h = (h .0, f ∙ ap (λ (l : List ℕ). zeros size ++ l) (h .1))

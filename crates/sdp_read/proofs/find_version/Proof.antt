@@ -1,0 +1,63 @@
+-- `sdp_read::find_version` meets its contract. Assumes nothing.
+use Prim.Native.Nat.{_-_}
+use native.Mathlib.Omega.{arith}
+use mathlib.Core.Path.{_≡_, refl, sym, _∙_}
+use lib.ListN.{length}
+use borrow.Author.Needs.{needs}
+use Rattle.sdp_lines.specs.Lines.{start}
+use Rattle.sdp_step.specs.Strings.{bytesOf}
+use Rattle.sdp_read.specs.From.{Reached, beginAt}
+use Rattle.sdp_read.proofs.RunLaws.{begin-end, begin-bad, begin-empty, begin-line, empty-moves, line-moves, line-inside}
+use Rattle.sdp_read.proofs.VersionLaws.{begun-line}
+use Rattle.sdp_read.proofs.find_version.Statement.{statement}
+use Rattle.sdp_read.proofs.find_version.Tie as tie
+
+abbrev Inv-loop : tie.InvT-loop
+Inv-loop text c₀ c = Reached text c × (beginAt text start ≡ beginAt text c)
+
+abbrev μ-loop : tie.MeasureT-loop
+μ-loop text c₀ c = length text - c .at .0
+
+loop-holds : tie.Need-loop-holds Inv-loop μ-loop
+loop-holds c = rw (c .new .ensures) (record { inside = omega arith; counted = omega arith }, refl)
+
+returns : tie.Need-returns Inv-loop μ-loop
+returns c = rw (c .on-line .ensures) (c .before .before .before .before .loop .inv .1 ∙ begin-end (c .before .before .before .before .before .before .before .args .text .now) (c .before .before .before .before .before .before .before .pre) (c .before .before .before .before .loop .c) (c .before .before .before .before .loop .inv .0) (sym (c .before .before .before .cut .ensures) ∙ c .before .enum-told .given .1))
+
+returns-2 : tie.Need-returns-2 Inv-loop μ-loop
+returns-2 c = rw (c .on-line2 .ensures, c .before .fault-number .ensures) (c .before .before .before .before .before .before .loop .inv .1 ∙ begin-bad (c .before .before .before .before .before .before .before .before .before .args .text .now) (c .before .before .before .before .before .before .before .before .before .pre) (c .before .before .before .before .before .before .loop .c) (c .before .before .before .before .before .before .loop .inv .0) _ _ (sym (c .before .before .before .before .before .cut .ensures) ∙ c .before .before .before .fault .given .1))
+
+loop-less : tie.Need-loop-less Inv-loop μ-loop
+loop-less c = let m = empty-moves (c .before .before .before .before .before .before .before .args .text .now) (c .before .before .before .before .before .before .before .pre) (c .before .before .before .before .loop .c) (c .before .before .before .before .loop .inv .0) _ (sym (c .before .before .before .cut .ensures) ∙ c .before .next .given .1) in omega (arith, m .1, m .0 .inside)
+
+loop-again : tie.Need-loop-again Inv-loop μ-loop
+loop-again c = (empty-moves (c .before .before .before .before .before .before .before .args .text .now) (c .before .before .before .before .before .before .before .pre) (c .before .before .before .before .loop .c) (c .before .before .before .before .loop .inv .0) _ (sym (c .before .before .before .cut .ensures) ∙ c .before .next .given .1) .0, c .before .before .before .before .loop .inv .1 ∙ begin-empty (c .before .before .before .before .before .before .before .args .text .now) (c .before .before .before .before .before .before .before .pre) (c .before .before .before .before .loop .c) (c .before .before .before .before .loop .inv .0) _ (sym (c .before .before .before .cut .ensures) ∙ c .before .next .given .1))
+
+version-line-requires : tie.Need-version-line-requires Inv-loop μ-loop
+version-line-requires c κs = line-inside (c .before .before .before .before .before .before .before .args .text .now) (c .before .before .before .before .before .before .before .pre) (c .before .before .before .before .loop .c) (c .before .before .before .before .loop .inv .0) _ _ _ (sym (c .before .before .before .cut .ensures) ∙ c .before .letter .given .1)
+
+returns-3 : tie.Need-returns-3 Inv-loop μ-loop
+returns-3 c = begun-line _ _ (c .before .before .before .before .before .loop .c .line .0) (c .before .before .letter .given .0 .1 .0 .at .0) (bytesOf (c .before .before .before .before .before .before .before .before .args .text .now) (c .before .before .letter .given .0 .1 .0)) (c .before .before .letter .given .0 .0) (c .before .before .letter .given .0 .1 .1 .0) (c .version-line .ensures) (c .before .before .before .before .before .loop .inv .1 ∙ begin-line (c .before .before .before .before .before .before .before .before .args .text .now) (c .before .before .before .before .before .before .before .before .pre) (c .before .before .before .before .before .loop .c) (c .before .before .before .before .before .loop .inv .0) _ _ _ (sym (c .before .before .before .before .cut .ensures) ∙ c .before .before .letter .given .1)) (line-moves (c .before .before .before .before .before .before .before .before .args .text .now) (c .before .before .before .before .before .before .before .before .pre) (c .before .before .before .before .before .loop .c) (c .before .before .before .before .before .loop .inv .0) _ _ _ (sym (c .before .before .before .before .cut .ensures) ∙ c .before .before .letter .given .1) .0)
+
+pub find-version-spec : {M : Type 1} → statement M
+find-version-spec =
+    tie.close
+    (tie.spec
+    Inv-loop
+    μ-loop
+    (λ c κs. search needs)
+    loop-holds
+    (λ c κs. search needs)
+    (λ c. search needs)
+    (λ c κs. search needs)
+    returns
+    (λ c. search needs)
+    (λ c κs. search needs)
+    (λ c κs. search needs)
+    returns-2
+    (λ c. search needs)
+    loop-less
+    loop-again
+    (λ c. search needs)
+    version-line-requires
+    returns-3)

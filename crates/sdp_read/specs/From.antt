@@ -1,0 +1,49 @@
+-- Reading from a cursor on: what the loops over the lines promise.
+use Prim.Native.Nat.{ℕ, _+_, _≤_}
+use mathlib.Core.Path.{_≡_}
+use mathlib.Core.Bool.{cond}
+use mathlib.Core.List.{List, _++_}
+use lib.Dec.{eqb}
+use lib.ListN.{length, drop}
+use Rattle.sdp_area.specs.Area.{encode, size}
+use Rattle.sdp_lines.specs.Lines.{split, start}
+use Rattle.sdp_lines.specs.declared.Span.{Span}
+use Rattle.sdp_lines.specs.declared.Cursor.{Cursor}
+use Rattle.sdp_step.specs.Strings.{spanAt}
+use Rattle.sdp_step.specs.Step.{Reading, fresh}
+use Rattle.sdp_read.specs.Run.{Verdict, accepted, refused, noVersion, badVersion, isZero, run, begin}
+use Rattle.sdp_read.specs.declared.Ended.{Ended}
+use Rattle.sdp_read.specs.declared.Ended.the-variants.{Accepted, Stopped}
+use Rattle.sdp_read.specs.declared.Version.{Version}
+use Rattle.sdp_read.specs.declared.Version.the-variants as version
+
+-- a cursor that cutting from the start leads to: a line takes a byte at least
+pub record Reached (s : List ℕ) (c : Cursor) : Type 0 where
+  pub inside : c .at .0 ≤ length s
+  pub counted : c .line .0 ≤ c .at .0 + 1
+
+-- the lines from a cursor on, after the version
+unfoldable pub runAt : List ℕ → Reading Span → Cursor → Verdict Span
+runAt s ρ c = run spanAt ρ (c .line .0) (c .at .0) (split (drop (c .at .0) s))
+
+-- and before it
+unfoldable pub beginAt : List ℕ → Cursor → Verdict Span
+beginAt s c = begin spanAt (c .line .0) (c .at .0) (split (drop (c .at .0) s))
+
+-- the version line with number n, its letter l and its value v at place p; next is due after it
+abbrev pub versionLine : ℕ → ℕ → List ℕ → ℕ → Cursor → Version
+versionLine n p v l next =
+    cond (eqb l 0x76) (cond (isZero v) (version.Found next) (version.Refused (badVersion n p (length v)))) (version.Refused noVersion)
+
+-- what is found at a text's start: where the lines after the version are due, or the whole text's refusal
+abbrev pub Begun : List ℕ → Version → Type 0
+Begun s (version.Found c) = (beginAt s start ≡ runAt s fresh c) × Reached s c
+Begun s (version.Refused x) = beginAt s start ≡ refused x
+
+-- ---- the loop over the lines
+-- the answer of the lines, and the area after them: the session, or a refusal after which only the bytes behind count
+abbrev pub Left : Verdict Span → Ended → List ℕ → List ℕ → Type 0
+Left (accepted s) Accepted a t = a ≡ encode s ++ t
+Left (accepted s) (Stopped y) a t = ⊥
+Left (refused x) Accepted a t = ⊥
+Left (refused x) (Stopped y) a t = (y ≡ x) × (drop size a ≡ t)

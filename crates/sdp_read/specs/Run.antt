@@ -1,0 +1,98 @@
+-- Document 01, "Lines", "Refusal numbers": a text, line by line. The runner alone knows a line's number and its place.
+use Prim.Native.Nat.{ℕ, _+_}
+use mathlib.Core.Bool.{Bool, true, false, _&&_, cond}
+use mathlib.Core.List.{List, [], _∷_, _++_}
+use lib.ListN.{length, getD, drop}
+use lib.Dec.{ltb, eqb}
+use Rattle.sdp_lines.specs.Lines.{Raw, split, content, width, formOf}
+use Rattle.sdp_lines.specs.Answers.{faultNumber}
+use Rattle.sdp_lines.specs.declared.Span.{Span}
+use Rattle.sdp_lines.specs.declared.Form.{Form}
+use Rattle.sdp_lines.specs.declared.Form.the-variants.{Blank, Good, Bad}
+use Rattle.sdp_fields.specs.declared.Piece.{Piece}
+use Rattle.sdp_area.specs.Bytes.{zeros}
+use Rattle.sdp_area.specs.Session.{Session}
+use Rattle.sdp_area.specs.Area.{encode, size}
+use Rattle.sdp_step.specs.Strings.{spanAt}
+use Rattle.sdp_step.specs.Step.{Reading, Stepped, goes, stops, step, fresh}
+use Rattle.sdp_read.specs.declared.Answer.{Answer}
+
+-- what reading a text says: a session, or the refusal
+pub data Verdict (S : Type 0) : Type 0 where
+  accepted : Session S → Verdict S
+  refused : Answer → Verdict S
+
+-- "Each returns number, line, field, place and length; all but the number are 0 where not named."
+abbrev pub answer : ℕ → ℕ → ℕ → Answer
+answer number line field = record { number = number; line = line; field = field; place = 0; len = 0 }
+
+-- a refusal of a line: its number, and its field where it has one
+abbrev pub onLine : {S : Type 0} → ℕ → ℕ → ℕ → Verdict S
+onLine number line field = refused (answer number line field)
+
+-- "6 no version" returns no line
+abbrev pub noVersion : Answer
+noVersion = answer 6 0 0
+
+-- "7 version not 0: line, place and length of the value"
+abbrev pub badVersion : ℕ → ℕ → ℕ → Answer
+badVersion line place len = record { number = 7; line = line; field = 0; place = place; len = len }
+
+-- "Its value must be exactly `0`"
+abbrev pub isZero : List ℕ → Bool
+isZero v = eqb (length v) 1 && eqb (getD v 0 0) 0x30
+
+-- at p v makes the strings of a line whose value is v and stands at place p
+module _ {S : Type 0} (at : ℕ → List ℕ → Piece → S) where
+  -- what follows a line with number n
+  abbrev pub after : Stepped S → ℕ → (Reading S → Verdict S) → Verdict S
+  after (goes ρ) n k = k ρ
+  after (stops number field) n k = onLine number n field
+
+  -- a line by its form. "Empty lines are counted, then skipped"; 3, 4 and 5 have no field; the value starts at the third byte
+  abbrev pub stepForm : Reading S → ℕ → List ℕ → Form → Stepped S
+  stepForm ρ p l Blank = goes ρ
+  stepForm ρ p l (Bad f) = stops (faultNumber f) 0
+  stepForm ρ p l (Good c) = step (at (p + 2) (drop 2 l)) ρ (drop 2 l) c
+
+  -- the lines after the version, from number n and place p on
+  unfoldable pub run : Reading S → ℕ → ℕ → List Raw → Verdict S
+  run ρ n p [] = accepted (ρ .session)
+  run ρ n p (r ∷ rs) =
+      after (stepForm ρ p (content r) (formOf (content r))) n (λ τ. run τ (n + 1) (p + width r) rs)
+
+  -- the version line with the letter c and the value v at place p, and what follows it
+  abbrev pub version : ℕ → ℕ → List ℕ → ℕ → Verdict S → Verdict S
+  version n p v c k = cond (eqb c 0x76) (cond (isZero v) k (refused (badVersion n p (length v)))) (refused noVersion)
+
+  -- "The first non-empty line must have letter `v`, else 6, also when there is none; its own form refusal comes first."
+  abbrev pub beginForm : ℕ → ℕ → List ℕ → Form → Verdict S → Verdict S → Verdict S
+  beginForm n p l Blank skip k = skip
+  beginForm n p l (Bad f) skip k = onLine (faultNumber f) n 0
+  beginForm n p l (Good c) skip k = version n (p + 2) (drop 2 l) c k
+
+  unfoldable pub begin : ℕ → ℕ → List Raw → Verdict S
+  begin n p [] = refused noVersion
+  begin n p (r ∷ rs) =
+      beginForm n p (content r) (formOf (content r)) (begin (n + 1) (p + width r) rs) (run fresh (n + 1) (p + width r) rs)
+
+  -- a whole text: lines from 1, places from 0
+  unfoldable pub lines : List ℕ → Verdict S
+  lines s = begin 1 0 (split s)
+
+-- ---- the promise of read
+pub record Outcome : Type 0 where
+  pub answer : Answer
+  pub area : List ℕ
+
+-- "Any other reading refusal: area all zero. Area bytes beyond the stated size always stay as found."
+abbrev pub outcomeOf : List ℕ → Verdict Span → Outcome
+outcomeOf a (accepted s) = record { answer = answer 0 0 0; area = encode s ++ drop size a }
+outcomeOf a (refused x) = record { answer = x; area = zeros size ++ drop size a }
+
+-- "Order: 2, 1, then line by line"; "Area too short or text too long: area unchanged"
+unfoldable pub readText : List ℕ → List ℕ → Outcome
+readText s a =
+    cond (ltb (length a) size) (record { answer = answer 2 0 0; area = a })
+    (cond (ltb 32768 (length s)) (record { answer = answer 1 0 0; area = a })
+    (outcomeOf a (lines spanAt s)))

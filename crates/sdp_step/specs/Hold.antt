@@ -1,0 +1,49 @@
+-- What the functions that take a line promise, for every session that the area holds: the step's answer, and the area for it.
+use mathlib.Core.Path.{_≡_}
+use mathlib.Core.Bool.{Bool, true, false}
+use mathlib.Core.List.{List, [], _++_}
+use Prim.Native.Nat.{ℕ}
+use lib.ListN.{drop}
+use Rattle.sdp_lines.specs.declared.Span.{Span}
+use Rattle.sdp_area.specs.Session.{Session, Within}
+use Rattle.sdp_area.specs.Area.{encode, size}
+use Rattle.sdp_area.specs.Latest.{given}
+use Rattle.sdp_area.specs.declared.Pushed.{Pushed}
+use Rattle.sdp_area.specs.declared.Pushed.the-variants.{Stored, Full}
+use Rattle.sdp_step.specs.Step.{Reading, Stepped, goes, stops, stepRole}
+use Rattle.sdp_step.specs.Strings.{spanAt}
+use Rattle.sdp_step.specs.declared.Role.{Role}
+use Rattle.sdp_step.specs.declared.Marks.{Marks}
+use Rattle.sdp_step.specs.declared.Taken.{Taken}
+use Rattle.sdp_step.specs.declared.Taken.the-variants.{Kept, Refused}
+
+-- what the code keeps beside the area
+abbrev pub marksOf : Reading Span → Marks
+marksOf ρ = record { named = given (ρ .session .head .name); zoned = ρ .zoned }
+
+-- the area a and the marks m hold the session ρ, with t behind it; before the z line there are no zones
+pub record Holds (ρ : Reading Span) (m : Marks) (a t : List ℕ) : Type 0 where
+  pub marks : m ≡ marksOf ρ
+  pub bytes : a ≡ encode (ρ .session) ++ t
+  pub within : Within (ρ .session)
+  pub unzoned : ρ .zoned ≡ false → ρ .session .tables .zones ≡ []
+
+-- a step that goes on is kept in the area; after one that stops, only the bytes behind the session still count
+abbrev pub Handled : Stepped Span → Taken → List ℕ → List ℕ → Type 0
+Handled (goes ρ) (Kept m) a t = Holds ρ m a t
+Handled (goes ρ) (Refused n f) a t = ⊥
+Handled (stops n f) (Kept m) a t = ⊥
+Handled (stops n f) (Refused k g) a t = (k ≡ n) × (g ≡ f) × (drop size a ≡ t)
+
+-- one line taken: whatever session the area held, the step's outcome is there
+abbrev pub Takes : (Reading Span → Stepped Span) → Marks → Taken → List ℕ → List ℕ → Type 0
+Takes f m r a a′ = (ρ : Reading Span) (t : List ℕ) → Holds ρ m a t → Handled (f ρ) r a′ t
+
+-- a row that was stored, or did not fit the table
+abbrev pub storedOf : Pushed → ℕ → Marks → Taken
+storedOf Stored table m = Kept m
+storedOf Full table m = Refused 21 table
+
+-- a line of the role x, whose value v stands at place p
+abbrev pub Reads : Role → ℕ → List ℕ → Marks → Taken → List ℕ → List ℕ → Type 0
+Reads x p v m r a a′ = Takes (λ ρ. stepRole (spanAt p v) ρ v x) m r a a′

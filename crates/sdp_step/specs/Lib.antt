@@ -1,0 +1,5 @@
+pub mod Strings
+pub mod Roles
+pub mod Step
+pub mod Hold
+pub mod Repeats

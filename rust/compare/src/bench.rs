@@ -1,0 +1,147 @@
+//! One text through a reader and through the crate. The reader is a parameter, so that the comparison can be tested
+//! with readers that are known to be wrong.
+use crate::area::{self, SIZE};
+use crate::{placed, theirs, Answer};
+use generate::shrink;
+use std::collections::BTreeMap;
+
+/// Bytes behind the area that must stay as they are.
+const BEYOND: usize = 40;
+
+pub struct Bench<R> {
+    reader: R,
+    room: Vec<u8>,
+    found: Vec<u8>,
+}
+
+impl<R: Fn(&[u8], &mut [u8]) -> Answer> Bench<R> {
+    pub fn new(reader: R) -> Self {
+        // no byte is 0, so that a cell that was never written can't pass for an unused one
+        let found: Vec<u8> = (0..SIZE + BEYOND).map(|at| (at * 7) as u8 | 1).collect();
+        Bench {
+            reader,
+            room: found.clone(),
+            found,
+        }
+    }
+
+    /// Both sides on one text: the answer if all agrees, else what differs.
+    pub fn compare(&mut self, text: &[u8]) -> Result<Answer, String> {
+        self.room.copy_from_slice(&self.found);
+        let kept = text.to_vec();
+        let ours = (self.reader)(text, &mut self.room);
+        let crates = oracle::read(&kept);
+        let due = crates.as_ref().err().map_or(Answer::default(), |refusal| Answer {
+            number: refusal.number,
+            line: refusal.line,
+            field: refusal.field,
+            place: refusal.place,
+            len: refusal.len,
+        });
+        if text != kept {
+            return Err("the text was changed".into());
+        }
+        if ours != due {
+            return Err(format!("ours {ours:?}\nthe crate {due:?}"));
+        }
+        if self.room[SIZE..] != self.found[SIZE..] {
+            return Err("bytes beyond the area were changed".into());
+        }
+        match crates {
+            Err(refusal) if refusal.number == 1 => {
+                if self.room != self.found {
+                    return Err(format!("{ours:?}, and the area was changed"));
+                }
+            }
+            Err(_) => {
+                if !area::all_zero(&self.room[..SIZE]) {
+                    return Err(format!("{ours:?}, and the area is not all zero"));
+                }
+            }
+            Ok(session) => {
+                let seen = area::decode(&self.room)?;
+                let strings = theirs::comparable(seen.strings(text)?);
+                let due = theirs::of(&session);
+                if strings != due {
+                    return Err(format!("ours {strings:?}\nthe crate {due:?}"));
+                }
+                placed::check(&seen, text)?;
+            }
+        }
+        Ok(ours)
+    }
+
+    /// As `compare`; a difference ends the test with the smallest input that still shows one.
+    pub fn same(&mut self, text: &[u8]) -> Answer {
+        self.compare(text).unwrap_or_else(|_| panic!("{}", self.smallest(text)))
+    }
+
+    /// A report on the smallest text found that still differs.
+    pub fn smallest(&mut self, text: &[u8]) -> String {
+        let small = shrink(text, |part| self.compare(part).is_err());
+        let what = self.compare(&small).expect_err("the smallest text differs too");
+        let hex: String = small.iter().map(|byte| format!("{byte:02x}")).collect();
+        format!(
+            "the two sides differ, smallest text of {} bytes (from {}):\n{}\nhex {hex}\n{what}",
+            small.len(),
+            text.len(),
+            small.escape_ascii()
+        )
+    }
+}
+
+/// How often each answer came, by number and field.
+#[derive(Default)]
+pub struct Tally(pub BTreeMap<(u64, u64), u64>);
+
+impl Tally {
+    pub fn add(&mut self, answer: Answer) {
+        *self.0.entry((answer.number, answer.field)).or_default() += 1;
+    }
+
+    pub fn of(&self, number: u64) -> u64 {
+        self.0.range((number, 0)..=(number, u64::MAX)).map(|(_, count)| count).sum()
+    }
+
+    pub fn all(&self) -> u64 {
+        self.0.values().sum()
+    }
+}
+
+impl std::fmt::Display for Tally {
+    fn fmt(&self, f: &mut std::fmt::Formatter) -> std::fmt::Result {
+        const KINDS: [(u64, &str); 21] = [
+            (0, "accepted"),
+            (1, "text too long"),
+            (3, "NUL or CR"),
+            (4, "no ="),
+            (5, "= not second"),
+            (6, "no version"),
+            (7, "version not 0"),
+            (8, "encoding"),
+            (9, "format"),
+            (10, "missing field"),
+            (11, "trailing data"),
+            (12, "second o"),
+            (13, "second s"),
+            (14, "second i"),
+            (15, "second u"),
+            (16, "second c"),
+            (17, "second z"),
+            (18, "second media title"),
+            (19, "second key"),
+            (20, "repeat without time"),
+            (21, "table full"),
+        ];
+        for (number, kind) in KINDS {
+            let mut by_field = String::new();
+            for ((_, field), count) in self.0.range((number, 1)..=(number, u64::MAX)) {
+                by_field += &format!(" {field}:{count}");
+            }
+            let label = if number == 21 { " by table" } else { " by field" };
+            let label = if by_field.is_empty() { "" } else { label };
+            writeln!(f, "{number:>4} {kind:<20} {:>10}{label}{by_field}", self.of(number))?;
+        }
+        write!(f, "     {:<20} {:>10}", "all", self.all())
+    }
+}

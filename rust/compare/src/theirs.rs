@@ -1,0 +1,129 @@
+//! The crate's session as an area would show it, and ours made comparable with it.
+use crate::area::{
+    Attribute, Bandwidth, Connection, Key, Media, MediaConnection, Offset, Origin, Repeat, Seen, Time, Zone,
+};
+use oracle::{fold, sdp_types, Session};
+
+fn bytes(string: &String) -> Vec<u8> {
+    string.as_bytes().to_vec()
+}
+
+fn maybe(string: &Option<String>) -> Option<Vec<u8>> {
+    string.as_ref().map(bytes)
+}
+
+fn key(key: &Option<sdp_types::Key>) -> Option<Key<Vec<u8>>> {
+    key.as_ref().map(|key| Key {
+        method: bytes(&key.method),
+        text: maybe(&key.encryption_key),
+    })
+}
+
+fn connection(connection: &sdp_types::Connection) -> Connection<Vec<u8>> {
+    Connection {
+        nettype: connection.nettype.as_str().as_bytes().to_vec(),
+        addrtype: connection.addrtype.as_str().as_bytes().to_vec(),
+        address: bytes(&connection.connection_address),
+    }
+}
+
+/// Repeats, offsets and what medias have are nested in the crate; in an area they name their owner.
+pub fn of(session: &Session) -> Seen<Vec<u8>> {
+    let origin = &session.origin;
+    let mut seen = Seen {
+        origin: Some(Origin {
+            username: maybe(&origin.username),
+            sess_id: bytes(&origin.sess_id),
+            sess_version: origin.sess_version,
+            nettype: origin.nettype.as_str().as_bytes().to_vec(),
+            addrtype: origin.addrtype.as_str().as_bytes().to_vec(),
+            unicast_address: bytes(&origin.unicast_address),
+        }),
+        name: bytes(&session.session_name),
+        description: maybe(&session.session_description),
+        uri: maybe(&session.uri),
+        connection: session.connection.as_ref().map(connection),
+        key: key(&session.key),
+        emails: session.emails.iter().map(bytes).collect(),
+        phones: session.phones.iter().map(bytes).collect(),
+        ..Seen::default()
+    };
+    for (time, owner) in session.times.iter().zip(1..) {
+        seen.times.push(Time {
+            start: time.start_time,
+            stop: time.stop_time,
+        });
+        for repeat in &time.repeats {
+            seen.repeats.push(Repeat {
+                owner,
+                interval: repeat.repeat_interval,
+                duration: repeat.active_duration,
+            });
+            let owner = seen.repeats.len() as u64;
+            seen.offsets
+                .extend(repeat.offsets.iter().map(|&value| Offset { owner, value }));
+        }
+    }
+    seen.zones.extend(session.time_zones.iter().map(|zone| Zone {
+        adjustment: zone.adjustment_time,
+        offset: zone.offset,
+    }));
+    owned(&mut seen, 0, &session.bandwidths, &session.attributes);
+    for (media, owner) in session.medias.iter().zip(1..) {
+        seen.medias.push(Media {
+            media: bytes(&media.media),
+            port: u64::from(media.port),
+            num_ports: media.num_ports.map(u64::from),
+            proto: bytes(&media.proto),
+            fmt: bytes(&media.fmt),
+            title: maybe(&media.media_title),
+            key: key(&media.key),
+        });
+        seen.connections.extend(media.connections.iter().map(|read| MediaConnection {
+            owner,
+            connection: connection(read),
+        }));
+        owned(&mut seen, owner, &media.bandwidths, &media.attributes);
+    }
+    seen
+}
+
+fn owned(
+    seen: &mut Seen<Vec<u8>>,
+    owner: u64,
+    bandwidths: &[sdp_types::Bandwidth],
+    attributes: &[sdp_types::Attribute],
+) {
+    seen.bandwidths.extend(bandwidths.iter().map(|read| Bandwidth {
+        owner,
+        bwtype: bytes(&read.bwtype),
+        value: read.bandwidth,
+    }));
+    seen.attributes.extend(attributes.iter().map(|read| Attribute {
+        owner,
+        name: bytes(&read.attribute),
+        value: maybe(&read.value),
+    }));
+}
+
+/// Ours as the crate would have it: the casing folded, and the placeholder where there was no o line.
+pub fn comparable(mut ours: Seen<Vec<u8>>) -> Seen<Vec<u8>> {
+    let fold = |nettype: &mut Vec<u8>, addrtype: &mut Vec<u8>| {
+        *nettype = fold::nettype(nettype);
+        *addrtype = fold::addrtype(addrtype);
+    };
+    let origin = ours.origin.get_or_insert_with(|| Origin {
+        username: None,
+        sess_id: b"0".to_vec(),
+        sess_version: 0,
+        nettype: b"IN".to_vec(),
+        addrtype: b"IP4".to_vec(),
+        unicast_address: b"0.0.0.0".to_vec(),
+    });
+    fold(&mut origin.nettype, &mut origin.addrtype);
+    let of_medias = ours.connections.iter_mut().map(|row| &mut row.connection);
+    for connection in ours.connection.iter_mut().chain(of_medias) {
+        fold(&mut connection.nettype, &mut connection.addrtype);
+    }
+    ours
+}

@@ -1,0 +1,493 @@
+//! Our reader beside the crate: answers, and all that stands in the area afterwards.
+mod page;
+use compare::area::{all_zero, decode, PARTS, SIZE};
+use compare::bench::{Bench, Tally};
+use compare::{area_size, read, Answer};
+use generate::random::{count, from_env};
+use generate::sessions::{self, LONGEST, PAIRS, TABLES};
+use generate::{every_string, texts, Random};
+
+fn bench() -> Bench<fn(&[u8], &mut [u8]) -> Answer> {
+    Bench::new(read)
+}
+
+/// Document 01's way to write a sample: after `v=0`, and for an r line after `t=0 0` too, unless it has its own `v`.
+fn sample(lines: &[&[u8]]) -> Vec<u8> {
+    let before: &[&[u8]] = match lines[0].first() {
+        Some(b'v') => &[],
+        Some(b'r') => &[b"v=0", b"t=0 0"],
+        _ => &[b"v=0"],
+    };
+    [before, lines].concat().join(&b'\n')
+}
+
+/// Number, line and field of a sample; compared with the crate as well.
+fn answer(lines: &[&[u8]]) -> (u64, u64, u64) {
+    let answer = bench().same(&sample(lines));
+    assert!(answer.number == 7 || (answer.place, answer.len) == (0, 0));
+    (answer.number, answer.line, answer.field)
+}
+
+const ACCEPTED: (u64, u64, u64) = (0, 0, 0);
+
+/// Of the tables after an accepted reading.
+fn counts(text: &[u8]) -> [usize; 10] {
+    let mut area = vec![0xa5; SIZE];
+    assert_eq!(read(text, &mut area), Answer::default());
+    decode(&area).unwrap().counts()
+}
+
+#[test]
+fn size() {
+    assert_eq!(area_size(), SIZE);
+}
+
+#[test]
+fn samples() {
+    let mut bench = bench();
+    assert_eq!(bench.same(b"").number, 6);
+    let seven = Answer {
+        number: 7,
+        line: 1,
+        field: 0,
+        place: 2,
+        len: 2,
+    };
+    assert_eq!(bench.same(b"v=0 "), seven);
+    let ones: [(&[&[u8]], (u64, u64, u64)); 31] = [
+        (&[b"v=0"], ACCEPTED),
+        (&[b"v=0\r"], (3, 1, 0)),
+        (&[b"v=0", b"=x"], (5, 2, 0)),
+        (&[b"v=0", b"abc"], (4, 2, 0)),
+        (&[b"v=0", b"t=0 0", b"r=d 1"], (9, 3, 18)),
+        (&[b"r=213503982334601d 1"], ACCEPTED),
+        (&[b"r=213503982334602d 1"], (9, 3, 18)),
+        (&[b"z=0 -9223372036854775808"], ACCEPTED),
+        (&[b"z=0 9223372036854775808"], (9, 2, 22)),
+        (&[b"z=0 -+5"], ACCEPTED),
+        (&[b"z=0 --5"], (9, 2, 22)),
+        (&[b"z=", b"z="], (17, 3, 0)),
+        (&[b"o=- 0 0 IN IP4 h", b"o=junk"], (12, 3, 0)),
+        (&[b"a=x:"], ACCEPTED),
+        (&[b"a=x"], ACCEPTED),
+        (&[b"b=AS:5:"], (11, 2, 14)),
+        (&[b"m=a 65535/ p f"], (9, 2, 30)),
+        (&[b"m=a 65536 p f"], (9, 2, 28)),
+        (&[b"m=a 1 p"], (10, 2, 32)),
+        (&[b"m=a 1 p "], ACCEPTED),
+        (&[b"m=a 1 p f", b"r=junk"], ACCEPTED),
+        (&[b"s=\xed\xa0\x80"], (8, 2, 34)),
+        (&[b"s=\xf4\x8f\xbf\xbf"], ACCEPTED),
+        // what the running crate does where document 01 is short
+        (&[b"c=\xff IP4 h"], (9, 2, 8)),
+        (&[b"t=0 0 \xff"], (11, 2, 17)),
+        (&[b"m=a 1/\xff p f"], (8, 2, 29)),
+        (&[b"t=0\t0"], (9, 2, 15)),
+        (&[b"z=5"], (10, 2, 22)),
+        (&[b"r=\xffd 1"], (8, 3, 18)),
+        (&[b"v=0", b"v=0", b"v=9"], ACCEPTED),
+        (&[b"a=", b"r=x"], (20, 3, 0)),
+    ];
+    for (lines, due) in ones {
+        assert_eq!(answer(lines), due, "{}", sample(lines).escape_ascii());
+    }
+    // values that the samples name
+    let seen = |lines: &[&[u8]]| {
+        let text = sample(lines);
+        let mut area = vec![0xa5; SIZE];
+        assert_eq!(read(&text, &mut area), Answer::default());
+        decode(&area).unwrap().strings(&text).unwrap()
+    };
+    assert_eq!(seen(&[b"r=213503982334601d 1"]).repeats[0].interval, 18_446_744_073_709_526_400);
+    assert_eq!(seen(&[b"z=0 -9223372036854775808"]).zones[0].offset, i64::MIN);
+    assert_eq!(seen(&[b"z=0 -+5"]).zones[0].offset, -5);
+    assert_eq!(seen(&[b"a=x:"]).attributes[0].value.as_deref(), Some(&b""[..]));
+    assert_eq!(seen(&[b"a=x"]).attributes[0].value, None);
+    assert_eq!(seen(&[b"m=a 1 p "]).medias[0].fmt, b"");
+    assert_eq!(seen(&[b"s=\xf4\x8f\xbf\xbf"]).name, b"\xf4\x8f\xbf\xbf");
+    assert_eq!(seen(&[b"v=0"]).origin, None);
+}
+
+#[test]
+fn sample_512_attributes() {
+    let mut lines: Vec<&[u8]> = vec![b"v=0"];
+    lines.resize(513, b"a=x");
+    assert_eq!(answer(&lines), ACCEPTED);
+    lines.push(b"a=x");
+    assert_eq!(answer(&lines), (21, 514, 9));
+    lines[513] = b"a=\xff";
+    assert_eq!(answer(&lines), (8, 514, 23));
+}
+
+/// docs/AREA.md has the text of `canon` in document 01 as its example.
+#[test]
+fn the_page_s_example() {
+    let (text, cells) = page::example();
+    bench().same(&text);
+    let mut area = vec![0xa5; SIZE];
+    assert_eq!(read(&text, &mut area), Answer::default());
+    assert_eq!(area, cells);
+}
+
+/// A line for each table that adds one record, and the same with a bad value and its refusal.
+const ONE: [(&[u8], &[u8], (u64, u64)); 10] = [
+    (b"e=x", b"e=\xff", (8, 37)),
+    (b"p=x", b"p=\xff", (8, 38)),
+    (b"c=IN IP4 h", b"c=IN IP4 h x", (11, 11)),
+    (b"b=AS:1", b"b=AS:", (9, 13)),
+    (b"t=0 0", b"t=0", (10, 16)),
+    (b"r=1 1", b"r=1", (10, 19)),
+    (b"r=1 1 1", b"r=1 1 1 x", (9, 20)),
+    (b"z=0 1", b"z=0 1 0", (10, 22)),
+    (b"a=x", b"a=x:\xff", (8, 24)),
+    (b"m=a 1 p f", b"m=a 1 p", (10, 32)),
+];
+
+#[test]
+fn each_table_at_its_limit_and_one_over() {
+    let mut random = Random::of_test("tables");
+    let mut bench = bench();
+    let (mut compared, mut full) = (0, [0; 10]);
+    for _ in 0..count(20) {
+        for table in 1..=10usize {
+            for (records, over) in [(TABLES[table - 1], false), (TABLES[table - 1] + 1, true)] {
+                let (mut session, mut media) = (vec![b"v=0".to_vec()], Vec::new());
+                sessions::fill(&mut random, table, records, &mut session, &mut media);
+                // for 6 a line with more offsets than fit may stand at the end
+                session.retain(|line| table != 6 || line.len() < 500);
+                let lines = [&session[..], &media].concat();
+                let text = sessions::ended(&mut random, &lines);
+                let text = text.strip_suffix(b"\r").unwrap_or(&text);
+                let answer = bench.same(text);
+                compared += 1;
+                if over {
+                    assert_eq!((answer.number, answer.field), (21, table as u64));
+                    full[table - 1] += 1;
+                } else {
+                    assert_eq!(answer.number, 0, "{answer:?}");
+                    assert_eq!(counts(text)[table - 1], records);
+                }
+            }
+        }
+    }
+    println!("tables: {compared} texts, {full:?} full");
+}
+
+#[test]
+fn a_bad_value_comes_before_a_full_table() {
+    let m: &[u8] = b"m=a 1 p f";
+    for (table, (good, bad, (number, field))) in (1..).zip(ONE) {
+        let mut lines: Vec<&[u8]> = vec![b"v=0"];
+        if b"rt".contains(&good[0]) && table != 5 {
+            lines.push(b"t=0 0");
+        }
+        let many_zones = format!("z={}", "0 1 ".repeat(65)).into_bytes();
+        let bad_zones = [&many_zones[..], b"0"].concat();
+        let many_offsets = format!("r=1 1{}", " 1".repeat(257)).into_bytes();
+        let bad_offsets = [&many_offsets[..], b" x"].concat();
+        let (over, bad): (&[u8], &[u8]) = match table {
+            7 => (&many_offsets, &bad_offsets),
+            8 => (&many_zones, &bad_zones),
+            3 => {
+                lines.push(m);
+                lines.resize(lines.len() + 64, good);
+                (good, bad)
+            }
+            _ => {
+                lines.resize(lines.len() + TABLES[table - 1], good);
+                (good, bad)
+            }
+        };
+        let line = lines.len() as u64 + 1;
+        let with = |last: &[u8]| answer(&[&lines[..], &[last]].concat());
+        assert_eq!(with(over), (21, line, table as u64));
+        assert_eq!(with(bad), (number, line, field));
+        // what follows doesn't matter any more
+        assert_eq!(answer(&[&lines[..], &[over, b"nothing", bad]].concat()), (21, line, table as u64));
+    }
+}
+
+#[test]
+fn two_full_tables() {
+    // one line that overflows both: the lower number
+    let mut lines: Vec<&[u8]> = vec![b"v=0", b"t=0 0"];
+    let many = format!("r=1 1{}", " 0".repeat(257)).into_bytes();
+    lines.resize(2 + 64, b"r=1 1");
+    assert_eq!(answer(&lines), ACCEPTED);
+    assert_eq!(answer(&[&lines[..], &[&many]].concat()), (21, 67, 6));
+    lines.pop();
+    assert_eq!(answer(&[&lines[..], &[&many]].concat()), (21, 66, 7));
+    // two tables full before it: the one that the line is for
+    let singles: [(usize, &[u8]); 6] = [
+        (1, b"e=x"),
+        (2, b"p=x"),
+        (4, b"b=AS:1"),
+        (5, b"t=0 0"),
+        (9, b"a=x"),
+        (10, b"m=a 1 p f"),
+    ];
+    let mut compared = 0;
+    for (first, one) in singles {
+        for (second, other) in singles {
+            let (mut lines, mut more): (Vec<&[u8]>, Vec<&[u8]>) = (vec![b"v=0"], Vec::new());
+            for (table, line) in [(first, one), (second, other)] {
+                let to = if table == 10 { &mut more } else { &mut lines };
+                to.resize(to.len() + TABLES[table - 1], line);
+            }
+            if first == second {
+                continue;
+            }
+            let lines = [lines, more].concat();
+            assert_eq!(answer(&lines), ACCEPTED);
+            // after a media line the session's own letters are ignored
+            let due = |table: usize, line: &[u8]| match (first == 10 || second == 10, line[0]) {
+                (true, b'e' | b'p' | b't') => ACCEPTED,
+                _ => (21, lines.len() as u64 + 1, table as u64),
+            };
+            for (table, line) in [(first, one), (second, other)] {
+                assert_eq!(answer(&[&lines[..], &[line]].concat()), due(table, line));
+                compared += 1;
+            }
+        }
+    }
+    println!("two full tables: {compared} texts");
+    assert_eq!(compared, 6 * 5 * 2);
+}
+
+#[test]
+fn each_pair_of_number_and_field() {
+    let mut random = Random::of_test("read pairs");
+    let mut bench = bench();
+    let mut tally = Tally::default();
+    for (number, field) in PAIRS {
+        for _ in 0..count(60) {
+            let (letter, value) = sessions::aimed(&mut random, number, field);
+            let line = sessions::line(letter, &value);
+            let mut lines: Vec<&[u8]> = vec![b"v=0"];
+            match letter {
+                b'r' => lines.push(b"t=0 0"),
+                b'i' if field == 33 => lines.push(b"m=a 1 p f"),
+                _ => {}
+            }
+            lines.push(&line);
+            let answer = bench.same(&lines.join(&b'\n'));
+            tally.add(answer);
+            let text = sessions::aimed_text(&mut random, number, field);
+            tally.add(bench.same(&text));
+        }
+    }
+    println!("pairs:\n{tally}");
+    for pair in PAIRS {
+        assert!(tally.0.get(&pair).map_or(false, |seen| *seen >= count(60)), "few of {pair:?}");
+    }
+    let mut others = tally.0.keys().filter(|pair| (8..=11).contains(&pair.0) && !PAIRS.contains(pair));
+    assert_eq!(others.next(), None, "no other pair can occur");
+}
+
+/// Every short value of every letter in use, in the session and in a media.
+#[test]
+fn every_short_value() {
+    let mut bench = bench();
+    let mut tally = Tally::default();
+    for before in [&b"v=0\nt=0 0\n"[..], b"v=0\nm=a 1 p f\n"] {
+        for letter in *b"vosiuepcbtrzkamx" {
+            let few = b"osiuepvx".contains(&letter);
+            every_string(b" 1:/-+d\xff(", if few { 3 } else { 4 }, |value| {
+                let text = [before, &[letter, b'='], value].concat();
+                tally.add(bench.same(&text));
+            });
+        }
+    }
+    println!("short values:\n{tally}");
+    assert!(tally.of(0) > 10_000 && tally.of(8) > 10_000 && tally.of(9) > 10_000);
+}
+
+#[test]
+fn every_short_text() {
+    let mut bench = bench();
+    let mut tally = Tally::default();
+    every_string(b"v=0\n\r\0", 6, |text| tally.add(bench.same(text)));
+    println!("short texts:\n{tally}");
+    assert!([0, 3, 4, 5, 6, 7].iter().all(|number| tally.of(*number) > 0));
+}
+
+#[test]
+fn the_longest_texts() {
+    let mut random = Random::of_test("longest");
+    let mut bench = bench();
+    let mut seen = [[0; 2]; 3];
+    for _ in 0..count(40) {
+        for (at, due) in [LONGEST - 1, LONGEST, LONGEST + 1].into_iter().enumerate() {
+            let good = sessions::good(&mut random);
+            let (number, field) = PAIRS[random.below(PAIRS.len())];
+            let texts = [
+                sessions::ended(&mut random, &good),
+                sessions::aimed_text(&mut random, number, field),
+                b"v=0\n".to_vec(),
+                b"v=0\ns=".to_vec(),
+            ];
+            for text in texts {
+                let text = sessions::lengthened(&mut random, text, due);
+                assert_eq!(text.len(), due);
+                let answer = bench.same(&text);
+                seen[at][usize::from(answer.number != 0)] += 1;
+                assert_eq!(answer.number == 1, due > LONGEST);
+            }
+            // all of it in one value, and nothing but empty lines
+            let mut text = b"v=0\ns=".to_vec();
+            text.resize(due, b'x');
+            assert_eq!(bench.same(&text).number, u64::from(due > LONGEST));
+            assert_eq!(bench.same(&vec![b'\n'; due]).number, if due > LONGEST { 1 } else { 6 });
+        }
+    }
+    println!("longest: accepted and refused {seen:?} at 32,767, 32,768 and 32,769 bytes");
+    assert!(seen[0][0] > 0 && seen[0][1] > 0 && seen[1][0] > 0 && seen[1][1] > 0 && seen[2][0] == 0);
+}
+
+/// Accepted, refused at a late line, refused at once, and too long.
+fn four_texts() -> [(Vec<u8>, u64); 4] {
+    [
+        (sample(&[b"s=x", b"e=y", b"a=b:c", b"m=a 1/2 p f", b"a=z", b"k=q"]), 0),
+        (sample(&[b"s=x", b"e=y", b"m=a 1 p f", b"i=z", b"i=z"]), 18),
+        (b"".to_vec(), 6),
+        (vec![b'\n'; LONGEST + 1], 1),
+    ]
+}
+
+#[test]
+fn areas_of_every_length() {
+    let two = Answer {
+        number: 2,
+        ..Answer::default()
+    };
+    let pattern: Vec<u8> = (0..SIZE + 300).map(|at| (at * 31) as u8 | 1).collect();
+    let mut tried = 0;
+    for (text, number) in four_texts() {
+        // too short: 2 comes before 1, and nothing is written
+        for len in (0..300).chain([SIZE / 2, SIZE - 2, SIZE - 1]) {
+            let mut area = pattern[..len].to_vec();
+            assert_eq!(read(&text, &mut area), two, "an area of {len} bytes");
+            assert_eq!(area, pattern[..len]);
+            tried += 1;
+        }
+        // exact and longer: the same answer and the same area, and what stands beyond stays
+        let mut exact = pattern[..SIZE].to_vec();
+        let answer = read(&text, &mut exact);
+        assert_eq!(answer.number, number);
+        for more in [1, 2, 7, 8, 300] {
+            let mut area = pattern[..SIZE + more].to_vec();
+            assert_eq!(read(&text, &mut area), answer);
+            assert_eq!(area[..SIZE], exact);
+            assert_eq!(area[SIZE..], pattern[SIZE..SIZE + more]);
+            tried += 1;
+        }
+        match number {
+            0 => assert!(decode(&exact).is_ok()),
+            1 => assert_eq!(exact, pattern[..SIZE]),
+            _ => assert!(all_zero(&exact)),
+        }
+        // whatever the area held before
+        for byte in [0, 1, 0x7f, 0x80, 0xff] {
+            let mut area = vec![byte; SIZE];
+            assert_eq!(read(&text, &mut area), answer);
+            assert!(number == 1 && area == vec![byte; SIZE] || number != 1 && area == exact);
+            tried += 1;
+        }
+    }
+    println!("areas: {tried} tried");
+}
+
+/// One reading leaves nothing for the next.
+#[test]
+fn an_area_is_used_again() {
+    let mut random = Random::of_test("again");
+    let mut used = vec![0; SIZE];
+    let (mut compared, mut accepted) = (0, 0);
+    for _ in 0..count(2_000) {
+        let text = sessions::text(&mut random);
+        let mut fresh = used.clone();
+        fresh.fill(0);
+        let before = used.clone();
+        let (first, second) = (read(&text, &mut used), read(&text, &mut fresh));
+        assert_eq!(first, second);
+        if first.number == 1 {
+            assert_eq!(used, before);
+        } else {
+            assert_eq!(used, fresh);
+        }
+        compared += 1;
+        accepted += u64::from(first.number == 0);
+    }
+    println!("areas: {compared} readings into a used area, {accepted} accepted");
+    assert!(accepted * 5 > compared);
+}
+
+/// Good texts, and copies of them with more and more damage.
+#[test]
+fn good_texts_and_damaged_copies() {
+    let mut random = Random::of_test("copies");
+    let mut bench = bench();
+    let (mut good, mut tally) = (0u64, Tally::default());
+    for _ in 0..count(8_000) {
+        let lines = sessions::good(&mut random);
+        let mut text = sessions::ended(&mut random, &lines);
+        if text.last() != Some(&b'\r') {
+            assert_eq!(bench.same(&text).number, 0, "{}", text.escape_ascii());
+            good += 1;
+        }
+        for _ in 0..3 {
+            sessions::damage(&mut random, &mut text);
+            tally.add(bench.same(&text));
+        }
+    }
+    println!("copies: {good} good texts accepted, and damaged copies:\n{tally}");
+    assert!(good > 0 && tally.of(0) > 0 && tally.of(0) < tally.all());
+}
+
+/// The main run: at least a hundred thousand texts unless `COUNT` says otherwise.
+#[test]
+fn generated() {
+    let seed = from_env("SEED", 8866);
+    let texts = count(120_000);
+    println!("read: seed {seed}");
+    let mut bench = bench();
+    let mut tally = Tally::default();
+    for number in 0..texts {
+        let text = sessions::nth(seed, number);
+        match bench.compare(&text) {
+            Ok(answer) => tally.add(answer),
+            Err(_) => panic!("text {number} of seed {seed}: {}", bench.smallest(&text)),
+        }
+    }
+    println!("read: {texts} generated texts compared\n{tally}");
+    assert!(tally.of(0) * 5 > texts && tally.of(0) * 5 < texts * 4, "both sides are reached well");
+    if texts >= 100_000 {
+        for number in (3..=21).chain([0, 1]) {
+            assert!(tally.of(number) >= 36, "few answers {number}");
+        }
+        for pair in PAIRS {
+            assert!(tally.0.get(&pair).map_or(false, |seen| *seen >= 36), "few answers {pair:?}");
+        }
+        for table in 1..=10 {
+            assert!(tally.0.get(&(21, table)).map_or(false, |seen| *seen >= 12), "table {table} is full too seldom");
+        }
+    }
+}
+
+/// The other generators' texts, which are nearer to noise.
+#[test]
+fn lines_and_plain_texts() {
+    let mut random = Random::of_test("lines");
+    let mut bench = bench();
+    let mut tally = Tally::default();
+    for _ in 0..count(10_000) {
+        let mut lines = texts::lines(&mut random);
+        tally.add(bench.same(&lines));
+        lines.splice(..0, b"v=0\n".iter().copied());
+        tally.add(bench.same(&lines));
+        tally.add(bench.same(&texts::text(&mut random)));
+    }
+    println!("lines and plain texts:\n{tally}");
+    assert!(tally.of(0) > 0 && tally.of(6) > 0);
+    assert_eq!(PARTS[6..].iter().map(|part| part.rows).collect::<Vec<_>>(), TABLES);
+}
