@@ -97,6 +97,7 @@ segments s =
     ∷ tab 32 36 mediaRow (s .tables .medias)
     ∷ []
 
+-- the bytes of a session
 unfoldable pub encode : Session Span → List ℕ
 encode s = cat (segments s)
 
@@ -104,51 +105,66 @@ encode s = cat (segments s)
 abbrev pub size : ℕ
 size = 14558
 
--- where each segment begins
+-- where each segment begins; the last has 2 + 32 * 36 bytes
 abbrev pub originAt : ℕ
 originAt = 0
 
+-- 2 + 30 bytes on
 abbrev pub nameAt : ℕ
 nameAt = 32
 
+-- 4 bytes on
 abbrev pub descriptionAt : ℕ
 descriptionAt = 36
 
+-- 2 + 4 bytes on
 abbrev pub uriAt : ℕ
 uriAt = 42
 
+-- 2 + 4 bytes on
 abbrev pub connectionAt : ℕ
 connectionAt = 48
 
+-- 2 + 12 bytes on
 abbrev pub keyAt : ℕ
 keyAt = 62
 
+-- 2 + 10 bytes on
 abbrev pub emailsAt : ℕ
 emailsAt = 74
 
+-- 2 + 16 * 4 bytes on
 abbrev pub phonesAt : ℕ
 phonesAt = 140
 
+-- 2 + 16 * 4 bytes on
 abbrev pub connectionsAt : ℕ
 connectionsAt = 206
 
+-- 2 + 64 * 14 bytes on
 abbrev pub bandwidthsAt : ℕ
 bandwidthsAt = 1104
 
+-- 2 + 64 * 14 bytes on
 abbrev pub timesAt : ℕ
 timesAt = 2002
 
+-- 2 + 32 * 16 bytes on
 abbrev pub repeatsAt : ℕ
 repeatsAt = 2516
 
+-- 2 + 64 * 18 bytes on
 abbrev pub offsetsAt : ℕ
 offsetsAt = 3670
 
+-- 2 + 256 * 10 bytes on
 abbrev pub zonesAt : ℕ
 zonesAt = 6232
 
+-- 2 + 64 * 16 bytes on
 abbrev pub attributesAt : ℕ
 attributesAt = 7258
 
+-- 2 + 512 * 12 bytes on
 abbrev pub mediasAt : ℕ
 mediasAt = 13404

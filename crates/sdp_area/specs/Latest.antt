@@ -30,12 +30,13 @@ abbrev pub given : {X : Type 0} → Option X → Bool
 given none = false
 given (some x) = true
 
--- whether the latest media has a title, and a key
+-- whether the latest media has a title
 unfoldable pub lastTitled : {S : Type 0} → List (Media S) → Bool
 lastTitled [] = false
 lastTitled (m ∷ []) = given (m .mediaTitle)
 lastTitled (m ∷ n ∷ ms) = lastTitled (n ∷ ms)
 
+-- and whether it has a key
 unfoldable pub lastKeyed : {S : Type 0} → List (Media S) → Bool
 lastKeyed [] = false
 lastKeyed (m ∷ []) = given (m .key)

@@ -5,6 +5,7 @@ use mathlib.Core.List.{List, []}
 use mathlib.Core.Option.{Option, none}
 use lib.ListN.{length}
 
+-- an o line
 pub record Origin (S : Type 0) : Type 0 where
   pub username : Option S
   pub sessId : S
@@ -13,49 +14,58 @@ pub record Origin (S : Type 0) : Type 0 where
   pub addrtype : S
   pub unicastAddress : S
 
+-- a c line
 pub record Connection (S : Type 0) : Type 0 where
   pub nettype : S
   pub addrtype : S
   pub connectionAddress : S
 
+-- a k line; without a colon it has no key
 pub record Key (S : Type 0) : Type 0 where
   pub method : S
   pub encryptionKey : Option S
 
+-- a c line of a media
 -- "Bandwidths, connections and attributes name their owner (0 the session, else the media; never 0 for connections), repeats their time,
 -- offsets their repeat, counted from 1"
 pub record MediaConnection (S : Type 0) : Type 0 where
   pub owner : ℕ
   pub connection : Connection S
 
+-- a b line
 pub record Bandwidth (S : Type 0) : Type 0 where
   pub owner : ℕ
   pub bwtype : S
   pub bandwidth : ℕ
 
+-- a t line
 pub record Time : Type 0 where
   pub startTime : ℕ
   pub stopTime : ℕ
 
+-- an r line without its offsets
 pub record Repeat : Type 0 where
   pub owner : ℕ
   pub repeatInterval : ℕ
   pub activeDuration : ℕ
 
+-- an offset of an r line
 pub record Offset : Type 0 where
   pub owner : ℕ
   pub offset : ℕ
 
--- the offset as the 64 bits of an i64
+-- a pair of the z line; the offset as the 64 bits of an i64
 pub record Zone : Type 0 where
   pub adjustmentTime : ℕ
   pub offset : ℕ
 
+-- an a line; `a=x:` has an empty value, `a=x` has none
 pub record Attribute (S : Type 0) : Type 0 where
   pub owner : ℕ
   pub attribute : S
   pub value : Option S
 
+-- an m line with its i and k lines
 pub record Media (S : Type 0) : Type 0 where
   pub media : S
   pub port : ℕ
@@ -87,6 +97,7 @@ pub record Tables (S : Type 0) : Type 0 where
   pub attributes : List (Attribute S)
   pub medias : List (Media S)
 
+-- a whole session
 pub record Session (S : Type 0) : Type 0 where
   pub head : Head S
   pub tables : Tables S
