@@ -8,11 +8,11 @@ ghost use Rattle.sdp_area.specs.Area.{size};
 ghost use Rattle.sdp_read.specs.Run.{readText};
 ghost use Rattle.sdp.specs.Boundary.{numeralOf, cursorAt, pieceOf};
 use sdp_bytes::number::Number;
+use sdp_lines::Answer;
 use sdp_lines::Cursor;
 use sdp_lines::Cut;
 use sdp_lines::LineNumber;
 use sdp_lines::Place;
-use sdp_read::Answer;
 
 // A number that was read: refusal number 0 and the value, or 8 or 9 and 0.
 #[repr(C)]

@@ -18,6 +18,16 @@ pub struct Span {
     pub len: usize,
 }
 
+// What reading and writing answer: number 0 accepts; what a number does not name is 0.
+#[repr(C)]
+pub struct Answer {
+    pub number: u64,
+    pub line: u64,
+    pub field: u64,
+    pub place: u64,
+    pub len: u64,
+}
+
 // Where a line is due, and its number.
 pub struct Cursor {
     pub at: Place,

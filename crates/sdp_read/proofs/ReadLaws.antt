@@ -16,7 +16,7 @@ use Rattle.sdp_step.specs.Strings.{spanAt}
 use Rattle.sdp_step.specs.Step.{fresh}
 use Rattle.sdp_read.specs.Run.{Verdict, accepted, refused, answer, lines, outcomeOf, readText}
 use Rattle.sdp_read.specs.From.{runAt, beginAt, Left}
-use Rattle.sdp_read.specs.declared.Answer.{Answer}
+use Rattle.sdp_lines.specs.declared.Answer.{Answer}
 use Rattle.sdp_read.specs.declared.Ended.the-variants.{Accepted, Stopped}
 
 -- the answer x and the area b are what readText says

@@ -15,7 +15,7 @@ use Rattle.sdp_area.specs.Session.{Session}
 use Rattle.sdp_area.specs.Area.{encode, size}
 use Rattle.sdp_step.specs.Strings.{spanAt}
 use Rattle.sdp_step.specs.Step.{Reading, Stepped, goes, stops, step, fresh}
-use Rattle.sdp_read.specs.declared.Answer.{Answer}
+use Rattle.sdp_lines.specs.declared.Answer.{Answer}
 
 -- what reading a text says: a session, or the refusal
 pub data Verdict (S : Type 0) : Type 0 where

@@ -5,12 +5,13 @@ ghost use Prim.Native.Nat.{ℕ, _+_, _≤_};
 ghost use lib.ListN.{length};
 ghost use Rattle.sdp_area.specs.Session.{empty};
 ghost use Rattle.sdp_area.specs.Area.{encode, size};
-ghost use Rattle.sdp_step.specs.Strings.{bytesOf};
+ghost use Rattle.sdp_lines.specs.Strings.{bytesOf};
 ghost use Rattle.sdp_step.specs.Step.{fresh};
 ghost use Rattle.sdp_read.specs.Run.{answer, readText};
 ghost use Rattle.sdp_read.specs.From.{Reached, runAt, versionLine, Begun, Left};
 use sdp_area::SIZE;
 use sdp_area::clear;
+use sdp_lines::Answer;
 use sdp_lines::Cursor;
 use sdp_lines::Cut;
 use sdp_lines::LineNumber;
@@ -19,16 +20,6 @@ use sdp_lines::fault_number;
 use sdp_step::Marks;
 use sdp_step::Taken;
 use sdp_step::take_line;
-
-// The answer of reading: number 0 accepts; what a refusal does not name is 0.
-#[repr(C)]
-pub struct Answer {
-    pub number: u64,
-    pub line: u64,
-    pub field: u64,
-    pub place: u64,
-    pub len: u64,
-}
 
 // How the lines ended.
 pub enum Ended {

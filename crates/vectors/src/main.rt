@@ -7,9 +7,9 @@ use libc::STDIN_FILENO;
 use libc::STDOUT_FILENO;
 use sdp::Numeral;
 use sdp::Piece;
+use sdp_lines::Answer;
 use sdp_lines::Cursor;
 use sdp_lines::Cut;
-use sdp_read::Answer;
 
 fn letter_out(b: u8) {
     io::write_all(STDOUT_FILENO, &[b]);

@@ -1,0 +1,20 @@
+-- Rows of a fixed width, read from any bytes.
+use mathlib.Core.List.{List, [], _∷_}
+use mathlib.Core.Bool.{cond}
+use mathlib.Core.Option.{Option, none, some}
+use Prim.Native.Nat.{ℕ, zero, suc, _+_}
+use lib.Dec.{eqb}
+use Rattle.sdp_area.specs.Bytes.{num}
+
+-- n rows of w bytes each, from place p on
+unfoldable pub rowsAt : {X : Type 0} → (List ℕ → ℕ → X) → ℕ → ℕ → List ℕ → ℕ → List X
+rowsAt rd w zero a p = []
+rowsAt rd w (suc n) a p = rd a p ∷ rowsAt rd w n a (p + w)
+
+-- a table: its count in two bytes, then its rows
+abbrev pub table : {X : Type 0} → (List ℕ → ℕ → X) → ℕ → List ℕ → ℕ → List X
+table rd w a base = rowsAt rd w (num 2 a base) a (base + 2)
+
+-- what may be absent: a mark, 0 for absent, and what it marks
+unfoldable pub marked : {X : Type 0} → (List ℕ → ℕ → X) → List ℕ → ℕ → Option X
+marked rd a p = cond (eqb (num 2 a p) 0) none (some (rd a (p + 2)))

@@ -1,0 +1,1 @@
+// Whether the session in a record area can be written.

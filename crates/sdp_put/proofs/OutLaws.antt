@@ -1,0 +1,115 @@
+-- Laws of a bounded output: none of them asks for room. Assumes nothing.
+use mathlib.Core.Path.{_≡_, refl, sym, ap, ap₂, _∙_}
+use mathlib.Core.Bool.{Bool, true, false}
+use mathlib.Core.List.{List, [], _∷_, _++_}
+use Prim.Native.Nat.{ℕ, zero, suc, _+_, _-_, _≤_, _<_, _^_, min}
+use native.Mathlib.Nat.{add-suc, suc-add, add-zero}
+use native.Mathlib.Omega.{arith}
+use lib.ListN.{length, drop, set, length-append, length-set}
+use lib.Seq.{sets, sets-eq, length-sets, set-out}
+use lib.Dec.{ltb}
+use borrow.Author.Tests.{ltb-true, ltb-false}
+use Rattle.sdp_put.specs.Out.{put, placed, Put}
+
+sets-next : (xs ys o : List ℕ) (i : ℕ) → sets (sets o i xs) (i + length xs) ys ≡ sets o i (xs ++ ys)
+sets-next [] ys o i = ap (λ (k : ℕ). sets o k ys) (add-zero i)
+sets-next (x ∷ xs) ys o i =
+    ap (λ (k : ℕ). sets (sets (set o i x) (suc i) xs) k ys) (add-suc i (length xs) ∙ sym (suc-add i (length xs)))
+    ∙ sets-next xs ys (set o i x) (suc i)
+
+put-next : (o xs ys : List ℕ) (i : ℕ) → put (put o i xs) (i + length xs) ys ≡ put o i (xs ++ ys)
+unfolding put
+put-next o xs ys i = sets-next xs ys o i
+
+pub length-put : (o : List ℕ) (at : ℕ) (bs : List ℕ) → length (put o at bs) ≡ length o
+unfolding put
+length-put o at bs = length-sets o at bs
+
+-- past the end nothing changes: this is how the length is found
+pub put-out : (bs o : List ℕ) (at : ℕ) → length o ≤ at → put o at bs ≡ o
+unfolding put
+put-out [] o at h = refl
+put-out (b ∷ bs) o at h =
+    put-out bs (set o at b) (suc at) (omega (arith, length-set o at b)) ∙ set-out o at b h
+
+-- with room, the bytes stand where they were put, and nothing else changed
+pub put-room : (bs o : List ℕ) → length bs ≤ length o → put o 0 bs ≡ bs ++ drop (length bs) o
+unfolding put
+put-room bs o h =
+    sets-eq bs o 0 (omega arith)
+    ∙ ap (λ (k : ℕ). bs ++ drop k o) (let e : 0 + length bs ≡ length bs = omega arith in e)
+
+-- a slice never reaches the machine's last place
+put-placed : (a ys : List ℕ) (k : ℕ) → length a < 2 ^ 64 → put a (placed k) ys ≡ put a k ys
+put-placed a ys k l = go (ltb k (2 ^ 64 - 1)) refl
+  where
+    go : (b : Bool) → ltb k (2 ^ 64 - 1) ≡ b → put a (placed k) ys ≡ put a k ys
+    go true e = let h = ltb-true k (2 ^ 64 - 1) e in ap (λ (n : ℕ). put a n ys) (let z : placed k ≡ k = omega arith in z)
+    go false e =
+        let h = ltb-false k (2 ^ 64 - 1) e in
+        put-out ys a (placed k) (omega arith) ∙ sym (put-out ys a k (omega arith))
+
+put-both : (o xs ys : List ℕ) (at : ℕ) → length o < 2 ^ 64 → put (put o at xs) (placed (at + length xs)) ys ≡ put o at (xs ++ ys)
+put-both o xs ys at l = put-placed (put o at xs) ys (at + length xs) (omega (arith, length-put o at xs)) ∙ put-next o xs ys at
+
+-- ---- one piece after the other
+infixr 20 _then_
+pub _then_ : {o o₁ o₂ xs ys : List ℕ} {at r₁ r₂ : ℕ} → Put o at xs o₁ r₁ → Put o₁ r₁ ys o₂ r₂ → Put o at (xs ++ ys) o₂ r₂
+_then_ {o} {o₁} {o₂} {xs} {ys} {at} {r₁} {r₂} p q =
+    record {
+      puts = λ l h.
+          let f = p .puts l h in
+          let n : length o₁ ≡ length o = ap length (f .0) ∙ length-put o at xs in
+          let g = q .puts (omega arith) (omega (arith, f .1)) in
+          (g .0 ∙ ap₂ (λ (a : List ℕ) (k : ℕ). put a k ys) (f .0) (f .1) ∙ put-both o xs ys at l, omega (arith, length-append xs ys, f .1, g .1));
+    }
+
+pub said : {o o₁ xs ys : List ℕ} {at r : ℕ} → xs ≡ ys → Put o at xs o₁ r → Put o at ys o₁ r
+said {o} {o₁} {xs} {ys} {at} {r} e p = rw (← e) p
+
+-- nothing was put
+pub nothing : (o : List ℕ) (at : ℕ) → Put o at [] o at
+unfolding put
+nothing o at = record { puts = λ l h. (refl, omega arith) }
+
+pub byte-in : (o : List ℕ) (at b : ℕ) → at < length o → Put o at (b ∷ []) (set o at b) (at + 1)
+unfolding put
+byte-in o at b i = record { puts = λ l h. (refl, omega arith) }
+
+pub byte-out : (o : List ℕ) (at b r : ℕ) → length o ≤ at → r ≡ placed (at + 1) → Put o at (b ∷ []) o r
+byte-out o at b r i e = record { puts = λ l h. (sym (put-out (b ∷ []) o at i), e) }
+
+-- ---- what is left to be put: the invariant of a loop
+pub record Same (o₀ : List ℕ) (at₀ : ℕ) (whole : List ℕ) (o : List ℕ) (at : ℕ) (rest : List ℕ) : Type 0 where
+  pub puts : length o₀ < 2 ^ 64 → at₀ < 2 ^ 64 → (put o₀ at₀ whole ≡ put o at rest) × (placed (at₀ + length whole) ≡ placed (at + length rest)) × (length o ≡ length o₀) × (at < 2 ^ 64)
+
+-- rest is xs and then ys. (A record, so that a use of it says what xs and ys are.)
+pub record Cut (rest xs ys : List ℕ) : Type 0 where
+  pub is : rest ≡ xs ++ ys
+
+pub begin : {o bs bs′ : List ℕ} {at : ℕ} → bs ≡ bs′ → Same o at bs o at bs′
+begin {o} {bs} {bs′} {at} e = record { puts = λ l h. (ap (put o at) e, ap (λ (s : List ℕ). placed (at + length s)) e, refl, h) }
+
+pub turn : {o₀ bs₀ o o′ xs ys rest : List ℕ} {at₀ at r : ℕ} → Same o₀ at₀ bs₀ o at rest → Cut rest xs ys → Put o at xs o′ r → Same o₀ at₀ bs₀ o′ r ys
+turn {o₀} {bs₀} {o} {o′} {xs} {ys} {rest} {at₀} {at} {r} s e p =
+    record {
+      puts = λ l h.
+          let f = s .puts l h in
+          let fits : length o < 2 ^ 64 = omega (arith, f .2) in
+          let g = p .puts fits (f .3) in
+          let n : length o′ ≡ length o = ap length (g .0) ∙ length-put o at xs in (
+            f .0 ∙ ap (put o at) (e .is) ∙ sym (put-both o xs ys at fits) ∙ sym (ap₂ (λ (a : List ℕ) (k : ℕ). put a k ys) (g .0) (g .1)),
+            omega (arith, length-append xs ys, ap length (e .is), f .1, g .1),
+            n ∙ f .2,
+            omega (arith, g .1),
+          );
+    }
+
+pub finish : {o₀ bs₀ o rest : List ℕ} {at₀ at : ℕ} → Same o₀ at₀ bs₀ o at rest → rest ≡ [] → Put o₀ at₀ bs₀ o at
+unfolding put
+finish {o₀} {bs₀} {o} {rest} {at₀} {at} s e =
+    record {
+      puts = λ l h.
+          let f = s .puts l h in
+          (sym (f .0 ∙ ap (put o at) e), omega (arith, ap length e, f .1, f .3));
+    }

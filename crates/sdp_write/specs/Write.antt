@@ -1,0 +1,39 @@
+-- Document 01, "Writing", "Refusal numbers": what writing answers and what it leaves in the output.
+use Prim.Native.Nat.{ℕ}
+use mathlib.Core.Bool.{cond}
+use mathlib.Core.List.{List, _++_}
+use lib.ListN.{length, drop}
+use lib.Dec.{ltb}
+use Rattle.sdp_lines.specs.Strings.{bytesOf}
+use Rattle.sdp_lines.specs.declared.Answer.{Answer}
+use Rattle.sdp_area.specs.Area.{size}
+use Rattle.sdp_cells.specs.Decode.{decode}
+use Rattle.sdp_judge.specs.Judge.{wellFormed}
+use Rattle.sdp_write.specs.Written.{written}
+
+-- "Acceptance is 0, for writing with the length"; "22 output too short: length needed"
+abbrev pub answer : ℕ → ℕ → Answer
+answer number len = record { number = number; line = 0; field = 0; place = 0; len = len }
+
+-- the text that an area says
+abbrev pub textOf : List ℕ → List ℕ → List ℕ
+textOf t a = written (bytesOf t) (decode a)
+
+-- the answer, and the output afterwards
+pub record Outcome : Type 0 where
+  pub answer : Answer
+  pub out : List ℕ
+
+-- w is written where it fits. "success changes only the bytes written"
+abbrev pub fill : List ℕ → List ℕ → Outcome
+fill w o =
+    cond (ltb (length o) (length w))
+    (record { answer = answer 22 (length w); out = o })
+    (record { answer = answer 0 (length w); out = w ++ drop (length w) o })
+
+-- "for writing 2, 1, 23, 22"; "a refusal leaves the output as found"
+unfoldable pub writeText : List ℕ → List ℕ → List ℕ → Outcome
+writeText t a o =
+    cond (ltb (length a) size) (record { answer = answer 2 0; out = o })
+    (cond (ltb 32768 (length t)) (record { answer = answer 1 0; out = o })
+    (cond (wellFormed a t) (fill (textOf t a) o) (record { answer = answer 23 0; out = o })))
