@@ -16,37 +16,37 @@ use sdp_lines::Span;
 // Bytes of the area.
 pub const SIZE: usize = 14558;
 
-const ORIGIN: usize = 0;
+pub const ORIGIN: usize = 0;
 
-const NAME: usize = 32;
+pub const NAME: usize = 32;
 
-const DESCRIPTION: usize = 36;
+pub const DESCRIPTION: usize = 36;
 
-const URI: usize = 42;
+pub const URI: usize = 42;
 
-const CONNECTION: usize = 48;
+pub const CONNECTION: usize = 48;
 
-const KEY: usize = 62;
+pub const KEY: usize = 62;
 
-const EMAILS: usize = 74;
+pub const EMAILS: usize = 74;
 
-const PHONES: usize = 140;
+pub const PHONES: usize = 140;
 
-const CONNECTIONS: usize = 206;
+pub const CONNECTIONS: usize = 206;
 
-const BANDWIDTHS: usize = 1104;
+pub const BANDWIDTHS: usize = 1104;
 
-const TIMES: usize = 2002;
+pub const TIMES: usize = 2002;
 
-const REPEATS: usize = 2516;
+pub const REPEATS: usize = 2516;
 
-const OFFSETS: usize = 3670;
+pub const OFFSETS: usize = 3670;
 
-const ZONES: usize = 6232;
+pub const ZONES: usize = 6232;
 
-const ATTRIBUTES: usize = 7258;
+pub const ATTRIBUTES: usize = 7258;
 
-const MEDIAS: usize = 13404;
+pub const MEDIAS: usize = 13404;
 
 // Whether a row was stored.
 pub enum Pushed {

@@ -1,22 +1,28 @@
 -- Document 01, "Writing": when the writer refuses with 23. Judged on any bytes: a is the area, t the text, p a place in the area.
 use Prim.Native.Nat.{ℕ, zero, suc, _+_}
-use mathlib.Core.Bool.{Bool, true, false, _&&_, cond}
+use mathlib.Core.Bool.{Bool, true, false, _&&_, _||_, cond}
 use mathlib.Core.List.{List}
 use lib.ListN.{length, take, drop}
 use lib.Dec.{leb, eqb}
 use Rattle.sdp_bytes.specs.Utf8.{isUtf8}
 use Rattle.sdp_area.specs.Bytes.{num}
 use Rattle.sdp_area.specs.Area.{originAt, nameAt, descriptionAt, uriAt, connectionAt, keyAt, emailsAt, phonesAt, connectionsAt, bandwidthsAt, timesAt, repeatsAt, offsetsAt, zonesAt, attributesAt, mediasAt}
+use Rattle.sdp_judge.specs.declared.Row.{Row}
+use Rattle.sdp_judge.specs.declared.Row.the-variants.{Plain, Connection, Bandwidth, Attribute, Media}
 
 -- f holds at the places of n rows of w bytes each, from p on: "Cells past a count .. aren't judged."
 unfoldable pub everyAt : (ℕ → Bool) → ℕ → ℕ → ℕ → Bool
 everyAt f w zero p = true
 everyAt f w (suc n) p = f p && everyAt f w n (p + w)
 
+-- "a presence mark is neither present nor absent": 1 and 0. What an absent field holds is not judged
+unfoldable pub judged : ℕ → Bool → Bool
+judged mark rest = eqb mark 0 || (eqb mark 1 && rest)
+
 module _ (a : List ℕ) where
-  -- "a presence mark is neither present nor absent": 1 and 0. What an absent field holds is not judged
-  unfoldable pub fineIf : (ℕ → Bool) → ℕ → Bool
-  fineIf f p = cond (eqb (num 2 a p) 0) true (cond (eqb (num 2 a p) 1) (f (p + 2)) false)
+  -- what is marked at p, and f judges
+  abbrev pub fineIf : (ℕ → Bool) → ℕ → Bool
+  fineIf f p = judged (num 2 a p) (f (p + 2))
 
   -- "owners never fall": from lo on, and none "points past its table's count". A row begins with its owner
   unfoldable pub rising : ℕ → ℕ → ℕ → ℕ → ℕ → Bool
@@ -31,19 +37,19 @@ module _ (a : List ℕ) where
   abbrev pub rows : (ℕ → Bool) → ℕ → ℕ → Bool
   rows f base w = everyAt f w (num 2 a base) (base + 2)
 
-  -- "a count is above its table"
-  unfoldable pub counts : Bool
-  counts =
+  -- "a count is above its table": the first five tables
+  unfoldable pub smallCounts : Bool
+  smallCounts =
       leb (num 2 a emailsAt) 16
       && (leb (num 2 a phonesAt) 16
-      && (leb (num 2 a connectionsAt) 64
-      && (leb (num 2 a bandwidthsAt) 64
-      && (leb (num 2 a timesAt) 32
-      && (leb (num 2 a repeatsAt) 64
+      && (leb (num 2 a connectionsAt) 64 && (leb (num 2 a bandwidthsAt) 64 && leb (num 2 a timesAt) 32)))
+
+  -- and the other five
+  unfoldable pub largeCounts : Bool
+  largeCounts =
+      leb (num 2 a repeatsAt) 64
       && (leb (num 2 a offsetsAt) 256
-      && (leb (num 2 a zonesAt) 64
-      && (leb (num 2 a attributesAt) 512
-      && leb (num 2 a mediasAt) 32))))))))
+      && (leb (num 2 a zonesAt) 64 && (leb (num 2 a attributesAt) 512 && leb (num 2 a mediasAt) 32)))
 
   -- "Bandwidths, connections and attributes name their owner (0 the session, else the media; never 0 for connections), repeats their time,
   -- offsets their repeat, counted from 1; owners never fall."
@@ -76,27 +82,21 @@ module _ (a : List ℕ) where
     unfoldable pub finePair : ℕ → Bool
     finePair p = fineString p && fineIf fineString (p + 4)
 
-    -- a row with an owner before it: an a line, a b line, a c line of a media
-    abbrev pub fineAttribute : ℕ → Bool
-    fineAttribute p = finePair (p + 2)
-
-    abbrev pub fineBandwidth : ℕ → Bool
-    fineBandwidth p = fineString (p + 2)
-
-    abbrev pub fineMediaConnection : ℕ → Bool
-    fineMediaConnection p = fineConnection (p + 2)
-
-    -- the mark of num-ports; its number is any
-    abbrev pub finePorts : ℕ → Bool
-    finePorts p = fineIf (λ q. true) p
-
-    -- an m line with its title and its key
+    -- an m line with its title and its key; the number of ports is any, its mark is not
     unfoldable pub fineMedia : ℕ → Bool
     fineMedia p =
         fineString p
-        && (finePorts (p + 6)
+        && (fineIf (λ q. true) (p + 6)
         && (fineString (p + 10)
         && (fineString (p + 14) && (fineIf fineString (p + 18) && fineIf finePair (p + 24)))))
+
+    -- a row of each kind; the owner of a c, b or a line stands in its first two bytes
+    abbrev pub fineRow : Row → ℕ → Bool
+    fineRow Plain p = fineString p
+    fineRow Connection p = fineConnection (p + 2)
+    fineRow Bandwidth p = fineString (p + 2)
+    fineRow Attribute p = finePair (p + 2)
+    fineRow Media p = fineMedia p
 
     -- what a session has at most once
     unfoldable pub fineHead : Bool
@@ -109,11 +109,12 @@ module _ (a : List ℕ) where
     -- the tables with strings
     unfoldable pub fineTables : Bool
     fineTables =
-        rows fineString emailsAt 4
-        && (rows fineString phonesAt 4
-        && (rows fineMediaConnection connectionsAt 14
-        && (rows fineBandwidth bandwidthsAt 14 && (rows fineAttribute attributesAt 12 && rows fineMedia mediasAt 36))))
+        rows (fineRow Plain) emailsAt 4
+        && (rows (fineRow Plain) phonesAt 4
+        && (rows (fineRow Connection) connectionsAt 14
+        && (rows (fineRow Bandwidth) bandwidthsAt 14
+        && (rows (fineRow Attribute) attributesAt 12 && rows (fineRow Media) mediasAt 36))))
 
     -- all is well: else 23. "a number is out of its Rust type" can't occur, every cell of 2 or 8 bytes is a u16 or u64 or i64
     unfoldable pub wellFormed : Bool
-    wellFormed = counts && (owners && (fineHead && fineTables))
+    wellFormed = smallCounts && (largeCounts && (owners && (fineHead && fineTables)))
