@@ -5,8 +5,11 @@ use Prim.Native.Nat.{ℕ, zero, suc, _+_, _*_, _≤_}
 use native.Mathlib.Nat.{add-assoc}
 use native.Mathlib.Omega.{arith}
 use lib.ListN.{length, getD, List·getD-eq-default}
+use mathlib.Core.Option.{Option, none, some}
+use borrow.Author.Tests.{ne-eqb}
 use Rattle.sdp_area.specs.Bytes as bytes
 use Rattle.sdp_area.specs.Bytes.{num}
+use Rattle.sdp_cells.specs.Rows.{marked}
 
 num-cong : (k : ℕ) (a : List ℕ) {i j : ℕ} → i ≡ j → num k a i ≡ num k a j
 num-cong k a e = ap (num k a) e
@@ -24,3 +27,13 @@ pub num-past : (k : ℕ) (a : List ℕ) (i : ℕ) → length a ≤ i → num k a
 unfolding bytes.num
 num-past zero a i h = refl
 num-past (suc k) a i h = omega (arith, List·getD-eq-default a 0 {n = i} h, num-past k a (i + 1) (omega arith))
+
+-- ---- what may be absent
+module _ {X : Type 0} (rd : List ℕ → ℕ → X) (a : List ℕ) (p n : ℕ) (e : n ≡ num 2 a p) where
+  pub marked-none : n ≡ 0 → marked rd a p ≡ none
+  unfolding marked
+  marked-none z = rw (← e, z)
+
+  pub marked-some : (n ≡ 0 → ⊥) → marked rd a p ≡ some (rd a (p + 2))
+  unfolding marked
+  marked-some z = rw (← e, ne-eqb n 0 z)

@@ -76,6 +76,10 @@ zonesLine [] = []
 zonesLine (z ∷ zs) = line 0x7a (each zoneText 1 (z ∷ zs))
 
 -- ---- lines with strings
+-- `-` for no bytes, else what is kept of them
+unfoldable pub orDash : List ℕ → List ℕ
+orDash bs = cond (eqb (length bs) 0) (0x2d ∷ []) (clean bs)
+
 module _ {S : Type 0} (str : S → List ℕ) where
   -- "NUL, CR and LF are dropped from strings"
   abbrev pub text : S → List ℕ
@@ -88,7 +92,7 @@ module _ {S : Type 0} (str : S → List ℕ) where
   -- "an absent or empty username is `-`, judged before the dropping"
   unfoldable pub usernameText : Option S → List ℕ
   usernameText none = 0x2d ∷ []
-  usernameText (some x) = cond (eqb (length (str x)) 0) (0x2d ∷ []) (text x)
+  usernameText (some x) = orDash (str x)
 
   -- username sess-id sess-version nettype addrtype unicast-address
   unfoldable pub originValue : Origin S → List ℕ

@@ -1,0 +1,22 @@
+-- `sdp_write::put_closing` meets its contract. Assumes nothing.
+use Rattle.sdp_write.proofs.RowLaws.{each-rows}
+use Rattle.sdp_put.proofs.OutLaws.{_then_, said}
+use Rattle.sdp_write.specs.Written.{closingLines}
+use Rattle.sdp_cells.specs.Decode.{attributeOf, decode}
+use borrow.Author.Needs.{needs}
+use Rattle.sdp_write.proofs.put_closing.Statement.{statement}
+use Rattle.sdp_write.proofs.put_closing.Tie as tie
+
+returns : tie.Need-returns
+unfolding closingLines decode
+returns c = c .before .before .before .before .before .before .before .before .before .before .put-zone-line .ensures then c .before .before .before .before .before .before .put-key .ensures then said (each-rows _ attributeOf 12 _ _ _ _) (c .before .before .put-rows .ensures)
+
+pub put-closing-spec : {M : Type 1} → statement M
+put-closing-spec =
+    tie.close
+    (tie.spec
+    (λ c κs. search needs)
+    (λ c κs. search needs)
+    (λ c κs. search needs)
+    (λ c. search needs)
+    returns)

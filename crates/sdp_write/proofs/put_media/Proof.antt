@@ -1,0 +1,27 @@
+-- `sdp_write::put_media` meets its contract. Assumes nothing.
+use Rattle.sdp_write.proofs.RowLaws.{each-rows}
+use Rattle.sdp_put.proofs.OutLaws.{_then_, said}
+use Rattle.sdp_write.specs.Written.{mediaLines}
+use Rattle.sdp_cells.specs.Decode.{mediaConnectionOf, bandwidthOf, attributeOf, decode}
+use borrow.Author.Needs.{needs}
+use Rattle.sdp_write.proofs.put_media.Statement.{statement}
+use Rattle.sdp_write.proofs.put_media.Tie as tie
+
+returns : tie.Need-returns
+unfolding mediaLines decode
+returns c = c .before .before .before .before .before .before .before .before .before .before .before .before .before .before .before .before .before .before .before .before .before .before .put-media-line .ensures then c .before .before .before .before .before .before .before .before .before .before .before .before .before .before .before .before .before .before .put-maybe-line .ensures then said (each-rows _ mediaConnectionOf 14 _ _ _ _) (c .before .before .before .before .before .before .before .before .before .before .before .before .before .before .put-rows .ensures) then said (each-rows _ bandwidthOf 14 _ _ _ _) (c .before .before .before .before .before .before .before .before .before .before .put-rows2 .ensures) then c .before .before .before .before .before .before .put-key .ensures then said (each-rows _ attributeOf 12 _ _ _ _) (c .before .before .put-rows3 .ensures)
+
+pub put-media-spec : {M : Type 1} → statement M
+put-media-spec =
+    tie.close
+    (tie.spec
+    (λ c κs. search needs)
+    (λ c. search needs)
+    (λ c κs. search needs)
+    (λ c κs. search needs)
+    (λ c κs. search needs)
+    (λ c. search needs)
+    (λ c κs. search needs)
+    (λ c κs. search needs)
+    (λ c. search needs)
+    returns)
