@@ -1,2 +1,4 @@
 pub mod LineLaws
 pub mod RowLaws
+pub mod ShortLaws
+pub mod WriteLaws

@@ -1,92 +1,70 @@
+-- `sdp_write::write` meets its contract. Assumes nothing.
+use Rattle.sdp_write.proofs.WriteLaws.{settled, area-short, text-long, bad-session, out-short, all-written, counted, filled}
+use Rattle.sdp_write.proofs.ShortLaws.{written-short}
+use Rattle.sdp_write.specs.Write.{textOf}
+use mathlib.Core.Path.{_≡_, refl, sym, _∙_}
+use Prim.Native.Nat.{_-_}
+use native.Mathlib.Omega.{arith}
+use lib.ListN.{length}
+use denote.Ref.{now}
+use borrow.Author.Tests.{not-true, not-false}
+use borrow.Author.Needs.{needs}
 use Rattle.sdp_write.proofs.write.Statement.{statement}
 use Rattle.sdp_write.proofs.write.Tie as tie
-use Rattle.sdp_write.proofs.write.Reads as reads
-use Rattle.sdp_write.proofs.write.Lts as lts
-use Rattle.sdp_judge.proofs.judge.Reads as judge-reads
-use Rattle.sdp_write.proofs.put_session.Reads as put-session-reads
-use Rattle.sdp_write.proofs.told.Reads as told-reads
 
--- src/lib.rt:625:9
-told-requires : tie.Need-told-requires
-told-requires c κs = ?
-
--- src/lib.rt:625:9
 returns : tie.Need-returns
-returns c = ?
+returns c = settled _ _ _ _ (area-short _ _ _ (c .before .if1 .taken)) (c .told .ensures) refl
 
--- src/lib.rt:628:9
-told-requires-2 : tie.Need-told-requires-2
-told-requires-2 c κs = ?
-
--- src/lib.rt:628:9
 returns-2 : tie.Need-returns-2
-returns-2 c = ?
+returns-2 c = settled _ _ _ _ (text-long _ _ _ (c .before .before .if1 .left) (c .before .if2 .taken)) (c .told2 .ensures) refl
 
--- src/lib.rt:630:9
-judge-requires : tie.Need-judge-requires
-judge-requires c κs = ?
-
--- src/lib.rt:631:9
-told-requires-3 : tie.Need-told-requires-3
-told-requires-3 c κs = ?
-
--- src/lib.rt:631:9
 returns-3 : tie.Need-returns-3
-returns-3 c = ?
+returns-3 c = settled _ _ _ _ (bad-session _ _ _ (c .before .before .before .before .if1 .left) (c .before .before .before .if2 .left) (sym (c .before .before .judge .ensures) ∙ not-true _ (c .before .if3 .taken))) (c .told3 .ensures) refl
 
--- src/lib.rt:634:9
-put-session-requires : tie.Need-put-session-requires
-put-session-requires c κs = ?
-
--- src/lib.rt:635:13
 sub-n : tie.Need-sub-n
-sub-n c = ?
+sub-n c = let t = now (c .before .before .before .before .before .before .before .before .before .before .before .args .text) in
+    let a = now (c .before .before .before .before .before .before .before .before .before .before .before .args .area) in
+    let o = now (c .before .before .before .before .before .before .before .before .before .before .before .args .out) in
+    let s = written-short t a (c .before .before .before .before .before .before .if2 .left) (λ i. omega (arith, c .before .before .before .before .before .before .before .before .before .shared-slice-known2 .given i)) in
+    let n = counted o (c .before .before .put-session .last .0) (textOf t a) (c .before .before .put-session .result) s (omega arith) (c .before .before .put-session .ensures) in
+    omega (arith, n .1)
 
--- src/lib.rt:637:9
-told-requires-4 : tie.Need-told-requires-4
-told-requires-4 c κs = ?
-
--- src/lib.rt:637:9
-same-length : tie.Need-same-length
-same-length c = ?
-
--- src/lib.rt:637:9
 returns-4 : tie.Need-returns-4
-returns-4 c = ?
+returns-4 c = let t = now (c .before .before .before .before .before .before .before .before .before .before .before .before .before .args .text) in
+    let a = now (c .before .before .before .before .before .before .before .before .before .before .before .before .before .args .area) in
+    let o = now (c .before .before .before .before .before .before .before .before .before .before .before .before .before .args .out) in
+    let s = written-short t a (c .before .before .before .before .before .before .before .before .if2 .left) (λ i. omega (arith, c .before .before .before .before .before .before .before .before .before .before .before .shared-slice-known2 .given i)) in
+    let n = counted o (c .before .before .before .before .put-session .last .0) (textOf t a) (c .before .before .before .before .put-session .result) s (omega arith) (c .before .before .before .before .put-session .ensures) in
+    let k : c .before .before .before .before .put-session .result - length o ≡ length (textOf t a) = omega (arith, n .1) in
+    settled _ _ _ _ (out-short t a o (c .before .before .before .before .before .before .before .before .before .if1 .left) (c .before .before .before .before .before .before .before .before .if2 .left) (sym (c .before .before .before .before .before .before .before .judge .ensures) ∙ not-false _ (c .before .before .before .before .before .before .if3 .left)) (c .before .before .before .before .put-session .result - length o) k (c .before .if4 .taken)) (c .told4 .ensures) (n .0)
 
--- src/lib.rt:639:5
-put-session-requires-2 : tie.Need-put-session-requires-2
-put-session-requires-2 c κs = ?
-
--- src/lib.rt:640:5
-told-requires-5 : tie.Need-told-requires-5
-told-requires-5 c κs = ?
-
--- src/lib.rt:620:1
-same-length-2 : tie.Need-same-length-2
-same-length-2 c = ?
-
--- src/lib.rt:620:1
 returns-5 : tie.Need-returns-5
-returns-5 c = ?
+returns-5 c = let t = now (c .before .before .before .before .before .before .before .before .before .before .before .before .before .before .before .before .before .args .text) in
+    let a = now (c .before .before .before .before .before .before .before .before .before .before .before .before .before .before .before .before .before .args .area) in
+    let o = now (c .before .before .before .before .before .before .before .before .before .before .before .before .before .before .before .before .before .args .out) in
+    let s = written-short t a (c .before .before .before .before .before .before .before .before .before .before .before .before .if2 .left) (λ i. omega (arith, c .before .before .before .before .before .before .before .before .before .before .before .before .before .before .before .shared-slice-known2 .given i)) in
+    let n = counted o (c .before .before .before .before .before .before .before .before .put-session .last .0) (textOf t a) (c .before .before .before .before .before .before .before .before .put-session .result) s (omega arith) (c .before .before .before .before .before .before .before .before .put-session .ensures) in
+    let k : c .before .before .before .before .before .before .before .before .put-session .result - length o ≡ length (textOf t a) = omega (arith, n .1) in
+    settled _ _ _ _ (all-written t a o (c .before .before .before .before .before .before .before .before .before .before .before .before .before .if1 .left) (c .before .before .before .before .before .before .before .before .before .before .before .before .if2 .left) (sym (c .before .before .before .before .before .before .before .before .before .before .before .judge .ensures) ∙ not-false _ (c .before .before .before .before .before .before .before .before .before .before .if3 .left)) (c .before .before .before .before .before .before .before .before .put-session .result - length o) k (c .before .before .before .before .before .if4 .left)) (c .told5 .ensures)
+    (filled o (c .before .before .before .before .before .before .before .before .put-session .last .0) (textOf t a) (c .before .before .before .before .before .before .before .before .put-session .result) s (omega arith) (c .before .before .before .before .before .before .before .before .put-session .ensures) (c .before .before .before .put-session2 .last .0) (c .before .before .before .put-session2 .result) (c .before .before .before .before .before .before .before .before .put-session .result - length o) k (c .before .before .before .before .before .if4 .left) (c .before .before .before .put-session2 .ensures))
 
 pub write-spec : {M : Type 1} → statement M
 write-spec =
     tie.close
     (tie.spec
-    told-requires
+    (λ c κs. search needs)
     returns
-    told-requires-2
+    (λ c κs. search needs)
     returns-2
-    judge-requires
-    told-requires-3
+    (λ c κs. search needs)
+    (λ c κs. search needs)
     returns-3
-    put-session-requires
+    (λ c κs. search needs)
     sub-n
-    told-requires-4
-    same-length
+    (λ c κs. search needs)
+    (λ c. search needs)
     returns-4
-    put-session-requires-2
-    told-requires-5
-    same-length-2
+    (λ c κs. search needs)
+    (λ c κs. search needs)
+    (λ c. search needs)
     returns-5)
