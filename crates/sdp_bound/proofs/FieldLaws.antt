@@ -31,6 +31,7 @@ use Rattle.sdp_put.specs.Digits.{digits, timeText}
 use Rattle.sdp_put.specs.Strings
 use Rattle.sdp_put.specs.Strings.{kept, clean}
 use Rattle.sdp_bound.proofs.NumberLaws.{number-short, time-short}
+use Rattle.sdp_bound.proofs.RowLaws.{sum}
 
 -- ---- strings
 kept-short : (b : ℕ) → length (kept b) ≤ 1
@@ -47,18 +48,17 @@ unfolding Strings.clean
 clean-short [] = omega arith
 clean-short (b ∷ s) = omega (arith, length-append (kept b) (clean s), kept-short b, clean-short s)
 
-pub part-short : (v : List ℕ) (p : Piece) → length (clean (part v p)) ≤ p .len
-part-short v p = omega (arith, clean-short (part v p), length-take (p .len) (drop (p .at) v))
+pub part-len : (v : List ℕ) (p : Piece) → length (part v p) ≤ p .len
+part-len v p = omega (arith, length-take (p .len) (drop (p .at) v))
 
 -- ---- words
 -- each word with one byte more
-unfoldable pub weight : List (List ℕ) → ℕ
-weight [] = 0
-weight (w ∷ ws) = length w + 1 + weight ws
+abbrev pub weight : List (List ℕ) → ℕ
+weight ws = sum (λ w. length w + 1) ws
 
 -- the words of a list, and what is left after the rest of a word that was read already
 weights : (s : List ℕ) → (weight (wordsFrom 0 s) ≤ length s + 1) × (weight (wordsFrom (indexOf 0x20 s) s) + indexOf 0x20 s ≤ length s)
-unfolding weight Split.wordsFrom Runs.indexOf
+unfolding sum Split.wordsFrom Runs.indexOf
 weights [] = (omega arith, omega arith)
 weights (b ∷ s) = go (eqb b 0x20) refl (weights s .0) (weights s .1)
   where
@@ -93,7 +93,7 @@ module _ (v : List ℕ) where
 
   -- one word
   pub left-word : (i : ℕ) (p : Piece) (e : ℕ) → wordAt v i ≡ field.Got p e → (left i ≡ length (part v p) + 1 + left e) × (0 < length (part v p))
-  unfolding weight Split.words
+  unfolding sum Split.words
   left-word i p e h = let w = word-next v i p e h .0 in (ap weight w, word-some (drop i v) 0 (part v p) (words (drop e v)) w)
 
   -- ---- pieces

@@ -1,2 +1,4 @@
 pub mod NumberLaws
+pub mod RowLaws
 pub mod FieldLaws
+pub mod RecordLaws
