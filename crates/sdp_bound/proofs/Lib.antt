@@ -2,3 +2,4 @@ pub mod NumberLaws
 pub mod RowLaws
 pub mod FieldLaws
 pub mod RecordLaws
+pub mod CostLaws

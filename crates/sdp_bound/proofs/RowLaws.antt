@@ -94,3 +94,7 @@ module _ {X : Type 0} (owner : X → ℕ) (f : ℕ → X → List ℕ) where
   owner-all n k (x ∷ xs) =
       omega (arith, some-owner (leb n (owner x)) (f k x), owner-all n (k + 1) xs, length-append (f k x) (each f (k + 1) xs),
       length-append (cond (leb n (owner x)) (f k x) []) (each (λ k x. cond (leb n (owner x)) (f k x) []) (k + 1) xs))
+
+  -- the same where the rows own nothing
+  pub owner-sum : (own : X → ℕ) → ((k : ℕ) (x : X) → length (f k x) ≤ own x) → (n k : ℕ) (xs : List X) → fromOwner n k xs ≤ sum own xs
+  owner-sum own h n k xs = omega (arith, owner-all n k xs, rows-short f own h k xs)

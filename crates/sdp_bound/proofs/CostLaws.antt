@@ -1,0 +1,84 @@
+-- What a session takes when it is written, as a sum over its fields and rows. Assumes nothing.
+use mathlib.Core.Path.{_≡_, refl, sym, ap, _∙_}
+use mathlib.Core.List.{List, [], _∷_, _++_}
+use Prim.Native.Nat.{ℕ, suc, _+_, _≤_}
+use native.Mathlib.Omega.{arith}
+use lib.ListN.{length, length-append}
+use Rattle.sdp_area.specs.Session.{MediaConnection, Bandwidth, Time, Repeat, Offset, Attribute, Media, Tables, Session}
+use Rattle.sdp_put.specs.Digits.{timeText}
+use Rattle.sdp_write.specs.Written
+use Rattle.sdp_write.specs.Written.{line, each, optional, spaced, timeValue, repeatLine, timeLines, timesLines, zonesLine, stringLine, originLine, nameLine, connectionLine, bandwidthLine, pairLine, keyLine, mediaLine, mediaLines, written}
+use Rattle.sdp_bound.specs.Kept.{id}
+use Rattle.sdp_bound.proofs.RowLaws.{sum, each-short, rows-short, ofOwner, fromOwner, owner-next, owner-all, owner-sum}
+use Rattle.sdp_bound.proofs.RecordLaws.{line-length}
+
+-- ---- rows
+abbrev pub timeCost : Time → ℕ
+timeCost t = length (line 0x74 (timeValue t))
+
+-- no times: `t=0 0`
+unfoldable pub timesCost : List Time → ℕ
+timesCost [] = 7
+timesCost (t ∷ ts) = sum timeCost (t ∷ ts)
+
+-- a repeat without its offsets
+abbrev pub repeatCost : Repeat → ℕ
+repeatCost r = length (timeText (r .repeatInterval)) + 1 + length (timeText (r .activeDuration)) + 4
+
+abbrev pub offsetCost : Offset → ℕ
+offsetCost o = length (timeText (o .offset)) + 1
+
+abbrev pub connectionCost : MediaConnection (List ℕ) → ℕ
+connectionCost c = length (connectionLine id (c .connection))
+
+abbrev pub bandwidthCost : Bandwidth (List ℕ) → ℕ
+bandwidthCost b = length (bandwidthLine id b)
+
+abbrev pub attributeCost : Attribute (List ℕ) → ℕ
+attributeCost a = length (pairLine id 0x61 (a .attribute) (a .value))
+
+-- a media with its i and k lines
+abbrev pub mediaCost : Media (List ℕ) → ℕ
+mediaCost m = length (mediaLine id m) + length (optional (stringLine id 0x69) (m .mediaTitle)) + length (optional (keyLine id) (m .key))
+
+-- ---- the whole; the version line has 5 bytes
+unfoldable pub cost : Session (List ℕ) → ℕ
+cost s =
+    5
+    + length (originLine id (s .head .origin))
+    + length (nameLine id (s .head .name))
+    + length (optional (stringLine id 0x69) (s .head .description))
+    + length (optional (stringLine id 0x75) (s .head .uri))
+    + sum (λ x. length (stringLine id 0x65 x)) (s .tables .emails)
+    + sum (λ x. length (stringLine id 0x70 x)) (s .tables .phones)
+    + length (optional (connectionLine id) (s .head .connection))
+    + sum bandwidthCost (s .tables .bandwidths)
+    + timesCost (s .tables .times)
+    + sum repeatCost (s .tables .repeats)
+    + sum offsetCost (s .tables .offsets)
+    + length (zonesLine (s .tables .zones))
+    + length (optional (keyLine id) (s .head .key))
+    + sum attributeCost (s .tables .attributes)
+    + sum connectionCost (s .tables .connections)
+    + sum mediaCost (s .tables .medias)
+
+-- ---- repeats and times
+module _ (os : List Offset) where
+  repeats-short : (rs : List Repeat) → length (each (repeatLine os) 1 rs) ≤ sum repeatCost rs + sum offsetCost os
+  unfolding Written.repeatLine Written.line
+  repeats-short rs =
+      let f : ℕ → Offset → List ℕ = λ k o. spaced (timeText (o .offset)) in
+      omega (arith,
+      owner-sum (λ o. o .owner) f offsetCost (λ k o. omega arith) 1 1 os,
+      each-short (repeatLine os) repeatCost (λ n. ofOwner (λ o. o .owner) f n 1 os) (λ n. fromOwner (λ o. o .owner) f n 1 os)
+      (λ n. owner-next (λ o. o .owner) f n 1 os) (λ n r. simp length-append (omega arith)) 1 rs)
+
+  times-short : (rs : List Repeat) (ts : List Time) → length (timesLines rs os ts) ≤ timesCost ts + (sum repeatCost rs + sum offsetCost os)
+  unfolding Written.timesLines Written.timeLines Written.line timesCost
+  times-short rs [] = omega arith
+  times-short rs (t ∷ ts) =
+      omega (arith,
+      owner-all (λ r. r .owner) (repeatLine os) 1 1 rs,
+      repeats-short rs,
+      each-short (timeLines rs os) timeCost (λ n. ofOwner (λ r. r .owner) (repeatLine os) n 1 rs) (λ n. fromOwner (λ r. r .owner) (repeatLine os) n 1 rs)
+      (λ n. owner-next (λ r. r .owner) (repeatLine os) n 1 rs) (λ n t. simp length-append (omega arith)) 1 (t ∷ ts))
