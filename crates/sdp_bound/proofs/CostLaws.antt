@@ -82,3 +82,47 @@ module _ (os : List Offset) where
       repeats-short rs,
       each-short (timeLines rs os) timeCost (λ n. ofOwner (λ r. r .owner) (repeatLine os) n 1 rs) (λ n. fromOwner (λ r. r .owner) (repeatLine os) n 1 rs)
       (λ n. owner-next (λ r. r .owner) (repeatLine os) n 1 rs) (λ n t. simp length-append (omega arith)) 1 (t ∷ ts))
+
+-- ---- medias
+module _ (t : Tables (List ℕ)) where
+  -- the c, b and a lines of the media n, and of all from n on
+  abbrev owned : ℕ → ℕ
+  owned n =
+      ofOwner (λ c. c .owner) (λ k c. connectionLine id (c .connection)) n 1 (t .connections)
+      + ofOwner (λ b. b .owner) (λ k b. bandwidthLine id b) n 1 (t .bandwidths)
+      + ofOwner (λ a. a .owner) (λ k a. pairLine id 0x61 (a .attribute) (a .value)) n 1 (t .attributes)
+
+  abbrev rest : ℕ → ℕ
+  rest n =
+      fromOwner (λ c. c .owner) (λ k c. connectionLine id (c .connection)) n 1 (t .connections)
+      + fromOwner (λ b. b .owner) (λ k b. bandwidthLine id b) n 1 (t .bandwidths)
+      + fromOwner (λ a. a .owner) (λ k a. pairLine id 0x61 (a .attribute) (a .value)) n 1 (t .attributes)
+
+  rest-next : (n : ℕ) → rest n ≡ owned n + rest (n + 1)
+  rest-next n =
+      omega (arith,
+      owner-next (λ c. c .owner) (λ k c. connectionLine id (c .connection)) n 1 (t .connections),
+      owner-next (λ b. b .owner) (λ k b. bandwidthLine id b) n 1 (t .bandwidths),
+      owner-next (λ a. a .owner) (λ k a. pairLine id 0x61 (a .attribute) (a .value)) n 1 (t .attributes))
+
+  rest-short : (n : ℕ) → rest n ≤ sum connectionCost (t .connections) + sum bandwidthCost (t .bandwidths) + sum attributeCost (t .attributes)
+  rest-short n =
+      omega (arith,
+      owner-sum (λ c. c .owner) (λ k c. connectionLine id (c .connection)) connectionCost (λ k x. omega arith) n 1 (t .connections),
+      owner-sum (λ b. b .owner) (λ k b. bandwidthLine id b) bandwidthCost (λ k x. omega arith) n 1 (t .bandwidths),
+      owner-sum (λ a. a .owner) (λ k a. pairLine id 0x61 (a .attribute) (a .value)) attributeCost (λ k x. omega arith) n 1 (t .attributes))
+
+  medias-short : (ms : List (Media (List ℕ))) → length (each (mediaLines id t) 1 ms) ≤ sum mediaCost ms + rest 1
+  unfolding Written.mediaLines
+  medias-short = each-short (mediaLines id t) mediaCost owned rest rest-next (λ n m. simp length-append (omega arith)) 1
+
+pub written-cost : (s : Session (List ℕ)) → length (written id s) ≤ cost s
+unfolding Written.written Written.headLines Written.contactLines Written.closingLines cost
+written-cost s =
+    let m = medias-short (s .tables) (s .tables .medias) in
+    let r = rest-next (s .tables) 0 in
+    let t = times-short (s .tables .offsets) (s .tables .repeats) (s .tables .times) in
+    simp length-append
+    (omega (arith, m, r, rest-short (s .tables) 0, t, line-length 0x76 (0x30 ∷ []),
+    rows-short (λ k x. stringLine id 0x65 x) (λ x. length (stringLine id 0x65 x)) (λ k x. omega arith) 1 (s .tables .emails),
+    rows-short (λ k x. stringLine id 0x70 x) (λ x. length (stringLine id 0x70 x)) (λ k x. omega arith) 1 (s .tables .phones)))
