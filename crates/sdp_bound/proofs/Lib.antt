@@ -3,3 +3,4 @@ pub mod RowLaws
 pub mod FieldLaws
 pub mod RecordLaws
 pub mod CostLaws
+pub mod StepLaws

@@ -197,11 +197,11 @@ module _ {A : Type 0} (P : A → Type 0) (w : ℕ) (k : ℕ → Read A) where
   past-numbered Format h = never _ _
 
 -- the offsets, each with a space
-pub offsetsCost : List ℕ → ℕ
-offsetsCost ns = sum (λ n. length (timeText n) + 1) ns
+unfoldable pub offsetsSize : List ℕ → ℕ
+offsetsSize ns = sum (λ n. length (timeText n) + 1) ns
 
-offsets-short : (ws : List (List ℕ)) (ns : List ℕ) → offsetsOf ws ≡ got ns → offsetsCost ns ≤ weight ws
-unfolding Lists.offsetsOf sum offsetsCost
+offsets-short : (ws : List (List ℕ)) (ns : List ℕ) → offsetsOf ws ≡ got ns → offsetsSize ns ≤ weight ws
+unfolding Lists.offsetsOf sum offsetsSize
 offsets-short [] = every-got _ _ (omega arith)
 offsets-short (w ∷ ws) =
     past-numbered _ 20 _ (typedTime w) (λ n q.
@@ -209,8 +209,8 @@ offsets-short (w ∷ ws) =
     every-got _ _ (omega (arith, time-short w n q, h))))
 
 -- interval, duration and offsets, with spaces between them
-pub repeatCost : RepeatLine → ℕ
-repeatCost r = length (timeText (r .interval)) + 1 + length (timeText (r .duration)) + offsetsCost (r .offsets)
+unfoldable pub repeatSize : RepeatLine → ℕ
+repeatSize r = length (timeText (r .interval)) + 1 + length (timeText (r .duration)) + offsetsSize (r .offsets)
 
 module _ (v : List ℕ) where
   head-short : (h : RepeatHead) → repeatHead v ≡ got h → length (timeText (h .«repeat_interval»)) + 1 + length (timeText (h .«active_duration»)) + left v (h .next) ≤ length v
@@ -220,19 +220,19 @@ module _ (v : List ℕ) where
       past-time _ 19 v _ (wordAt v i) (λ duration e q o k.
       every-got _ _ (omega (arith, left-word v 0 p i n .0, left-word v i q e o .0, left-whole v, m, k))))
 
-  pub repeat-short : (r : RepeatLine) → repeatOf v ≡ got r → repeatCost r ≤ length v
-  unfolding Lists.repeatOf repeatCost
+  pub repeat-short : (r : RepeatLine) → repeatOf v ≡ got r → repeatSize r ≤ length v
+  unfolding Lists.repeatOf repeatSize
   repeat-short =
       past-read _ _ (repeatHead v) _ head-short (λ h a.
       past-read _ _ (offsetsOf (words (drop (h .next) v))) _ (offsets-short (words (drop (h .next) v))) (λ ns b.
       every-got _ _ (omega (arith, a, b))))
 
 -- a pair of the z line, with a space before or after it
-pub zoneCost : Zone → ℕ
-zoneCost z = length (digits (z .«adjustment_time»)) + 1 + length (signedText (z .offset)) + 1
+unfoldable pub zoneSize : Zone → ℕ
+zoneSize z = length (digits (z .«adjustment_time»)) + 1 + length (signedText (z .offset)) + 1
 
-pairs-short : (ws : List (List ℕ)) (zs : List Zone) → pairsOf ws ≡ got zs → sum zoneCost zs ≤ weight ws
-unfolding Lists.pairsOf sum zoneCost
+pairs-short : (ws : List (List ℕ)) (zs : List Zone) → pairsOf ws ≡ got zs → sum zoneSize zs ≤ weight ws
+unfolding Lists.pairsOf sum zoneSize
 pairs-short [] = every-got _ _ (omega arith)
 pairs-short (a ∷ []) = past-numbered _ 21 _ (wholeNumber 64 a) (λ n q. never _ _)
 pairs-short (a ∷ o ∷ ws) =
@@ -242,15 +242,15 @@ pairs-short (a ∷ o ∷ ws) =
     every-got _ _ (omega (arith, number-short 64 a n q, l, h)))))
 
 -- the pairs after the first
-later-short : (zs : List Zone) (k : ℕ) → 1 < k → length (each zoneText k (map zoneIn zs)) ≤ sum zoneCost zs
-unfolding sum zoneCost Written.each Written.zoneText
+later-short : (zs : List Zone) (k : ℕ) → 1 < k → length (each zoneText k (map zoneIn zs)) ≤ sum zoneSize zs
+unfolding sum zoneSize Written.each Written.zoneText
 later-short [] k h = omega arith
 later-short (z ∷ zs) k h = rw (ne-eqb k 1 (λ e. omega arith)) (simp length-append (omega (arith, later-short zs (k + 1) (omega arith))))
 
 pub zones-short : (v : List ℕ) (zs : List Zone) → zonesOf v ≡ got zs → length (zonesLine (map zoneIn zs)) ≤ length v + 4
-unfolding Lists.zonesOf sum zoneCost Written.zonesLine Written.each Written.zoneText Written.line
+unfolding Lists.zonesOf sum zoneSize Written.zonesLine Written.each Written.zoneText Written.line
 zones-short v zs e = go zs (pairs-short (words v) zs e)
   where
-    go : (zs : List Zone) → sum zoneCost zs ≤ weight (words v) → length (zonesLine (map zoneIn zs)) ≤ length v + 4
+    go : (zs : List Zone) → sum zoneSize zs ≤ weight (words v) → length (zonesLine (map zoneIn zs)) ≤ length v + 4
     go [] h = omega arith
     go (z ∷ zs) h = simp length-append (omega (arith, later-short zs 2 (omega arith), left-whole v))
