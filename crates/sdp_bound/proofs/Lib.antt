@@ -4,3 +4,4 @@ pub mod FieldLaws
 pub mod RecordLaws
 pub mod CostLaws
 pub mod StepLaws
+pub mod BoundLaws

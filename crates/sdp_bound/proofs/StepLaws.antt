@@ -26,14 +26,14 @@ use Rattle.sdp_bound.proofs.RecordLaws.{whole-short, connection-short, 
 use Rattle.sdp_bound.proofs.CostLaws.{cost, timeCost, timesCost, repeatCost, offsetCost, connectionCost, bandwidthCost, attributeCost, mediaCost}
 
 -- ---- what holds of every session that goes on
-abbrev Going : (Reading (List ℕ) → Type 0) → Stepped (List ℕ) → Type 0
+abbrev pub Going : (Reading (List ℕ) → Type 0) → Stepped (List ℕ) → Type 0
 Going P σ = (ρ : Reading (List ℕ)) → σ ≡ goes ρ → P ρ
 
 module _ (P : Reading (List ℕ) → Type 0) where
-  on : (ρ : Reading (List ℕ)) → P ρ → Going P (goes ρ)
+  pub on : (ρ : Reading (List ℕ)) → P ρ → Going P (goes ρ)
   on ρ h τ e = let z : ρ ≡ τ = cc in rw z at h
 
-  off : (number field : ℕ) → Going P (stops number field)
+  pub off : (number field : ℕ) → Going P (stops number field)
   off number field τ e = absurd (let z : _≡_ {A = ℕ} 0 1 = cc in omega arith)
 
   past-cond : (b : Bool) (σ τ : Stepped (List ℕ)) → Going P σ → Going P τ → Going P (cond b σ τ)
