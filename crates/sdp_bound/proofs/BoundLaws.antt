@@ -1,6 +1,6 @@
 -- The written form of an accepted text against the text: line by line, and the whole. Assumes nothing.
-use mathlib.Core.Path.{_≡_, refl, sym, ap, _∙_}
-use mathlib.Core.Bool.{Bool, true, false, cond, _&&_}
+use mathlib.Core.Path.{_≡_, refl, ap}
+use mathlib.Core.Bool.{Bool, true, false, cond}
 use mathlib.Core.List.{List, [], _∷_}
 use Prim.Native.Nat.{ℕ, suc, _+_, _-_, _≤_}
 use native.Mathlib.Omega.{arith}
@@ -17,9 +17,8 @@ use Rattle.sdp_area.specs.Session.{Session, empty}
 use Rattle.sdp_step.specs.Roles.{roleAt}
 use Rattle.sdp_step.specs.Step.{Reading, Stepped, goes, stops, fresh}
 use Rattle.sdp_step.specs.declared.Role.{Role}
-use Rattle.sdp_step.specs.declared.Role.the-variants as role
 use Rattle.sdp_read.specs.Run
-use Rattle.sdp_read.specs.Run.{Verdict, accepted, refused, after, stepForm, run, isZero, version, beginForm, begin, lines}
+use Rattle.sdp_read.specs.Run.{Verdict, accepted, refused, after, stepForm, run, isZero, beginForm, begin, lines}
 use Rattle.sdp_write.specs.Written
 use Rattle.sdp_write.specs.Written.{written}
 use Rattle.sdp_bound.specs.Kept.{roleOf, uses, opens, usedFrom, fromVersion, keptLines, kept, bytesAt, id}

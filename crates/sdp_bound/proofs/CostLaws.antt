@@ -1,7 +1,7 @@
 -- What a session takes when it is written, as a sum over its fields and rows. Assumes nothing.
-use mathlib.Core.Path.{_≡_, refl, sym, ap, _∙_}
-use mathlib.Core.List.{List, [], _∷_, _++_}
-use Prim.Native.Nat.{ℕ, suc, _+_, _≤_}
+use mathlib.Core.Path.{_≡_}
+use mathlib.Core.List.{List, [], _∷_}
+use Prim.Native.Nat.{ℕ, _+_, _≤_}
 use native.Mathlib.Omega.{arith}
 use lib.ListN.{length, length-append}
 use Rattle.sdp_area.specs.Session.{MediaConnection, Bandwidth, Time, Repeat, Offset, Attribute, Media, Tables, Session}
@@ -9,7 +9,7 @@ use Rattle.sdp_put.specs.Digits.{timeText}
 use Rattle.sdp_write.specs.Written
 use Rattle.sdp_write.specs.Written.{line, each, optional, spaced, timeValue, repeatLine, timeLines, timesLines, zonesLine, stringLine, originLine, nameLine, connectionLine, bandwidthLine, pairLine, keyLine, mediaLine, mediaLines, written}
 use Rattle.sdp_bound.specs.Kept.{id}
-use Rattle.sdp_bound.proofs.RowLaws.{sum, each-short, rows-short, ofOwner, fromOwner, owner-next, owner-all, owner-sum}
+use Rattle.sdp_bound.proofs.RowLaws.{sum, Rows, each-short, rows-short, ofOwner, fromOwner, owner-next, owner-all, owner-sum}
 use Rattle.sdp_bound.proofs.RecordLaws.{line-length}
 
 -- ---- rows
@@ -63,59 +63,68 @@ cost s =
     + sum mediaCost (s .tables .medias)
 
 -- ---- repeats and times
+abbrev offsetRows : Rows Offset
+offsetRows = record { owner = λ o. o .owner; bytes = λ k o. spaced (timeText (o .offset)) }
+
 module _ (os : List Offset) where
+  abbrev repeatRows : Rows Repeat
+  repeatRows = record { owner = λ r. r .owner; bytes = repeatLine os }
+
   repeats-short : (rs : List Repeat) → length (each (repeatLine os) 1 rs) ≤ sum repeatCost rs + sum offsetCost os
   unfolding Written.repeatLine Written.line
   repeats-short rs =
-      let f : ℕ → Offset → List ℕ = λ k o. spaced (timeText (o .offset)) in
-      omega (arith,
-      owner-sum (λ o. o .owner) f offsetCost (λ k o. omega arith) 1 1 os,
-      each-short (repeatLine os) repeatCost (λ n. ofOwner (λ o. o .owner) f n 1 os) (λ n. fromOwner (λ o. o .owner) f n 1 os)
-      (λ n. owner-next (λ o. o .owner) f n 1 os) (λ n r. simp length-append (omega arith)) 1 rs)
+      omega (
+        arith,
+        owner-sum offsetRows offsetCost (λ k o. omega arith) os 1,
+        each-short (repeatLine os) repeatCost (ofOwner offsetRows os) (fromOwner offsetRows os) (owner-next offsetRows os) (λ n r. simp length-append (omega arith)) 1 rs,
+      )
 
   times-short : (rs : List Repeat) (ts : List Time) → length (timesLines rs os ts) ≤ timesCost ts + (sum repeatCost rs + sum offsetCost os)
   unfolding Written.timesLines Written.timeLines Written.line timesCost
   times-short rs [] = omega arith
   times-short rs (t ∷ ts) =
-      omega (arith,
-      owner-all (λ r. r .owner) (repeatLine os) 1 1 rs,
-      repeats-short rs,
-      each-short (timeLines rs os) timeCost (λ n. ofOwner (λ r. r .owner) (repeatLine os) n 1 rs) (λ n. fromOwner (λ r. r .owner) (repeatLine os) n 1 rs)
-      (λ n. owner-next (λ r. r .owner) (repeatLine os) n 1 rs) (λ n t. simp length-append (omega arith)) 1 (t ∷ ts))
+      omega (
+        arith,
+        owner-all repeatRows rs 1,
+        repeats-short rs,
+        each-short (timeLines rs os) timeCost (ofOwner repeatRows rs) (fromOwner repeatRows rs) (owner-next repeatRows rs) (λ n t. simp length-append (omega arith)) 1 (t ∷ ts),
+      )
 
 -- ---- medias
+abbrev connectionRows : Rows (MediaConnection (List ℕ))
+connectionRows = record { owner = λ c. c .owner; bytes = λ k c. connectionLine id (c .connection) }
+
+abbrev bandwidthRows : Rows (Bandwidth (List ℕ))
+bandwidthRows = record { owner = λ b. b .owner; bytes = λ k b. bandwidthLine id b }
+
+abbrev attributeRows : Rows (Attribute (List ℕ))
+attributeRows = record { owner = λ a. a .owner; bytes = λ k a. pairLine id 0x61 (a .attribute) (a .value) }
+
 module _ (t : Tables (List ℕ)) where
   -- the c, b and a lines of the media n, and of all from n on
   abbrev owned : ℕ → ℕ
-  owned n =
-      ofOwner (λ c. c .owner) (λ k c. connectionLine id (c .connection)) n 1 (t .connections)
-      + ofOwner (λ b. b .owner) (λ k b. bandwidthLine id b) n 1 (t .bandwidths)
-      + ofOwner (λ a. a .owner) (λ k a. pairLine id 0x61 (a .attribute) (a .value)) n 1 (t .attributes)
+  owned n = ofOwner connectionRows (t .connections) n + ofOwner bandwidthRows (t .bandwidths) n + ofOwner attributeRows (t .attributes) n
 
   abbrev rest : ℕ → ℕ
-  rest n =
-      fromOwner (λ c. c .owner) (λ k c. connectionLine id (c .connection)) n 1 (t .connections)
-      + fromOwner (λ b. b .owner) (λ k b. bandwidthLine id b) n 1 (t .bandwidths)
-      + fromOwner (λ a. a .owner) (λ k a. pairLine id 0x61 (a .attribute) (a .value)) n 1 (t .attributes)
+  rest n = fromOwner connectionRows (t .connections) n + fromOwner bandwidthRows (t .bandwidths) n + fromOwner attributeRows (t .attributes) n
 
   rest-next : (n : ℕ) → rest n ≡ owned n + rest (n + 1)
-  rest-next n =
-      omega (arith,
-      owner-next (λ c. c .owner) (λ k c. connectionLine id (c .connection)) n 1 (t .connections),
-      owner-next (λ b. b .owner) (λ k b. bandwidthLine id b) n 1 (t .bandwidths),
-      owner-next (λ a. a .owner) (λ k a. pairLine id 0x61 (a .attribute) (a .value)) n 1 (t .attributes))
+  rest-next n = omega (arith, owner-next connectionRows (t .connections) n, owner-next bandwidthRows (t .bandwidths) n, owner-next attributeRows (t .attributes) n)
 
   rest-short : (n : ℕ) → rest n ≤ sum connectionCost (t .connections) + sum bandwidthCost (t .bandwidths) + sum attributeCost (t .attributes)
   rest-short n =
-      omega (arith,
-      owner-sum (λ c. c .owner) (λ k c. connectionLine id (c .connection)) connectionCost (λ k x. omega arith) n 1 (t .connections),
-      owner-sum (λ b. b .owner) (λ k b. bandwidthLine id b) bandwidthCost (λ k x. omega arith) n 1 (t .bandwidths),
-      owner-sum (λ a. a .owner) (λ k a. pairLine id 0x61 (a .attribute) (a .value)) attributeCost (λ k x. omega arith) n 1 (t .attributes))
+      omega (
+        arith,
+        owner-sum connectionRows connectionCost (λ k x. omega arith) (t .connections) n,
+        owner-sum bandwidthRows bandwidthCost (λ k x. omega arith) (t .bandwidths) n,
+        owner-sum attributeRows attributeCost (λ k x. omega arith) (t .attributes) n,
+      )
 
   medias-short : (ms : List (Media (List ℕ))) → length (each (mediaLines id t) 1 ms) ≤ sum mediaCost ms + rest 1
   unfolding Written.mediaLines
   medias-short = each-short (mediaLines id t) mediaCost owned rest rest-next (λ n m. simp length-append (omega arith)) 1
 
+-- what is written is no more than the sum
 pub written-cost : (s : Session (List ℕ)) → length (written id s) ≤ cost s
 unfolding Written.written Written.headLines Written.contactLines Written.closingLines cost
 written-cost s =
@@ -123,6 +132,13 @@ written-cost s =
     let r = rest-next (s .tables) 0 in
     let t = times-short (s .tables .offsets) (s .tables .repeats) (s .tables .times) in
     simp length-append
-    (omega (arith, m, r, rest-short (s .tables) 0, t, line-length 0x76 (0x30 ∷ []),
-    rows-short (λ k x. stringLine id 0x65 x) (λ x. length (stringLine id 0x65 x)) (λ k x. omega arith) 1 (s .tables .emails),
-    rows-short (λ k x. stringLine id 0x70 x) (λ x. length (stringLine id 0x70 x)) (λ k x. omega arith) 1 (s .tables .phones)))
+    (omega (
+      arith,
+      m,
+      r,
+      rest-short (s .tables) 0,
+      t,
+      line-length 0x76 (0x30 ∷ []),
+      rows-short (λ k x. stringLine id 0x65 x) (λ x. length (stringLine id 0x65 x)) (λ k x. omega arith) 1 (s .tables .emails),
+      rows-short (λ k x. stringLine id 0x70 x) (λ x. length (stringLine id 0x70 x)) (λ k x. omega arith) 1 (s .tables .phones),
+    ))

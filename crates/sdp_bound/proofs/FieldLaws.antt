@@ -1,11 +1,11 @@
 -- The bytes that the fields of a value take: words with a byte between them, pieces with their separators. Assumes nothing.
-use mathlib.Core.Path.{_≡_, refl, sym, ap, _∙_}
+use mathlib.Core.Path.{_≡_, refl, ap, _∙_}
 use mathlib.Core.Bool.{Bool, true, false, cond}
-use mathlib.Core.List.{List, [], _∷_, _++_}
+use mathlib.Core.List.{List, [], _∷_}
 use Prim.Native.Nat.{ℕ, zero, suc, _+_, _-_, _≤_, _<_}
 use native.Mathlib.Omega.{arith}
 use lib.ListN.{length, take, drop, length-take, length-drop, length-append}
-use lib.Dec.{ltb, eqb}
+use lib.Dec.{eqb}
 use Rattle.sdp_bytes.specs.Runs
 use Rattle.sdp_bytes.specs.Runs.{indexOf}
 use Rattle.sdp_bytes.specs.Utf8.{isUtf8}
@@ -16,7 +16,7 @@ use Rattle.sdp_bytes.specs.declared.number.Number.the-variants.{Value, Encoding
 use Rattle.sdp_bytes.proofs.ScanLaws.{index-le}
 use Rattle.sdp_fields.specs.Split
 use Rattle.sdp_fields.specs.Split.{part, pieceFrom, wordAt, firstPiece, pieceAfter, restAfter, wordsFrom, words}
-use Rattle.sdp_fields.specs.Read.{Read, got, refused, encoding, format, textOf, tokenOf, amountOf, numberOf, timeOf, choiceOf, absent, afterText, afterAmount, afterChoice, ending}
+use Rattle.sdp_fields.specs.Read.{Read, encoding, format, textOf, tokenOf, amountOf, numberOf, timeOf, choiceOf, absent, afterText, afterAmount, afterChoice, ending}
 use Rattle.sdp_fields.specs.declared.Piece.{Piece}
 use Rattle.sdp_fields.specs.declared.MaybePiece.{MaybePiece}
 use Rattle.sdp_fields.specs.declared.Wrong.{Wrong}
@@ -121,38 +121,32 @@ module _ (v : List ℕ) where
 
 -- ---- what holds of every record, after a field f of the value v
 module _ {A : Type 0} (P : A → Type 0) (w : ℕ) (v : List ℕ) where
-  judged : (b : Bool) (p : Piece) (e : ℕ) (x : Wrong) (k : Piece → ℕ → Read A) → Every P (k p e)
-      → Every P (afterText (cond b (text.Got p e) (text.Refused x)) k)
-  judged true p e x k h = h
-  judged false p e x k h = never P x
-
   module _ (k : Piece → ℕ → Read A) where
+    read-text : (b : Bool) (p : Piece) (e : ℕ) (x : Wrong) → Every P (k p e) → Every P (afterText (cond b (text.Got p e) (text.Refused x)) k)
+    read-text true p e x h = h
+    read-text false p e x h = never P x
+
     pub past-text : (f : Field) → ((p : Piece) (e : ℕ) → f ≡ field.Got p e → Every P (k p e)) → Every P (afterText (textOf w v f) k)
-    past-text (field.Got p e) h = judged (isUtf8 (part v p)) p e (encoding w) k (h p e refl)
+    past-text (field.Got p e) h = read-text (isUtf8 (part v p)) p e (encoding w) (h p e refl)
     past-text field.Nothing h = never P _
 
     pub past-token : (f : Field) → ((p : Piece) (e : ℕ) → f ≡ field.Got p e → Every P (k p e)) → Every P (afterText (tokenOf w v f) k)
-    past-token (field.Got p e) h = judged (isToken (part v p)) p e (format w) k (h p e refl)
+    past-token (field.Got p e) h = read-text (isToken (part v p)) p e (format w) (h p e refl)
     past-token field.Nothing h = never P _
 
   module _ (k : ℕ → ℕ → Read A) where
+    read-amount : (e : ℕ) (x : Number) → ((n : ℕ) → x ≡ Value n → Every P (k n e)) → Every P (afterAmount (amountOf w e x) k)
+    read-amount e (Value n) h = h n refl
+    read-amount e Encoding h = never P _
+    read-amount e Format h = never P _
+
     pub past-number : (f : Field) → ((n e : ℕ) (p : Piece) → f ≡ field.Got p e → length (digits n) ≤ length (part v p) → Every P (k n e)) → Every P (afterAmount (numberOf w v f) k)
     past-number field.Nothing h = never P _
-    past-number (field.Got p e) h = go (wholeNumber 64 (part v p)) refl
-      where
-        go : (x : Number) → wholeNumber 64 (part v p) ≡ x → Every P (afterAmount (amountOf w e x) k)
-        go (Value n) q = h n e p refl (number-short 64 (part v p) n q)
-        go Encoding q = never P _
-        go Format q = never P _
+    past-number (field.Got p e) h = read-amount e (wholeNumber 64 (part v p)) (λ n q. h n e p refl (number-short 64 (part v p) n q))
 
     pub past-time : (f : Field) → ((n e : ℕ) (p : Piece) → f ≡ field.Got p e → length (timeText n) ≤ length (part v p) → Every P (k n e)) → Every P (afterAmount (timeOf w v f) k)
     past-time field.Nothing h = never P _
-    past-time (field.Got p e) h = go (typedTime (part v p)) refl
-      where
-        go : (x : Number) → typedTime (part v p) ≡ x → Every P (afterAmount (amountOf w e x) k)
-        go (Value n) q = h n e p refl (time-short (part v p) n q)
-        go Encoding q = never P _
-        go Format q = never P _
+    past-time (field.Got p e) h = read-amount e (typedTime (part v p)) (λ n q. h n e p refl (time-short (part v p) n q))
 
   pub past-choice : (k : MaybePiece → Read A) (f : Field) → ((p : Piece) (e : ℕ) → f ≡ field.Got p e → Every P (k (record { there = true; piece = p }))) → Every P (k absent)
       → Every P (afterChoice (choiceOf w v f) k)

@@ -1,7 +1,7 @@
 -- What is written of a number, a time or an offset is no longer than what it was read from. Assumes nothing.
 use mathlib.Core.Path.{_≡_, refl, sym, ap, _∙_}
 use mathlib.Core.Bool.{Bool, true, false, cond, _&&_}
-use mathlib.Core.List.{List, [], _∷_, _++_}
+use mathlib.Core.List.{List, [], _∷_}
 use Prim.Native.Nat.{ℕ, zero, suc, _+_, _-_, _*_, _/_, _%_, _^_, _≤_, _<_}
 use native.Mathlib.Nat.{pow-suc, mul-le-mul-right, mul-assoc, mul-comm, le-trans}
 use native.Mathlib.Omega.{arith}
@@ -11,14 +11,14 @@ use borrow.Author.Tests.{ltb-true, ltb-false, leb-true, eqb-true, eqb-false, le-
 use Rattle.sdp_bytes.specs.Token.{digit}
 use Rattle.sdp_bytes.specs.Utf8.{isUtf8}
 use Rattle.sdp_bytes.specs.Number
-use Rattle.sdp_bytes.specs.Number.{allDigits, value, digitsBelow, dropPlus, numeral, wholeNumber, unitOf, scaled, typedTime}
+use Rattle.sdp_bytes.specs.Number.{allDigits, value, digitsBelow, dropPlus, numeral, wholeNumber, scaled, typedTime}
 use Rattle.sdp_bytes.specs.declared.number.Number.{Number}
 use Rattle.sdp_bytes.specs.declared.number.Number.the-variants.{Value, Encoding, Format}
 use Rattle.sdp_bytes.proofs.ScanLaws.{and-left, and-right}
 use Rattle.sdp_fields.specs.Records
-use Rattle.sdp_fields.specs.Records.{negated, signed, signedOf, offsetOf}
-use Rattle.sdp_fields.specs.Read.{Read, got, refused}
-use Rattle.sdp_put.specs.Digits.{digits, timeText, offsetText}
+use Rattle.sdp_fields.specs.Records.{negated, signedOf, offsetOf}
+use Rattle.sdp_fields.specs.Read.{got, refused}
+use Rattle.sdp_put.specs.Digits.{digits, timeText}
 use Rattle.sdp_put.proofs.DigitLaws.{digits-one, digits-more, time-zero, time-day, time-hour, time-minute, time-plain, offset-minus, offset-plain}
 use Rattle.sdp_write.specs.Written.{signedText}
 

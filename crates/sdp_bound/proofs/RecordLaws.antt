@@ -1,9 +1,9 @@
 -- What is written of a line's record is no longer than the line: its value, letter, equals sign, CR and LF. Assumes nothing.
-use mathlib.Core.Path.{_≡_, refl, sym, ap, _∙_}
+use mathlib.Core.Path.{_≡_, refl, ap}
 use mathlib.Core.Bool.{Bool, true, false, cond, _&&_}
 use mathlib.Core.List.{List, [], _∷_, _++_, map}
-use mathlib.Core.Option.{Option, none, some}
-use Prim.Native.Nat.{ℕ, zero, suc, _+_, _-_, _≤_, _<_}
+use mathlib.Core.Option.{none, some}
+use Prim.Native.Nat.{ℕ, _+_, _≤_, _<_}
 use native.Mathlib.Omega.{arith}
 use lib.ListN.{length, getD, take, drop, length-take, length-drop, length-append}
 use lib.Dec.{ltb, eqb}
@@ -13,7 +13,6 @@ use Rattle.sdp_bytes.specs.Utf8.{isUtf8}
 use Rattle.sdp_bytes.specs.Number.{wholeNumber, typedTime}
 use Rattle.sdp_bytes.specs.declared.number.Number.{Number}
 use Rattle.sdp_bytes.specs.declared.number.Number.the-variants.{Value, Encoding, Format}
-use Rattle.sdp_bytes.proofs.ScanLaws.{index-le}
 use Rattle.sdp_fields.specs.Split.{part, wordAt, firstPiece, pieceAfter, restAfter, words}
 use Rattle.sdp_fields.specs.Read.{Read, got, refused, andThen}
 use Rattle.sdp_fields.specs.Records
@@ -21,7 +20,6 @@ use Rattle.sdp_fields.specs.Records.{wholeOf, usernameOf, originOf, connectionO
 use Rattle.sdp_fields.specs.Lists
 use Rattle.sdp_fields.specs.Lists.{numbered, RepeatLine, offsetsOf, repeatOf, pairsOf, zonesOf}
 use Rattle.sdp_fields.specs.declared.Piece.{Piece}
-use Rattle.sdp_fields.specs.declared.MaybePiece.{MaybePiece}
 use Rattle.sdp_fields.specs.declared.Origin.{Origin}
 use Rattle.sdp_fields.specs.declared.Connection.{Connection}
 use Rattle.sdp_fields.specs.declared.Bandwidth.{Bandwidth}
@@ -94,8 +92,22 @@ module _ (v : List ℕ) where
       past-text _ 6 v _ (wordAt v o) (λ address e a.
       past-end _ 7 v (wordAt v e) _ (every-got _ _
       (simp length-append
-      (omega (arith, left-word v 0 user i u .0, left-word v i sess j s .0, left-word v j x k n .0, left-word v k net l t .0, left-word v l kind o h .0, left-word v o address e a .0, left-whole v,
-      username-short user (left-word v 0 user i u .1), clean-short (part v sess), m, clean-short (part v net), clean-short (part v kind), clean-short (part v address)))))))))))
+      (omega (
+        arith,
+        left-word v 0 user i u .0,
+        left-word v i sess j s .0,
+        left-word v j x k n .0,
+        left-word v k net l t .0,
+        left-word v l kind o h .0,
+        left-word v o address e a .0,
+        left-whole v,
+        username-short user (left-word v 0 user i u .1),
+        clean-short (part v sess),
+        m,
+        clean-short (part v net),
+        clean-short (part v kind),
+        clean-short (part v address),
+      ))))))))))
 
   pub times-short : (t : Time) → timesOf v ≡ got t → length (line 0x74 (timeValue (timeIn t))) ≤ length v + 4
   unfolding Records.timesOf Written.line
@@ -180,8 +192,21 @@ media-short v =
     past-text _ 31 v _ (pieceAfter 0x20 v j) (λ proto k p.
     past-text _ 32 v _ (restAfter v k) (λ fmt e f.
     every-got _ _ (simp length-append
-    (omega (arith, first-piece v 0x20 name i n .0, next-piece v i x j 0x20 q .0, next-piece v j proto k 0x20 p .0, rest-piece v k fmt e f,
-    simp length-append at l, part-len v x, clean-short (part v name), part-len v name, clean-short (part v proto), part-len v proto, clean-short (part v fmt), part-len v fmt)))))))
+    (omega (
+      arith,
+      first-piece v 0x20 name i n .0,
+      next-piece v i x j 0x20 q .0,
+      next-piece v j proto k 0x20 p .0,
+      rest-piece v k fmt e f,
+      simp length-append at l,
+      part-len v x,
+      clean-short (part v name),
+      part-len v name,
+      clean-short (part v proto),
+      part-len v proto,
+      clean-short (part v fmt),
+      part-len v fmt,
+    )))))))
 
 -- ---- lists of words
 module _ {A B : Type 0} (P : B → Type 0) (Q : A → Type 0) where

@@ -1,8 +1,8 @@
 -- One line: a session grows by no more than the line's value, its letter, equals sign, CR and LF. Assumes nothing.
-use mathlib.Core.Path.{_≡_, refl, sym, ap, _∙_}
+use mathlib.Core.Path.{_≡_, refl}
 use mathlib.Core.Bool.{Bool, true, false, cond}
 use mathlib.Core.List.{List, [], _∷_, _++_, map}
-use Prim.Native.Nat.{ℕ, suc, _+_, _≤_}
+use Prim.Native.Nat.{ℕ, _+_, _≤_}
 use native.Mathlib.Omega.{arith}
 use lib.ListN.{length, length-append}
 use lib.Dec.{ltb, leb, eqb}
@@ -14,7 +14,7 @@ use Rattle.sdp_area.specs.Session.{Key, Time, Media, Offset}
 use Rattle.sdp_area.specs.With.{titled, keyed}
 use Rattle.sdp_area.specs.Latest.{given, lastTitled, lastKeyed}
 use Rattle.sdp_step.specs.Step
-use Rattle.sdp_step.specs.Step.{Reading, Stepped, goes, stops, once, row, bandwidthIn, attributeIn, mediaConnectionIn, mediaIn, keyIn, timeIn, repeated, zonesTaken, stepRole}
+use Rattle.sdp_step.specs.Step.{Reading, Stepped, goes, stops, once, row, bandwidthIn, attributeIn, mediaConnectionIn, mediaIn, keyIn, timeIn, repeated, stepRole}
 use Rattle.sdp_step.specs.declared.Role.{Role}
 use Rattle.sdp_step.specs.declared.Role.the-variants as role
 use Rattle.sdp_step.proofs.OnceLaws.{length-last}
@@ -87,10 +87,15 @@ module _ (ρ : Reading (List ℕ)) (v : List ℕ) where
           past-cond _ (ltb (length (ρ .session .tables .repeats)) 64) _ _
           (past-cond _ (leb (length (ρ .session .tables .offsets) + length (r .offsets)) 256) _ _
           (on _ _ (record {
-            bytes = omega (arith, h r refl,
-            sum-more repeatCost (ρ .session .tables .repeats) (record { owner = length (ρ .session .tables .times); repeatInterval = r .interval; activeDuration = r .duration }),
-            sum-append offsetCost (ρ .session .tables .offsets) (map offset (r .offsets)), sum-map offsetCost offset (r .offsets));
-            medias = omega arith }))
+            bytes = omega (
+              arith,
+              h r refl,
+              sum-more repeatCost (ρ .session .tables .repeats) (record { owner = length (ρ .session .tables .times); repeatInterval = r .interval; activeDuration = r .duration }),
+              sum-append offsetCost (ρ .session .tables .offsets) (map offset (r .offsets)),
+              sum-map offsetCost offset (r .offsets),
+            );
+            medias = omega arith;
+          }))
           (off _ _ _)) (off _ _ _)
 
   pub step-grown : (x : Role) → Going (Grown (length v + (3 + uses x)) (opens x) ρ) (stepRole (part v) ρ v x)
@@ -106,11 +111,13 @@ module _ (ρ : Reading (List ℕ)) (v : List ℕ) where
   step-grown role.MediaTitle =
       past-once _ 18 (lastTitled (ρ .session .tables .medias)) (wholeOf 33 v) _ (λ p q. on _ _ (record {
         bytes = omega (arith, sum-last mediaCost (titled (part v p)) (length v + 4) (λ m. omega (arith, titled-more (part v p) m, whole-short 0x69 33 v p q)) (ρ .session .tables .medias));
-        medias = omega (arith, length-last (titled (part v p)) (ρ .session .tables .medias)) }))
+        medias = omega (arith, length-last (titled (part v p)) (ρ .session .tables .medias));
+      }))
   step-grown role.MediaKey =
       past-once _ 19 (lastKeyed (ρ .session .tables .medias)) (pairOf 25 26 v) _ (λ p q. on _ _ (record {
         bytes = omega (arith, sum-last mediaCost (keyed (keyIn (part v) p)) (length v + 4) (λ m. omega (arith, keyed-more (keyIn (part v) p) m, pair-short v 0x6b 25 26 p q)) (ρ .session .tables .medias));
-        medias = omega (arith, length-last (keyed (keyIn (part v) p)) (ρ .session .tables .medias)) }))
+        medias = omega (arith, length-last (keyed (keyIn (part v) p)) (ρ .session .tables .medias));
+      }))
   step-grown role.Email =
       past-row _ 1 16 _ (wholeOf 37 v) _ (λ p q. record { bytes = omega (arith, sum-more (λ x. length (stringLine id 0x65 x)) (ρ .session .tables .emails) (part v p), whole-short 0x65 37 v p q); medias = omega arith })
   step-grown role.Phone =
@@ -129,5 +136,6 @@ module _ (ρ : Reading (List ℕ)) (v : List ℕ) where
   step-grown role.Media =
       past-row _ 10 32 _ (mediaOf v) _ (λ m q. record {
         bytes = omega (arith, sum-more mediaCost (ρ .session .tables .medias) (mediaIn (part v) m), media-short v m q);
-        medias = length-append (ρ .session .tables .medias) (mediaIn (part v) m ∷ []) })
+        medias = length-append (ρ .session .tables .medias) (mediaIn (part v) m ∷ []);
+      })
   step-grown role.Nothing = on _ ρ (record { bytes = omega arith; medias = omega arith })

@@ -37,10 +37,11 @@ byUse MediaTitle none media other = other
 byUse MediaConnection none media other = other
 byUse MediaKey none media other = other
 
--- 1 for a use, and 1 for an m line
+-- 1 for a use
 abbrev pub uses : Role → ℕ
 uses x = byUse x 0 1 1
 
+-- 1 for an m line
 abbrev pub opens : Role → ℕ
 opens x = byUse x 0 1 0
 
@@ -50,12 +51,13 @@ usedFrom medias [] = 0
 usedFrom medias (r ∷ rs) =
     uses (roleOf medias (formOf (content r))) + usedFrom (medias + opens (roleOf medias (formOf (content r)))) rs
 
--- the version line is the first that is not empty
+-- a choice by the form of a line: past an empty one, or here
 abbrev pub fromVersion : Form → ℕ → ℕ → ℕ
 fromVersion Blank skip here = skip
 fromVersion (Good l) skip here = here
 fromVersion (Bad f) skip here = here
 
+-- the version line, which is the first that is not empty, and the lines with a use after it
 unfoldable pub keptLines : List Raw → ℕ
 keptLines [] = 0
 keptLines (r ∷ rs) = fromVersion (formOf (content r)) (keptLines rs) (1 + usedFrom 0 rs)
@@ -64,9 +66,10 @@ keptLines (r ∷ rs) = fromVersion (formOf (content r)) (keptLines rs) (1 + used
 unfoldable pub kept : List ℕ → ℕ
 kept t = keptLines (split t)
 
--- strings as their bytes: the string of a piece, and the bytes of a string
+-- where strings are bytes: the string of a piece
 abbrev pub bytesAt : ℕ → List ℕ → Piece → List ℕ
 bytesAt p v x = part v x
 
+-- and the bytes of a string
 abbrev pub id : List ℕ → List ℕ
 id x = x
