@@ -5,3 +5,4 @@ pub mod RecordLaws
 pub mod CostLaws
 pub mod StepLaws
 pub mod BoundLaws
+pub mod KeptSamples
