@@ -9,7 +9,7 @@ use lib.Dec.{eqb}
 use borrow.Author.Tests.{eqb-true}
 use Rattle.sdp_bytes.proofs.ScanLaws.{and-left}
 use Rattle.sdp_lines.specs.Lines
-use Rattle.sdp_lines.specs.Lines.{Raw, onto, split, chop, content, width, formOf}
+use Rattle.sdp_lines.specs.Lines.{Raw, onto, split, content, width, formOf}
 use Rattle.sdp_lines.specs.declared.Form.{Form}
 use Rattle.sdp_lines.specs.declared.Form.the-variants.{Blank, Good, Bad}
 use Rattle.sdp_lines.proofs.LineLaws.{good-form}
@@ -95,21 +95,21 @@ begin-cost (r ∷ rs) s n p e = form (formOf (content r)) (begin-cost rs s (n + 
     later : Verdict (List ℕ)
     later = run bytesAt fresh (n + 1) (p + width r) rs
 
-    zero : (c : ℕ) (a b : Bool) → isZero (drop 2 (content r)) ≡ b
+    zero : (a b : Bool) → isZero (drop 2 (content r)) ≡ b
         → cond a (cond b later (refused (record { number = 7; line = n; field = 0; place = p + 2; len = length (drop 2 (content r)) }))) (refused (record { number = 6; line = 0; field = 0; place = 0; len = 0 })) ≡ accepted s
         → cost s ≤ length (r .body) + 1 + bodies rs + (1 + usedFrom 0 rs) + 35
-    zero c true true q e =
+    zero true true q e =
         let l = eqb-true (length (drop 2 (content r))) 1 (and-left _ _ q) in
         omega (arith, run-cost rs s fresh (n + 1) (p + width r) e, empty-cost, content-short r, length-drop 2 (content r))
-    zero c true false q e = absurd (let z : _≡_ {A = ℕ} 0 1 = cc in omega arith)
-    zero c false b q e = absurd (let z : _≡_ {A = ℕ} 0 1 = cc in omega arith)
+    zero true false q e = absurd (let z : _≡_ {A = ℕ} 0 1 = cc in omega arith)
+    zero false b q e = absurd (let z : _≡_ {A = ℕ} 0 1 = cc in omega arith)
 
     form : (f : Form) → (begin bytesAt (n + 1) (p + width r) rs ≡ accepted s → cost s ≤ bodies rs + keptLines rs + 35)
         → beginForm bytesAt n p (content r) f (begin bytesAt (n + 1) (p + width r) rs) later ≡ accepted s
         → cost s ≤ length (r .body) + 1 + bodies rs + fromVersion f (keptLines rs) (1 + usedFrom 0 rs) + 35
     form Blank ih e = omega (arith, ih e)
     form (Bad f) ih e = absurd (let z : _≡_ {A = ℕ} 0 1 = cc in omega arith)
-    form (Good c) ih e = zero c (eqb c 0x76) (isZero (drop 2 (content r))) refl e
+    form (Good c) ih e = zero (eqb c 0x76) (isZero (drop 2 (content r))) refl e
 
 -- "An accepted text's written form is at most its length plus its kept lines (v= and all with a use) plus 36 bytes."
 pub written-bound : (t : List ℕ) (s : Session (List ℕ)) → lines bytesAt t ≡ accepted s → length (written id s) ≤ length t + kept t + 36

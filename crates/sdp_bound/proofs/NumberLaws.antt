@@ -11,7 +11,7 @@ use borrow.Author.Tests.{ltb-true, ltb-false, leb-true, eqb-true, eqb-false, le-
 use Rattle.sdp_bytes.specs.Token.{digit}
 use Rattle.sdp_bytes.specs.Utf8.{isUtf8}
 use Rattle.sdp_bytes.specs.Number
-use Rattle.sdp_bytes.specs.Number.{allDigits, value, digitsBelow, dropPlus, numeral, wholeNumber, scaled, typedTime}
+use Rattle.sdp_bytes.specs.Number.{allDigits, value, digitsBelow, dropPlus, wholeNumber, scaled, typedTime}
 use Rattle.sdp_bytes.specs.declared.number.Number.{Number}
 use Rattle.sdp_bytes.specs.declared.number.Number.the-variants.{Value, Encoding, Format}
 use Rattle.sdp_bytes.proofs.ScanLaws.{and-left, and-right}

@@ -52,7 +52,7 @@ module _ (P : Reading (List ℕ) → Type 0) where
     past-row table cap c (refused w) k h = off _ _
 
 -- ---- one line
--- n bytes and m medias more at most
+-- at most n bytes more, and m medias more
 pub record Grown (n m : ℕ) (ρ τ : Reading (List ℕ)) : Type 0 where
   pub bytes : cost (τ .session) ≤ cost (ρ .session) + n
   pub medias : length (τ .session .tables .medias) ≡ length (ρ .session .tables .medias) + m
@@ -98,6 +98,7 @@ module _ (ρ : Reading (List ℕ)) (v : List ℕ) where
           }))
           (off _ _ _)) (off _ _ _)
 
+  -- 4 bytes besides the value where the line has a use; 3 are enough for any other
   pub step-grown : (x : Role) → Going (Grown (length v + (3 + uses x)) (opens x) ρ) (stepRole (part v) ρ v x)
   unfolding Step.stepRole cost
   step-grown role.Origin = past-once _ 12 (given (ρ .session .head .origin)) (originOf v) _ (λ o q. on _ _ (record { bytes = omega (arith, origin-short v o q); medias = omega arith }))
