@@ -1,0 +1,117 @@
+-- The written form of an accepted text against the text: line by line, and the whole. Assumes nothing.
+use mathlib.Core.Path.{_≡_, refl, ap}
+use mathlib.Core.Bool.{Bool, true, false, cond}
+use mathlib.Core.List.{List, [], _∷_}
+use Prim.Native.Nat.{ℕ, suc, _+_, _-_, _≤_}
+use native.Mathlib.Omega.{arith}
+use lib.ListN.{length, getD, take, drop, length-take, length-drop}
+use lib.Dec.{eqb}
+use borrow.Author.Tests.{eqb-true}
+use Rattle.sdp_bytes.proofs.ScanLaws.{and-left}
+use Rattle.sdp_lines.specs.Lines
+use Rattle.sdp_lines.specs.Lines.{Raw, onto, split, content, width, formOf}
+use Rattle.sdp_lines.specs.declared.Form.{Form}
+use Rattle.sdp_lines.specs.declared.Form.the-variants.{Blank, Good, Bad}
+use Rattle.sdp_lines.proofs.LineLaws.{good-form}
+use Rattle.sdp_area.specs.Session.{Session, empty}
+use Rattle.sdp_step.specs.Roles.{roleAt}
+use Rattle.sdp_step.specs.Step.{Reading, Stepped, goes, stops, fresh}
+use Rattle.sdp_step.specs.declared.Role.{Role}
+use Rattle.sdp_read.specs.Run
+use Rattle.sdp_read.specs.Run.{Verdict, accepted, refused, after, stepForm, run, isZero, beginForm, begin, lines}
+use Rattle.sdp_write.specs.Written
+use Rattle.sdp_write.specs.Written.{written}
+use Rattle.sdp_bound.specs.Kept.{roleOf, uses, opens, usedFrom, fromVersion, keptLines, kept, bytesAt, id}
+use Rattle.sdp_bound.proofs.RowLaws.{sum}
+use Rattle.sdp_bound.proofs.CostLaws.{cost, timesCost, written-cost}
+use Rattle.sdp_bound.proofs.StepLaws.{Going, on, off, Grown, step-grown}
+
+-- ---- the lines of a text
+content-short : (r : Raw) → length (content r) ≤ length (r .body)
+unfolding Lines.content Lines.chop
+content-short r = go (r .ended) (eqb (getD (r .body) (length (r .body) - 1) 0) 13)
+  where
+    go : (a b : Bool) → length (cond a (cond b (take (length (r .body) - 1) (r .body)) (r .body)) (r .body)) ≤ length (r .body)
+    go true true = omega (arith, length-take (length (r .body) - 1) (r .body))
+    go true false = omega arith
+    go false b = omega arith
+
+-- the lines with an LF each; the last one may lack it
+abbrev bodies : List Raw → ℕ
+bodies rs = sum (λ r. length (r .body) + 1) rs
+
+bodies-short : (t : List ℕ) → bodies (split t) ≤ length t + 1
+unfolding Lines.split sum
+bodies-short [] = omega arith
+bodies-short (b ∷ t) = go (eqb b 10) (split t) (bodies-short t)
+  where
+    go : (e : Bool) (rs : List Raw) → bodies rs ≤ length t + 1 → bodies (cond e (record { body = []; ended = true } ∷ rs) (onto b rs)) ≤ suc (length t) + 1
+    go true rs h = omega arith
+    go false [] h = omega arith
+    go false (r ∷ rs) h = omega arith
+
+-- ---- the lines after the version
+module _ (ρ : Reading (List ℕ)) (p : ℕ) (r : Raw) where
+  abbrev medias : ℕ
+  medias = length (ρ .session .tables .medias)
+
+  line-grown : (f : Form) → formOf (content r) ≡ f
+      → Going (Grown (length (r .body) + 1 + uses (roleOf medias f)) (opens (roleOf medias f)) ρ) (stepForm bytesAt ρ p (content r) f)
+  line-grown Blank e = on _ ρ (record { bytes = omega arith; medias = omega arith })
+  line-grown (Bad f) e = off _ _ _
+  line-grown (Good l) e = λ τ q.
+      let g = step-grown ρ (drop 2 (content r)) (roleAt medias l) τ q in
+      record { bytes = omega (arith, g .bytes, content-short r, good-form (content r) l e, length-drop 2 (content r)); medias = g .medias }
+
+run-cost : (rs : List Raw) (s : Session (List ℕ)) (ρ : Reading (List ℕ)) (n p : ℕ) → run bytesAt ρ n p rs ≡ accepted s
+    → cost s ≤ cost (ρ .session) + (bodies rs + usedFrom (length (ρ .session .tables .medias)) rs)
+unfolding Run.run sum usedFrom
+run-cost [] s ρ n p e = let z : ρ .session ≡ s = cc in omega (arith, ap cost z)
+run-cost (r ∷ rs) s ρ n p e = go (stepForm bytesAt ρ p (content r) (formOf (content r))) (line-grown ρ p r (formOf (content r)) refl) (λ τ. run-cost rs s τ (n + 1) (p + width r)) e
+  where
+    x : Role
+    x = roleOf (length (ρ .session .tables .medias)) (formOf (content r))
+
+    go : (σ : Stepped (List ℕ)) → Going (Grown (length (r .body) + 1 + uses x) (opens x) ρ) σ
+        → ((τ : Reading (List ℕ)) → run bytesAt τ (n + 1) (p + width r) rs ≡ accepted s → cost s ≤ cost (τ .session) + (bodies rs + usedFrom (length (τ .session .tables .medias)) rs))
+        → after bytesAt σ n (λ τ. run bytesAt τ (n + 1) (p + width r) rs) ≡ accepted s
+        → cost s ≤ cost (ρ .session) + (length (r .body) + 1 + bodies rs + (uses x + usedFrom (length (ρ .session .tables .medias) + opens x) rs))
+    go (stops number field) h ih e = absurd (let z : _≡_ {A = ℕ} 0 1 = cc in omega arith)
+    go (goes τ) h ih e =
+        let g = h τ refl in
+        omega (arith, ih τ e, g .bytes, ap (λ (k : ℕ). usedFrom k rs) (g .medias))
+
+-- ---- the version line, and the whole
+-- `v=0` alone is written with 40 bytes
+empty-cost : cost empty ≡ 40
+unfolding cost timesCost sum Written.originLine Written.line Written.zonesLine
+empty-cost = refl
+
+begin-cost : (rs : List Raw) (s : Session (List ℕ)) (n p : ℕ) → begin bytesAt n p rs ≡ accepted s → cost s ≤ bodies rs + keptLines rs + 35
+unfolding Run.begin sum keptLines
+begin-cost [] s n p e = absurd (let z : _≡_ {A = ℕ} 0 1 = cc in omega arith)
+begin-cost (r ∷ rs) s n p e = form (formOf (content r)) (begin-cost rs s (n + 1) (p + width r)) e
+  where
+    later : Verdict (List ℕ)
+    later = run bytesAt fresh (n + 1) (p + width r) rs
+
+    zero : (a b : Bool) → isZero (drop 2 (content r)) ≡ b
+        → cond a (cond b later (refused (record { number = 7; line = n; field = 0; place = p + 2; len = length (drop 2 (content r)) }))) (refused (record { number = 6; line = 0; field = 0; place = 0; len = 0 })) ≡ accepted s
+        → cost s ≤ length (r .body) + 1 + bodies rs + (1 + usedFrom 0 rs) + 35
+    zero true true q e =
+        let l = eqb-true (length (drop 2 (content r))) 1 (and-left _ _ q) in
+        omega (arith, run-cost rs s fresh (n + 1) (p + width r) e, empty-cost, content-short r, length-drop 2 (content r))
+    zero true false q e = absurd (let z : _≡_ {A = ℕ} 0 1 = cc in omega arith)
+    zero false b q e = absurd (let z : _≡_ {A = ℕ} 0 1 = cc in omega arith)
+
+    form : (f : Form) → (begin bytesAt (n + 1) (p + width r) rs ≡ accepted s → cost s ≤ bodies rs + keptLines rs + 35)
+        → beginForm bytesAt n p (content r) f (begin bytesAt (n + 1) (p + width r) rs) later ≡ accepted s
+        → cost s ≤ length (r .body) + 1 + bodies rs + fromVersion f (keptLines rs) (1 + usedFrom 0 rs) + 35
+    form Blank ih e = omega (arith, ih e)
+    form (Bad f) ih e = absurd (let z : _≡_ {A = ℕ} 0 1 = cc in omega arith)
+    form (Good c) ih e = zero (eqb c 0x76) (isZero (drop 2 (content r))) refl e
+
+-- "An accepted text's written form is at most its length plus its kept lines (v= and all with a use) plus 36 bytes."
+pub written-bound : (t : List ℕ) (s : Session (List ℕ)) → lines bytesAt t ≡ accepted s → length (written id s) ≤ length t + kept t + 36
+unfolding Run.lines kept
+written-bound t s e = omega (arith, written-cost s, begin-cost (split t) s 1 0 e, bodies-short t)

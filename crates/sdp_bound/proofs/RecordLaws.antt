@@ -1,0 +1,281 @@
+-- What is written of a line's record is no longer than the line: its value, letter, equals sign, CR and LF. Assumes nothing.
+use mathlib.Core.Path.{_≡_, refl, ap}
+use mathlib.Core.Bool.{Bool, true, false, cond, _&&_}
+use mathlib.Core.List.{List, [], _∷_, _++_, map}
+use mathlib.Core.Option.{none, some}
+use Prim.Native.Nat.{ℕ, _+_, _≤_, _<_}
+use native.Mathlib.Omega.{arith}
+use lib.ListN.{length, getD, take, drop, length-take, length-drop, length-append}
+use lib.Dec.{ltb, eqb}
+use borrow.Author.Tests.{ltb-true, ne-eqb}
+use Rattle.sdp_bytes.specs.Runs.{indexOf}
+use Rattle.sdp_bytes.specs.Utf8.{isUtf8}
+use Rattle.sdp_bytes.specs.Number.{wholeNumber, typedTime}
+use Rattle.sdp_bytes.specs.declared.number.Number.{Number}
+use Rattle.sdp_bytes.specs.declared.number.Number.the-variants.{Value, Encoding, Format}
+use Rattle.sdp_fields.specs.Split.{part, wordAt, firstPiece, pieceAfter, restAfter, words}
+use Rattle.sdp_fields.specs.Read.{Read, got, refused, andThen}
+use Rattle.sdp_fields.specs.Records
+use Rattle.sdp_fields.specs.Records.{wholeOf, usernameOf, originOf, connectionOf, bandwidthOf, timesOf, pairOf, portNumber, portOf, afterPort, mediaOf, repeatHead, offsetOf}
+use Rattle.sdp_fields.specs.Lists
+use Rattle.sdp_fields.specs.Lists.{numbered, RepeatLine, offsetsOf, repeatOf, pairsOf, zonesOf}
+use Rattle.sdp_fields.specs.declared.Piece.{Piece}
+use Rattle.sdp_fields.specs.declared.Origin.{Origin}
+use Rattle.sdp_fields.specs.declared.Connection.{Connection}
+use Rattle.sdp_fields.specs.declared.Bandwidth.{Bandwidth}
+use Rattle.sdp_fields.specs.declared.Time.{Time}
+use Rattle.sdp_fields.specs.declared.Pair.{Pair}
+use Rattle.sdp_fields.specs.declared.Port.{Port}
+use Rattle.sdp_fields.specs.declared.Media.{Media}
+use Rattle.sdp_fields.specs.declared.RepeatHead.{RepeatHead}
+use Rattle.sdp_fields.specs.declared.Zone.{Zone}
+use Rattle.sdp_fields.specs.declared.Field.{Field}
+use Rattle.sdp_fields.specs.declared.Field.the-variants as field
+use Rattle.sdp_fields.proofs.ReadLaws.{Every, every-got, never}
+use Rattle.sdp_step.specs.Step.{maybeIn, originIn, connectionIn, bandwidthIn, mediaIn, timeIn, zoneIn}
+use Rattle.sdp_put.specs.Digits.{digits, timeText}
+use Rattle.sdp_put.specs.Strings.{clean}
+use Rattle.sdp_write.specs.Written
+use Rattle.sdp_write.specs.Written.{line, each, optional, stringLine, usernameText, originLine, connectionLine, bandwidthLine, pairLine, mediaLine, timeValue, signedText, zoneText, zonesLine}
+use Rattle.sdp_bound.specs.Kept.{id}
+use Rattle.sdp_bound.proofs.NumberLaws.{number-short, time-short, offset-short}
+use Rattle.sdp_bound.proofs.RowLaws.{sum}
+use Rattle.sdp_bound.proofs.FieldLaws.{clean-short, part-len, weight, left, left-whole, left-word, first-piece, next-piece, rest-piece, past-text, past-token, past-number, past-time, past-choice, past-end}
+
+pub line-length : (letter : ℕ) (value : List ℕ) → length (line letter value) ≡ length value + 4
+unfolding Written.line
+line-length letter value = omega (arith, length-append value (0x0d ∷ 0x0a ∷ []))
+
+-- ---- one string
+pub whole-short : (letter w : ℕ) (v : List ℕ) (p : Piece) → wholeOf w v ≡ got p → length (stringLine id letter (part v p)) ≤ length v + 4
+unfolding Records.wholeOf
+whole-short letter w v p = go (isUtf8 v)
+  where
+    go : (b : Bool) → cond b (got (record { at = 0; len = length v })) (refused (record { number = 8; field = w })) ≡ got p → length (stringLine id letter (part v p)) ≤ length v + 4
+    go true e =
+        let z : record { at = 0; len = length v } ≡ p = cc in
+        omega (arith, line-length letter (clean (part v p)), clean-short (part v p), part-len v p, ap (λ (q : Piece). q .len) z)
+    go false e = absurd (let z : _≡_ {A = ℕ} 0 1 = cc in omega arith)
+
+-- ---- records of words
+module _ (v : List ℕ) where
+  pub connection-short : (c : Connection) → connectionOf v ≡ got c → length (connectionLine id (connectionIn (part v) c)) ≤ length v + 4
+  unfolding Records.connectionOf Written.connectionLine Written.line
+  connection-short =
+      past-token _ 8 v _ (wordAt v 0) (λ net i n.
+      past-token _ 9 v _ (wordAt v i) (λ kind j k.
+      past-text _ 10 v _ (wordAt v j) (λ address e a.
+      past-end _ 11 v (wordAt v e) _ (every-got _ _
+      (simp length-append (omega (arith, left-word v 0 net i n .0, left-word v i kind j k .0, left-word v j address e a .0, left-whole v, clean-short (part v net), clean-short (part v kind), clean-short (part v address))))))))
+
+  -- "Username `-` means absent", and is written again; a word has one byte at least
+  username-short : (p : Piece) → 0 < length (part v p) → length (usernameText id (maybeIn (part v) (usernameOf v p))) ≤ length (part v p)
+  unfolding Written.usernameText
+  username-short p l = go (eqb (p .len) 1 && eqb (getD v (p .at) 0) 0x2d)
+    where
+      some-name : (b : Bool) → length (cond b (0x2d ∷ []) (clean (part v p))) ≤ length (part v p)
+      some-name true = omega arith
+      some-name false = clean-short (part v p)
+
+      go : (b : Bool) → length (usernameText id (maybeIn (part v) (cond b (record { there = false; piece = record { at = 0; len = 0 } }) (record { there = true; piece = p })))) ≤ length (part v p)
+      go true = omega arith
+      go false = some-name (eqb (length (part v p)) 0)
+
+  pub origin-short : (o : Origin) → originOf v ≡ got o → length (originLine id (some (originIn (part v) o))) ≤ length v + 4
+  unfolding Records.originOf Written.originLine Written.originValue Written.line
+  origin-short =
+      past-text _ 1 v _ (wordAt v 0) (λ user i u.
+      past-text _ 2 v _ (wordAt v i) (λ sess j s.
+      past-number _ 3 v _ (wordAt v j) (λ version k x n m.
+      past-token _ 4 v _ (wordAt v k) (λ net l t.
+      past-token _ 5 v _ (wordAt v l) (λ kind o h.
+      past-text _ 6 v _ (wordAt v o) (λ address e a.
+      past-end _ 7 v (wordAt v e) _ (every-got _ _
+      (simp length-append
+      (omega (
+        arith,
+        left-word v 0 user i u .0,
+        left-word v i sess j s .0,
+        left-word v j x k n .0,
+        left-word v k net l t .0,
+        left-word v l kind o h .0,
+        left-word v o address e a .0,
+        left-whole v,
+        username-short user (left-word v 0 user i u .1),
+        clean-short (part v sess),
+        m,
+        clean-short (part v net),
+        clean-short (part v kind),
+        clean-short (part v address),
+      ))))))))))
+
+  pub times-short : (t : Time) → timesOf v ≡ got t → length (line 0x74 (timeValue (timeIn t))) ≤ length v + 4
+  unfolding Records.timesOf Written.line
+  times-short =
+      past-number _ 15 v _ (wordAt v 0) (λ start i p n m.
+      past-number _ 16 v _ (wordAt v i) (λ stop e q o k.
+      past-end _ 17 v (wordAt v e) _ (every-got _ _
+      (simp length-append (omega (arith, left-word v 0 p i n .0, left-word v i q e o .0, left-whole v, m, k))))))
+
+-- ---- records of pieces
+module _ (v : List ℕ) where
+  pub bandwidth-short : (n : ℕ) (b : Bandwidth) → bandwidthOf v ≡ got b → length (bandwidthLine id (bandwidthIn (part v) n b)) ≤ length v + 4
+  unfolding Records.bandwidthOf Written.bandwidthLine Written.line
+  bandwidth-short n =
+      past-text _ 12 v _ (firstPiece 0x3a v) (λ kind i k.
+      past-number _ 13 v _ (pieceAfter 0x3a v i) (λ m e p q l.
+      past-end _ 14 v (pieceAfter 0x3a v e) _ (every-got _ _
+      (simp length-append
+      (omega (arith, first-piece v 0x3a kind i k .0, next-piece v i p e 0x3a q .0, next-piece v i p e 0x3a q .1, l, clean-short (part v kind), part-len v kind, part-len v p))))))
+
+  pub pair-short : (letter w x : ℕ) (p : Pair) → pairOf w x v ≡ got p → length (pairLine id letter (part v (p .name)) (maybeIn (part v) (p .value))) ≤ length v + 4
+  unfolding Records.pairOf Written.pairLine Written.line
+  pair-short letter w x =
+      past-text _ w v _ (firstPiece 0x3a v) (λ name i n.
+      past-choice _ x v _ (restAfter v i)
+      (λ value e q. every-got _ _
+      (simp length-append
+      (omega (arith, first-piece v 0x3a name i n .0, rest-piece v i value e q, clean-short (part v name), part-len v name, clean-short (part v value), part-len v value))))
+      (every-got _ _
+      (simp length-append (omega (arith, first-piece v 0x3a name i n .0, first-piece v 0x3a name i n .1, clean-short (part v name), part-len v name)))))
+
+-- ---- the media, and its ports
+module _ {A : Type 0} (P : A → Type 0) (w : ℕ) (s : List ℕ) (k : ℕ → Read A) where
+  past-port : ((n : ℕ) → length (digits n) ≤ length s → Every P (k n)) → Every P (portNumber w (wholeNumber 16 s) k)
+  past-port h = go (wholeNumber 16 s) refl
+    where
+      go : (n : Number) → wholeNumber 16 s ≡ n → Every P (portNumber w n k)
+      go (Value n) q = h n (number-short 16 s n q)
+      go Encoding q = never _ _
+      go Format q = never _ _
+
+-- port or port/num
+abbrev portText : Port → List ℕ
+portText p = digits (p .port) ++ optional (λ n. (0x2f ∷ []) ++ digits n) (cond (p .«num_ports» .there) (some (p .«num_ports» .value)) none)
+
+port-short : (s : List ℕ) (p : Port) → portOf s ≡ got p → length (portText p) ≤ length s
+unfolding Records.portOf
+port-short s = go (isUtf8 s) (ltb (indexOf 0x2f s) (length s)) refl
+  where
+    go : (b c : Bool) → ltb (indexOf 0x2f s) (length s) ≡ c
+        → Every (λ p. length (portText p) ≤ length s)
+        (cond b
+        (portNumber 28 (wholeNumber 16 (take (indexOf 0x2f s) s)) (λ port.
+        cond c
+        (portNumber 30 (wholeNumber 16 (drop (indexOf 0x2f s + 1) s)) (λ n. got (record { port = port; «num_ports» = record { there = true; value = n } })))
+        (got (record { port = port; «num_ports» = record { there = false; value = 0 } }))))
+        (refused (record { number = 8; field = 29 })))
+    go false c q = never _ _
+    go true true q =
+        past-port _ 28 (take (indexOf 0x2f s) s) _ (λ port h.
+        past-port _ 30 (drop (indexOf 0x2f s + 1) s) _ (λ n l.
+        every-got _ _ (simp length-append
+        (omega (arith, h, l, ltb-true (indexOf 0x2f s) (length s) q, length-take (indexOf 0x2f s) s, length-drop (indexOf 0x2f s + 1) s)))))
+    go true false q =
+        past-port _ 28 (take (indexOf 0x2f s) s) _ (λ port h.
+        every-got _ _ (simp length-append (omega (arith, h, length-take (indexOf 0x2f s) s))))
+
+module _ {A : Type 0} (P : A → Type 0) (v : List ℕ) (k : Port → ℕ → Read A) where
+  past-ports : (f : Field) → ((p : Port) (e : ℕ) (x : Piece) → f ≡ field.Got x e → length (portText p) ≤ length (part v x) → Every P (k p e)) → Every P (afterPort v f k)
+  past-ports field.Nothing h = never _ _
+  past-ports (field.Got x e) h = go (portOf (part v x)) (port-short (part v x))
+    where
+      go : (r : Read Port) → Every (λ p. length (portText p) ≤ length (part v x)) r → Every P (andThen r (λ p. k p e))
+      go (got p) b = h p e x refl (b p refl)
+      go (refused x) b = never P x
+
+pub media-short : (v : List ℕ) (m : Media) → mediaOf v ≡ got m → length (mediaLine id (mediaIn (part v) m)) ≤ length v + 4
+unfolding Records.mediaOf Written.mediaLine Written.line
+media-short v =
+    past-text _ 27 v _ (firstPiece 0x20 v) (λ name i n.
+    past-ports _ v _ (pieceAfter 0x20 v i) (λ port j x q l.
+    past-text _ 31 v _ (pieceAfter 0x20 v j) (λ proto k p.
+    past-text _ 32 v _ (restAfter v k) (λ fmt e f.
+    every-got _ _ (simp length-append
+    (omega (
+      arith,
+      first-piece v 0x20 name i n .0,
+      next-piece v i x j 0x20 q .0,
+      next-piece v j proto k 0x20 p .0,
+      rest-piece v k fmt e f,
+      simp length-append at l,
+      part-len v x,
+      clean-short (part v name),
+      part-len v name,
+      clean-short (part v proto),
+      part-len v proto,
+      clean-short (part v fmt),
+      part-len v fmt,
+    )))))))
+
+-- ---- lists of words
+module _ {A B : Type 0} (P : B → Type 0) (Q : A → Type 0) where
+  past-read : (r : Read A) (k : A → Read B) → Every Q r → ((a : A) → Q a → Every P (k a)) → Every P (andThen r k)
+  past-read (got a) k q h = h a (q a refl)
+  past-read (refused x) k q h = never P x
+
+-- a number that was read
+module _ {A : Type 0} (P : A → Type 0) (w : ℕ) (k : ℕ → Read A) where
+  past-numbered : (x : Number) → ((n : ℕ) → x ≡ Value n → Every P (k n)) → Every P (andThen (numbered w x) k)
+  past-numbered (Value n) h = h n refl
+  past-numbered Encoding h = never _ _
+  past-numbered Format h = never _ _
+
+-- the offsets, each with a space
+unfoldable pub offsetsSize : List ℕ → ℕ
+offsetsSize ns = sum (λ n. length (timeText n) + 1) ns
+
+offsets-short : (ws : List (List ℕ)) (ns : List ℕ) → offsetsOf ws ≡ got ns → offsetsSize ns ≤ weight ws
+unfolding Lists.offsetsOf sum offsetsSize
+offsets-short [] = every-got _ _ (omega arith)
+offsets-short (w ∷ ws) =
+    past-numbered _ 20 _ (typedTime w) (λ n q.
+    past-read _ _ (offsetsOf ws) _ (offsets-short ws) (λ ns h.
+    every-got _ _ (omega (arith, time-short w n q, h))))
+
+-- interval, duration and offsets, with spaces between them
+unfoldable pub repeatSize : RepeatLine → ℕ
+repeatSize r = length (timeText (r .interval)) + 1 + length (timeText (r .duration)) + offsetsSize (r .offsets)
+
+module _ (v : List ℕ) where
+  head-short : (h : RepeatHead) → repeatHead v ≡ got h → length (timeText (h .«repeat_interval»)) + 1 + length (timeText (h .«active_duration»)) + left v (h .next) ≤ length v
+  unfolding Records.repeatHead
+  head-short =
+      past-time _ 18 v _ (wordAt v 0) (λ interval i p n m.
+      past-time _ 19 v _ (wordAt v i) (λ duration e q o k.
+      every-got _ _ (omega (arith, left-word v 0 p i n .0, left-word v i q e o .0, left-whole v, m, k))))
+
+  pub repeat-short : (r : RepeatLine) → repeatOf v ≡ got r → repeatSize r ≤ length v
+  unfolding Lists.repeatOf repeatSize
+  repeat-short =
+      past-read _ _ (repeatHead v) _ head-short (λ h a.
+      past-read _ _ (offsetsOf (words (drop (h .next) v))) _ (offsets-short (words (drop (h .next) v))) (λ ns b.
+      every-got _ _ (omega (arith, a, b))))
+
+-- a pair of the z line, with a space before or after it
+unfoldable pub zoneSize : Zone → ℕ
+zoneSize z = length (digits (z .«adjustment_time»)) + 1 + length (signedText (z .offset)) + 1
+
+pairs-short : (ws : List (List ℕ)) (zs : List Zone) → pairsOf ws ≡ got zs → sum zoneSize zs ≤ weight ws
+unfolding Lists.pairsOf sum zoneSize
+pairs-short [] = every-got _ _ (omega arith)
+pairs-short (a ∷ []) = past-numbered _ 21 _ (wholeNumber 64 a) (λ n q. never _ _)
+pairs-short (a ∷ o ∷ ws) =
+    past-numbered _ 21 _ (wholeNumber 64 a) (λ n q.
+    past-read _ _ (offsetOf o) _ (offset-short o) (λ m l.
+    past-read _ _ (pairsOf ws) _ (pairs-short ws) (λ zs h.
+    every-got _ _ (omega (arith, number-short 64 a n q, l, h)))))
+
+-- the pairs after the first
+later-short : (zs : List Zone) (k : ℕ) → 1 < k → length (each zoneText k (map zoneIn zs)) ≤ sum zoneSize zs
+unfolding sum zoneSize Written.each Written.zoneText
+later-short [] k h = omega arith
+later-short (z ∷ zs) k h = rw (ne-eqb k 1 (λ e. omega arith)) (simp length-append (omega (arith, later-short zs (k + 1) (omega arith))))
+
+pub zones-short : (v : List ℕ) (zs : List Zone) → zonesOf v ≡ got zs → length (zonesLine (map zoneIn zs)) ≤ length v + 4
+unfolding Lists.zonesOf sum zoneSize Written.zonesLine Written.each Written.zoneText Written.line
+zones-short v zs e = go zs (pairs-short (words v) zs e)
+  where
+    go : (zs : List Zone) → sum zoneSize zs ≤ weight (words v) → length (zonesLine (map zoneIn zs)) ≤ length v + 4
+    go [] h = omega arith
+    go (z ∷ zs) h = simp length-append (omega (arith, later-short zs 2 (omega arith), left-whole v))
