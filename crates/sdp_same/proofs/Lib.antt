@@ -1,0 +1,3 @@
+pub mod WrittenLaws
+pub mod StepLaws
+pub mod LinesLaws
