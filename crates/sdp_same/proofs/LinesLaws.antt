@@ -1,5 +1,5 @@
 -- A text read with places and lengths says what the same text says when it is read with bytes. Assumes nothing.
-use Prim.Native.Nat.{ℕ, _+_, _-_, _≤_, _<_}
+use Prim.Native.Nat.{ℕ, _+_, _≤_, _<_}
 use native.Mathlib.Decide.{decLt}
 use native.Mathlib.Omega.{arith}
 use mathlib.Core.Path.{_≡_, refl, sym, ap, _∙_}
@@ -26,12 +26,8 @@ use Rattle.sdp_step.specs.Step.{Reading, Stepped, goes, stops, fresh}
 use Rattle.sdp_read.specs.Run as reader
 use Rattle.sdp_read.specs.Run.{Verdict, accepted, refused, noVersion, badVersion, isZero, after, stepForm, run, version, beginForm, begin, lines}
 use Rattle.sdp_same.specs.Said.{bytesAt, said, saidReading, saidStep, saidVerdict}
+use Rattle.sdp_same.proofs.StandsLaws.{Stands}
 use Rattle.sdp_same.proofs.StepLaws.{line-said}
-
--- the bytes v stand at place p of the text t
-pub record Stands (t : List ℕ) (p : ℕ) (v : List ℕ) : Type 0 where
-  pub rest : List ℕ
-  pub here : drop p t ≡ v ++ rest
 
 module _ (t : List ℕ) where
   -- a piece of v is a string of the text

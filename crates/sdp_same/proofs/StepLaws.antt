@@ -12,7 +12,6 @@ use Rattle.sdp_fields.specs.Lists.{RepeatLine, repeatOf, zonesOf}
 use Rattle.sdp_fields.specs.Answers.{Inside}
 use Rattle.sdp_fields.specs.declared.Piece.{Piece}
 use Rattle.sdp_fields.specs.declared.MaybePiece.{MaybePiece}
-use Rattle.sdp_fields.specs.declared.Zone as zone
 use Rattle.sdp_fields.specs.declared.Origin as origin
 use Rattle.sdp_fields.specs.declared.Connection as connection
 use Rattle.sdp_fields.specs.declared.Pair.{Pair}
@@ -29,7 +28,7 @@ use Rattle.sdp_step.specs.Step.{Reading, Stepped, goes, stops, once, row, maybe
 use Rattle.sdp_step.specs.Roles.{roleAt}
 use Rattle.sdp_step.specs.declared.Role.{Role}
 use Rattle.sdp_step.specs.declared.Role.the-variants as role
-use Rattle.sdp_same.specs.Said.{saidOrigin, saidConnection, saidKey, saidMediaConnection, saidBandwidth, saidAttribute, saidMedia, said, saidReading, saidStep}
+use Rattle.sdp_same.specs.Said.{saidOrigin, saidConnection, saidKey, saidMediaConnection, saidBandwidth, saidAttribute, saidMedia, saidReading, saidStep}
 
 -- ---- lists and what may be absent
 given-said : {X Y : Type 0} (h : X → Y) (o : Option X) → given o ≡ given (Option·map h o)

@@ -2,7 +2,7 @@
 -- every string replaced by what f says of it.
 use Prim.Native.Nat.{ℕ}
 use mathlib.Core.List.{List, map}
-use mathlib.Core.Option.{Option, Option·map}
+use mathlib.Core.Option.{Option·map}
 use Rattle.sdp_fields.specs.Split.{part}
 use Rattle.sdp_fields.specs.declared.Piece.{Piece}
 use Rattle.sdp_area.specs.Session.{Origin, Connection, Key, MediaConnection, Bandwidth, Attribute, Media, Head, Tables, Session}
@@ -15,8 +15,14 @@ bytesAt p v x = part v x
 
 module _ {S T : Type 0} (f : S → T) where
   abbrev pub saidOrigin : Origin S → Origin T
-  saidOrigin o =
-      record { username = Option·map f (o .username); sessId = f (o .sessId); sessVersion = o .sessVersion; nettype = f (o .nettype); addrtype = f (o .addrtype); unicastAddress = f (o .unicastAddress) }
+  saidOrigin o = record {
+    username = Option·map f (o .username);
+    sessId = f (o .sessId);
+    sessVersion = o .sessVersion;
+    nettype = f (o .nettype);
+    addrtype = f (o .addrtype);
+    unicastAddress = f (o .unicastAddress);
+  }
 
   abbrev pub saidConnection : Connection S → Connection T
   saidConnection c = record { nettype = f (c .nettype); addrtype = f (c .addrtype); connectionAddress = f (c .connectionAddress) }
@@ -35,13 +41,26 @@ module _ {S T : Type 0} (f : S → T) where
   saidAttribute a = record { owner = a .owner; attribute = f (a .attribute); value = Option·map f (a .value) }
 
   abbrev pub saidMedia : Media S → Media T
-  saidMedia m =
-      record { media = f (m .media); port = m .port; numPorts = m .numPorts; proto = f (m .proto); fmt = f (m .fmt); mediaTitle = Option·map f (m .mediaTitle); key = Option·map saidKey (m .key) }
+  saidMedia m = record {
+    media = f (m .media);
+    port = m .port;
+    numPorts = m .numPorts;
+    proto = f (m .proto);
+    fmt = f (m .fmt);
+    mediaTitle = Option·map f (m .mediaTitle);
+    key = Option·map saidKey (m .key);
+  }
 
   -- ---- the whole
   abbrev pub saidHead : Head S → Head T
-  saidHead h =
-      record { origin = Option·map saidOrigin (h .origin); name = Option·map f (h .name); description = Option·map f (h .description); uri = Option·map f (h .uri); connection = Option·map saidConnection (h .connection); key = Option·map saidKey (h .key) }
+  saidHead h = record {
+    origin = Option·map saidOrigin (h .origin);
+    name = Option·map f (h .name);
+    description = Option·map f (h .description);
+    uri = Option·map f (h .uri);
+    connection = Option·map saidConnection (h .connection);
+    key = Option·map saidKey (h .key);
+  }
 
   -- times, repeats, offsets and zones have no strings
   abbrev pub saidTables : Tables S → Tables T
