@@ -55,11 +55,11 @@ module _ {A : Type 0} (P : A → Type 0) where
       go false = never _ _
   every-choice w v field.Nothing l k h = h absent (omega arith)
 
-  every-end : (w : ℕ) (f : Field) (r : Read A) → Every P r → Every P (ending w f r)
+  pub every-end : (w : ℕ) (f : Field) (r : Read A) → Every P r → Every P (ending w f r)
   every-end w (field.Got p e) r h = never _ _
   every-end w field.Nothing r h = h
 
-  every-cond : (b : Bool) (r s : Read A) → Every P r → Every P s → Every P (cond b r s)
+  pub every-cond : (b : Bool) (r s : Read A) → Every P r → Every P s → Every P (cond b r s)
   every-cond true r s h k = h
   every-cond false r s h k = k
 
@@ -127,7 +127,7 @@ pair-within w x v =
     every-got _ _ (record { name = n; value = m })))
 
 -- ---- the media, and its ports
-number-below : (w : ℕ) (s : List ℕ) (n : ℕ) → wholeNumber w s ≡ Value n → n < 2 ^ w
+pub number-below : (w : ℕ) (s : List ℕ) (n : ℕ) → wholeNumber w s ≡ Value n → n < 2 ^ w
 unfolding wholeNumber numeral digitsBelow
 number-below w s n = go (isUtf8 s) (ltb 0 (length (dropPlus s)) && (allDigits (dropPlus s) && ltb (value 0 (dropPlus s)) (2 ^ w))) refl
   where
@@ -164,7 +164,7 @@ ports s =
     (never _ _)
 
 module _ {A : Type 0} (P : A → Type 0) where
-  every-port : (v : List ℕ) (f : Field) (k : Port → ℕ → Read A) → ((p : Port) (e : ℕ) → Ports (p .port) (p .«num_ports» .value) → Every P (k p e)) → Every P (afterPort v f k)
+  pub every-port : (v : List ℕ) (f : Field) (k : Port → ℕ → Read A) → ((p : Port) (e : ℕ) → Ports (p .port) (p .«num_ports» .value) → Every P (k p e)) → Every P (afterPort v f k)
   every-port v field.Nothing k h = never _ _
   every-port v (field.Got p e) k h = go (portOf (part v p)) (ports (part v p))
     where

@@ -1,27 +1,24 @@
 -- The area loses nothing: what the bytes of a session say is the session, with a name. Assumes nothing.
 use mathlib.Core.Path.{_≡_, refl, ap, _∙_}
-use mathlib.Core.Bool.{cond}
 use mathlib.Core.List.{List, [], _∷_, _++_}
 use mathlib.Core.Option.{Option, none, some}
-use Prim.Native.Nat.{ℕ, zero, suc, _+_, _<_, _≤_}
-use lib.Dec.{eqb, lit<}
+use Prim.Native.Nat.{ℕ, _+_, _<_}
+use lib.Dec.{lit<}
 use lib.ListN.{length}
 use Rattle.sdp_lines.specs.declared.Span.{Span}
 use Rattle.sdp_area.specs.Bytes as bytes
-use Rattle.sdp_area.specs.Bytes.{le, num}
-use Rattle.sdp_area.specs.Tables as tables
-use Rattle.sdp_area.specs.Tables.{flat, tab}
-use Rattle.sdp_area.specs.Session.{Origin, Connection, Key, MediaConnection, Bandwidth, Time, Repeat, Offset, Zone, Attribute, Media, Session}
+use Rattle.sdp_area.specs.Bytes.{le}
+use Rattle.sdp_area.specs.Tables.{flat}
+use Rattle.sdp_area.specs.Session.{Session}
 use Rattle.sdp_area.specs.Area as area
-use Rattle.sdp_area.specs.Area.{span, opt, originBytes, nameBytes, connectionBytes, keyBytes, mediaConnectionRow, bandwidthRow, timeRow, repeatRow, offsetRow, zoneRow, attributeRow, mediaRow, encode}
-use Rattle.sdp_area.proofs.ByteLaws.{length-le}
-use Rattle.sdp_area.proofs.WidthLaws.{length-span, length-media-connection, length-bandwidth, length-time, length-repeat, length-offset, length-zone, length-attribute, length-media}
+use Rattle.sdp_area.specs.Area.{span, opt, originBytes, nameBytes, connectionBytes, keyBytes, mediaConnectionRow, bandwidthRow, timeRow, repeatRow, offsetRow, zoneRow, attributeRow, mediaRow, encode, originAt, nameAt, descriptionAt, uriAt, connectionAt, keyAt}
 use Rattle.sdp_cells.specs.Rows as cells
 use Rattle.sdp_cells.specs.Rows.{rowsAt, table, marked}
 use Rattle.sdp_cells.specs.Decode as decoded
 use Rattle.sdp_cells.specs.Decode.{num2, spanOf, originOf, connectionOf, keyOf, mediaConnectionOf, bandwidthOf, timeOf, repeatOf, offsetOf, zoneOf, attributeOf, mediaOf, decode}
-use Rattle.sdp_same.specs.Fits.{FitsSpan, IfGiven, Each, FitOrigin, FitConnection, FitKey, FitMediaConnection, FitBandwidth, FitTime, FitRepeat, FitOffset, FitZone, FitAttribute, FitMedia, FitsWith, nameOf, named}
-use Rattle.sdp_same.proofs.StandsLaws.{Stands, num-back, absent-mark, present-mark, first-row, table-parts, segment}
+use Rattle.sdp_same.specs.Fits.{FitsSpan, IfGiven, Each, FitOrigin, FitConnection, FitKey, FitMediaConnection, FitBandwidth, FitTime, FitRepeat, FitOffset, FitZone, FitAttribute, FitMedia, Fits, nameOf, named}
+use Rattle.sdp_same.proofs.StandsLaws.{Stands, num-back, absent-mark, present-mark, first-row, segment}
+use Rattle.sdp_same.proofs.TableLaws.{Table, count, rows-here, emails-here, phones-here, connections-here, bandwidths-here, times-here, repeats-here, offsets-here, zones-here, attributes-here, medias-here}
 use Rattle.sdp_same.proofs.PartLaws.{span-parts, origin-parts, connection-parts, key-parts, media-connection-parts, bandwidth-parts, time-parts, repeat-parts, offset-parts, zone-parts, attribute-parts, media-parts}
 
 -- what f writes of an x with P is read back by rd
@@ -43,10 +40,8 @@ module _ {X : Type 0} (P : X → Type 0) (f : X → List ℕ) (rd : List ℕ →
         let q = first-row f k wide x xs w in
         λ i. back a n x (h .0) (q .0) i ∷ rows-back xs (n + k) (h .1) (q .1) i
 
-    table-back : (cap : ℕ) → cap < 65536 → (n : ℕ) (xs : List X) → length xs ≤ cap → Each P xs → Stands a n (tab cap k f xs) → table rd k a n ≡ xs
-    table-back cap small n xs l h w =
-        let q = table-parts f k wide cap small xs l w in
-        ap (λ (c : ℕ). rowsAt rd k c a (n + 2)) (q .0) ∙ rows-back xs (n + 2) h (q .1)
+  table-back : {a : List ℕ} {k cap n : ℕ} {xs : List X} → Table a P f k cap n xs → table rd k a n ≡ xs
+  table-back {a} {k} {cap} {n} {xs} T = ap (λ (c : ℕ). rowsAt rd k c a (n + 2)) (count T) ∙ rows-back k (T .wide) a xs (n + 2) (T .fits .each) (rows-here T)
 
 -- ---- records without strings
 time-back : Back FitTime timeRow timeOf
@@ -67,7 +62,7 @@ zone-back a n z h w = let q = zone-parts z w in λ i. record { adjustmentTime = 
 span-fits : Back FitsSpan span spanOf
 span-fits a n x h w =
     let q = span-parts x w in
-    λ i. record { at = record { 0 = num-back 2 (x .at .0) (h .place) (q .0) i }; len = num-back 2 (x .len) (h .length) (q .1) i }
+    λ i. record { at = record { 0 = num-back 2 (x .at .0) (h .at) (q .0) i }; len = num-back 2 (x .len) (h .len) (q .1) i }
 
 -- ---- P asks at least for room
 module _ (P : Span → Type 0) (room : (x : Span) → P x → FitsSpan x) where
@@ -79,7 +74,7 @@ module _ (P : Span → Type 0) (room : (x : Span) → P x → FitsSpan x) where
 
   name-back : (a : List ℕ) (n : ℕ) (o : Option Span) → IfGiven P o → Stands a n (nameBytes o) → spanOf a n ≡ nameOf o
   unfolding area.nameBytes area.span bytes.le bytes.zeros
-  name-back a n none h w = span-fits a n (nameOf none) (record { place = lit< tt; length = lit< tt }) w
+  name-back a n none h w = span-fits a n (nameOf none) (record { at = lit< tt; len = lit< tt }) w
   name-back a n (some x) h w = span-back a n x h w
 
   connection-back : Back (FitConnection P) connectionBytes connectionOf
@@ -133,29 +128,29 @@ module _ (P : Span → Type 0) (room : (x : Span) → P x → FitsSpan x) where
       }
 
   -- ---- the whole
-  pub decode-encode : (s : Session Span) → FitsWith P s → (x : List ℕ) → decode (encode s ++ x) ≡ named s
+  pub decode-encode : (s : Session Span) → Fits P s → (x : List ℕ) → decode (encode s ++ x) ≡ named s
   unfolding decoded.decode
   decode-encode s h x =
       let a : List ℕ = encode s ++ x in
       λ i. record {
         head = record {
-          origin = marked-back (FitOrigin P) originBytes originOf origin-back 30 a 0 (s .head .origin) (h .head .origin) (segment s x 0 (lit< tt)) i;
-          name = some (name-back a 32 (s .head .name) (h .head .name) (segment s x 1 (lit< tt)) i);
-          description = maybe-back a 36 (s .head .description) (h .head .description) (segment s x 2 (lit< tt)) i;
-          uri = maybe-back a 42 (s .head .uri) (h .head .uri) (segment s x 3 (lit< tt)) i;
-          connection = marked-back (FitConnection P) connectionBytes connectionOf connection-back 12 a 48 (s .head .connection) (h .head .connection) (segment s x 4 (lit< tt)) i;
-          key = marked-back (FitKey P) keyBytes keyOf key-back 10 a 62 (s .head .key) (h .head .key) (segment s x 5 (lit< tt)) i;
+          origin = marked-back (FitOrigin P) originBytes originOf origin-back 30 a originAt (s .head .origin) (h .head .origin) (segment s x 0 (lit< tt)) i;
+          name = some (name-back a nameAt (s .head .name) (h .head .name) (segment s x 1 (lit< tt)) i);
+          description = maybe-back a descriptionAt (s .head .description) (h .head .description) (segment s x 2 (lit< tt)) i;
+          uri = maybe-back a uriAt (s .head .uri) (h .head .uri) (segment s x 3 (lit< tt)) i;
+          connection = marked-back (FitConnection P) connectionBytes connectionOf connection-back 12 a connectionAt (s .head .connection) (h .head .connection) (segment s x 4 (lit< tt)) i;
+          key = marked-back (FitKey P) keyBytes keyOf key-back 10 a keyAt (s .head .key) (h .head .key) (segment s x 5 (lit< tt)) i;
         };
         tables = record {
-          emails = table-back P span spanOf span-back 4 length-span a 16 (lit< tt) 74 (s .tables .emails) (h .within .emails) (h .tables .emails) (segment s x 6 (lit< tt)) i;
-          phones = table-back P span spanOf span-back 4 length-span a 16 (lit< tt) 140 (s .tables .phones) (h .within .phones) (h .tables .phones) (segment s x 7 (lit< tt)) i;
-          connections = table-back _ mediaConnectionRow mediaConnectionOf media-connection-back 14 length-media-connection a 64 (lit< tt) 206 (s .tables .connections) (h .within .connections) (h .tables .connections) (segment s x 8 (lit< tt)) i;
-          bandwidths = table-back _ bandwidthRow bandwidthOf bandwidth-back 14 length-bandwidth a 64 (lit< tt) 1104 (s .tables .bandwidths) (h .within .bandwidths) (h .tables .bandwidths) (segment s x 9 (lit< tt)) i;
-          times = table-back _ timeRow timeOf time-back 16 length-time a 32 (lit< tt) 2002 (s .tables .times) (h .within .times) (h .tables .times) (segment s x 10 (lit< tt)) i;
-          repeats = table-back _ repeatRow repeatOf repeat-back 18 length-repeat a 64 (lit< tt) 2516 (s .tables .repeats) (h .within .repeats) (h .tables .repeats) (segment s x 11 (lit< tt)) i;
-          offsets = table-back _ offsetRow offsetOf offset-back 10 length-offset a 256 (lit< tt) 3670 (s .tables .offsets) (h .within .offsets) (h .tables .offsets) (segment s x 12 (lit< tt)) i;
-          zones = table-back _ zoneRow zoneOf zone-back 16 length-zone a 64 (lit< tt) 6232 (s .tables .zones) (h .within .zones) (h .tables .zones) (segment s x 13 (lit< tt)) i;
-          attributes = table-back _ attributeRow attributeOf attribute-back 12 length-attribute a 512 (lit< tt) 7258 (s .tables .attributes) (h .within .attributes) (h .tables .attributes) (segment s x 14 (lit< tt)) i;
-          medias = table-back _ mediaRow mediaOf media-back 36 length-media a 32 (lit< tt) 13404 (s .tables .medias) (h .within .medias) (h .tables .medias) (segment s x 15 (lit< tt)) i;
+          emails = table-back _ span spanOf span-back (emails-here P s h x) i;
+          phones = table-back _ span spanOf span-back (phones-here P s h x) i;
+          connections = table-back _ mediaConnectionRow mediaConnectionOf media-connection-back (connections-here P s h x) i;
+          bandwidths = table-back _ bandwidthRow bandwidthOf bandwidth-back (bandwidths-here P s h x) i;
+          times = table-back _ timeRow timeOf time-back (times-here P s h x) i;
+          repeats = table-back _ repeatRow repeatOf repeat-back (repeats-here P s h x) i;
+          offsets = table-back _ offsetRow offsetOf offset-back (offsets-here P s h x) i;
+          zones = table-back _ zoneRow zoneOf zone-back (zones-here P s h x) i;
+          attributes = table-back _ attributeRow attributeOf attribute-back (attributes-here P s h x) i;
+          medias = table-back _ mediaRow mediaOf media-back (medias-here P s h x) i;
         };
       }

@@ -37,11 +37,11 @@ module _ (t : List ℕ) where
       ∙ take-append-le (x .len) (drop (x .at) v) (w .rest) (omega (arith, length-drop (x .at) v))
 
   -- without its first k bytes
-  stands-drop : (p : ℕ) (v : List ℕ) → Stands t p v → (k : ℕ) → k ≤ length v → Stands t (p + k) (drop k v)
+  pub stands-drop : (p : ℕ) (v : List ℕ) → Stands t p v → (k : ℕ) → k ≤ length v → Stands t (p + k) (drop k v)
   stands-drop p v w k h = record { rest = w .rest; here = sym (drop-drop k p t) ∙ ap (drop k) (w .here) ∙ drop-append-le k v (w .rest) h }
 
   -- the first line from place p on stands there, and the next ones behind it
-  first-stands : (p : ℕ) (r : Raw) (rs : List Raw) → split (drop p t) ≡ r ∷ rs → Stands t p (content r) × (split (drop (p + width r) t) ≡ rs)
+  pub first-stands : (p : ℕ) (r : Raw) (rs : List Raw) → split (drop p t) ≡ r ∷ rs → Stands t p (content r) × (split (drop (p + width r) t) ≡ rs)
   unfolding cut.split
   first-stands p r rs e = go (decLt p (length t))
     where

@@ -1,23 +1,22 @@
--- Bytes that stand at a place of a list, and the numbers, marks, rows and tables that stand there. Assumes nothing.
+-- Bytes that stand at a place of a list, and the numbers, marks and rows that stand there. Assumes nothing.
 use mathlib.Core.Path.{_≡_, refl, sym, ap, _∙_}
 use mathlib.Core.List.{List, [], _∷_, _++_, append-assoc}
-use mathlib.Core.Option.{Option, none, some}
-use Prim.Native.Nat.{ℕ, zero, suc, _+_, _*_, _-_, _^_, _≤_, _<_}
-use native.Mathlib.Nat.{add-zero, add-assoc, mul-le-mul-right}
+use mathlib.Core.Option.{none, some}
+use Prim.Native.Nat.{ℕ, zero, suc, _+_, _^_, _<_}
+use native.Mathlib.Nat.{add-zero, add-assoc}
 use native.Mathlib.Omega.{arith}
 use lib.Dec.{lit<}
-use lib.ListN.{length, take, drop, getD}
-use lib.Seq.{drop-drop, drop-at, getD-drop, take-append-add}
+use lib.ListN.{length, drop, getD}
+use lib.Seq.{drop-drop, drop-at, getD-drop}
 use Rattle.sdp_lines.specs.declared.Span.{Span}
 use Rattle.sdp_area.specs.Bytes as bytes
 use Rattle.sdp_area.specs.Bytes.{le, num, zeros}
 use Rattle.sdp_area.specs.Tables as tables
-use Rattle.sdp_area.specs.Tables.{flat, fit, tab}
+use Rattle.sdp_area.specs.Tables.{flat}
 use Rattle.sdp_area.specs.Area as area
 use Rattle.sdp_area.specs.Area.{opt, segments, encode}
 use Rattle.sdp_area.specs.Session.{Session}
 use Rattle.sdp_area.proofs.ByteLaws.{length-le, num-at, zeros-add, le-zero}
-use Rattle.sdp_area.proofs.TableLaws.{length-flat}
 use Rattle.sdp_area.proofs.SegmentLaws.{cat-view}
 use Rattle.sdp_area.proofs.WidthLaws.{start, before, behind, begins}
 
@@ -67,17 +66,6 @@ module _ {X : Type 0} (f : X → List ℕ) (k : ℕ) (wide : (x : X) → length 
   pub first-row : (x : X) (xs : List X) → Stands a n (flat f (x ∷ xs)) → Stands a n (f x) × Stands a (n + k) (flat f xs)
   unfolding tables.flat
   first-row x xs w = (front (f x) _ w, past (f x) _ w (wide x) (n + k) refl)
-
-  -- a table's count and its rows
-  pub table-parts : (cap : ℕ) → cap < 65536 → (xs : List X) → length xs ≤ cap → Stands a n (tab cap k f xs) → (num 2 a n ≡ length xs) × Stands a (n + 2) (flat f xs)
-  unfolding tables.tab tables.fit
-  table-parts cap small xs h w =
-      let c : List ℕ = le 2 (length xs) in
-      let l : length (flat f xs) ≤ cap * k = rw (length-flat f k wide xs) (mul-le-mul-right k h) in
-      let j : cap * k ≡ length (flat f xs) + (cap * k - length (flat f xs)) = omega arith in
-      let e : fit (cap * k) (flat f xs) ≡ flat f xs ++ take (cap * k - length (flat f xs)) (zeros (cap * k)) =
-      ap (λ (i : ℕ). take i (flat f xs ++ zeros (cap * k))) j ∙ take-append-add (flat f xs) (zeros (cap * k)) (cap * k - length (flat f xs)) in
-      (num-back 2 (length xs) (omega arith) (front c _ w), front (flat f xs) _ (rw e at (past c _ w (length-le 2 (length xs)) (n + 2) refl)))
 
 -- ---- a segment of the area
 pub segment : (s : Session Span) (x : List ℕ) (k : ℕ) → k < 16 → Stands (encode s ++ x) (start k) (getD (segments s) k [])

@@ -1,15 +1,16 @@
 -- A session whose numbers all have room in the cells of the area: docs/AREA.md. P is what is asked of a string.
-use Prim.Native.Nat.{ℕ, _^_, _<_}
+use Prim.Native.Nat.{ℕ, _^_, _<_, _≤_}
 use mathlib.Core.List.{List, [], _∷_}
 use mathlib.Core.Option.{Option, none, some}
+use lib.ListN.{length}
 use Rattle.sdp_lines.specs.declared.Span.{Span}
-use Rattle.sdp_area.specs.Session.{Origin, Connection, Key, MediaConnection, Bandwidth, Time, Repeat, Offset, Zone, Attribute, Media, Head, Tables, Session, Within}
+use Rattle.sdp_area.specs.Session.{Origin, Connection, Key, MediaConnection, Bandwidth, Time, Repeat, Offset, Zone, Attribute, Media, Head, Tables, Session}
 use Rattle.sdp_area.specs.With.{withName}
 
 -- two bytes each for a place and a length
 pub record FitsSpan (x : Span) : Type 0 where
-  pub place : x .at .0 < 65536
-  pub length : x .len < 65536
+  pub at : x .at .0 < 65536
+  pub len : x .len < 65536
 
 -- P of what is there
 abbrev pub IfGiven : {X : Type 0} → (X → Type 0) → Option X → Type 0
@@ -20,6 +21,11 @@ IfGiven P (some x) = P x
 abbrev pub Each : {X : Type 0} → (X → Type 0) → List X → Type 0
 Each P [] = Unit {0}
 Each P (x ∷ xs) = P x × Each P xs
+
+-- the rows of a table of cap rows
+pub record Rows {X : Type 0} (cap : ℕ) (P : X → Type 0) (xs : List X) : Type 0 where
+  pub few : length xs ≤ cap
+  pub each : Each P xs
 
 -- an o line
 pub record FitOrigin (P : Span → Type 0) (o : Origin Span) : Type 0 where
@@ -100,26 +106,21 @@ pub record FitHead (P : Span → Type 0) (h : Head Span) : Type 0 where
 
 -- the ten tables
 pub record FitTables (P : Span → Type 0) (t : Tables Span) : Type 0 where
-  pub emails : Each P (t .emails)
-  pub phones : Each P (t .phones)
-  pub connections : Each (FitMediaConnection P) (t .connections)
-  pub bandwidths : Each (FitBandwidth P) (t .bandwidths)
-  pub times : Each FitTime (t .times)
-  pub repeats : Each FitRepeat (t .repeats)
-  pub offsets : Each FitOffset (t .offsets)
-  pub zones : Each FitZone (t .zones)
-  pub attributes : Each (FitAttribute P) (t .attributes)
-  pub medias : Each (FitMedia P) (t .medias)
+  pub emails : Rows 16 P (t .emails)
+  pub phones : Rows 16 P (t .phones)
+  pub connections : Rows 64 (FitMediaConnection P) (t .connections)
+  pub bandwidths : Rows 64 (FitBandwidth P) (t .bandwidths)
+  pub times : Rows 32 FitTime (t .times)
+  pub repeats : Rows 64 FitRepeat (t .repeats)
+  pub offsets : Rows 256 FitOffset (t .offsets)
+  pub zones : Rows 64 FitZone (t .zones)
+  pub attributes : Rows 512 (FitAttribute P) (t .attributes)
+  pub medias : Rows 32 (FitMedia P) (t .medias)
 
--- a session that keeps its tables' bounds too
-pub record FitsWith (P : Span → Type 0) (s : Session Span) : Type 0 where
-  pub within : Within s
+-- a session
+pub record Fits (P : Span → Type 0) (s : Session Span) : Type 0 where
   pub head : FitHead P (s .head)
   pub tables : FitTables P (s .tables)
-
--- no more is asked of a string than room
-abbrev pub Fits : Session Span → Type 0
-Fits s = FitsWith FitsSpan s
 
 -- ---- "A missing `s` gives an empty name, place and length 0": the area has no mark for it
 abbrev pub nameOf : Option Span → Span
