@@ -1,11 +1,11 @@
 -- What holds of each record that a line's value gives: its strings are UTF-8 pieces of the value, its numbers fit their cells. Assumes nothing.
 use Prim.Native.Nat.{ℕ, _*_, _^_, _-_, _<_}
 use native.Mathlib.Omega.{arith}
-use mathlib.Core.Path.{_≡_, refl, sym, ap, _∙_}
+use mathlib.Core.Path.{_≡_, refl, ap, _∙_}
 use mathlib.Core.Bool.{Bool, true, false, _&&_, cond, false≢true}
 use mathlib.Core.List.{List, [], _∷_, map}
 use mathlib.Core.Option.{none, some}
-use borrow.Author.Tests.{ltb-true, leb-true, eqb-false}
+use borrow.Author.Tests.{ltb-true, eqb-false}
 use lib.Dec.{ltb, leb, eqb, lit<}
 use lib.ListN.{length, getD, take, drop}
 use lib.Seq.{take-length}
@@ -19,7 +19,7 @@ use Rattle.sdp_lines.specs.declared.Span.{Span}
 use Rattle.sdp_fields.specs.Split.{part, wordAt, firstPiece, pieceAfter, restAfter, words}
 use Rattle.sdp_fields.specs.Read.{Read, got, refused, andThen, encoding, format, missing, textOf, tokenOf, amountOf, numberOf, timeOf, choiceOf, absent, afterText, afterAmount, afterChoice}
 use Rattle.sdp_fields.specs.Records as records
-use Rattle.sdp_fields.specs.Records.{wholeOf, usernameOf, originOf, connectionOf, bandwidthOf, timesOf, pairOf, mediaOf, repeatHead, negated, signed, signedOf, offsetOf}
+use Rattle.sdp_fields.specs.Records.{wholeOf, usernameOf, originOf, connectionOf, bandwidthOf, timesOf, pairOf, mediaOf, repeatHead, signed, signedOf, offsetOf}
 use Rattle.sdp_fields.specs.Lists as lists
 use Rattle.sdp_fields.specs.Lists.{RepeatLine, numbered, offsetsOf, repeatOf, pairsOf, zonesOf}
 use Rattle.sdp_fields.specs.Answers.{Inside, Within}
@@ -27,12 +27,9 @@ use Rattle.sdp_fields.specs.declared.Piece.{Piece}
 use Rattle.sdp_fields.specs.declared.MaybePiece.{MaybePiece}
 use Rattle.sdp_fields.specs.declared.MaybeNumber.{MaybeNumber}
 use Rattle.sdp_fields.specs.declared.Wrong.{Wrong}
-use Rattle.sdp_fields.specs.declared.Pair.{Pair}
-use Rattle.sdp_fields.specs.declared.Zone as zone
 use Rattle.sdp_fields.specs.declared.Field.{Field}
 use Rattle.sdp_fields.specs.declared.Field.the-variants as field
 use Rattle.sdp_fields.specs.declared.Text.the-variants as text
-use Rattle.sdp_fields.specs.declared.Amount.{Amount}
 use Rattle.sdp_fields.specs.declared.Amount.the-variants as amount
 use Rattle.sdp_fields.specs.declared.Choice.the-variants as choice
 use Rattle.sdp_fields.proofs.SplitLaws.{word-within, first-within, after-within, rest-within}

@@ -3,7 +3,7 @@ use Prim.Native.Nat.{ℕ, _+_, _≤_, _<_}
 use native.Mathlib.Nat.{add-assoc}
 use native.Mathlib.Omega.{arith}
 use mathlib.Core.Path.{_≡_, refl}
-use mathlib.Core.Bool.{Bool, true, false, _&&_}
+use mathlib.Core.Bool.{Bool, true, _&&_}
 use mathlib.Core.List.{List, [], _∷_, _++_}
 use mathlib.Core.Option.{Option, none, some}
 use borrow.Author.Tests.{le-leb}
@@ -13,14 +13,13 @@ use Rattle.sdp_bytes.specs.Utf8 as utf8
 use Rattle.sdp_lines.specs.declared.Span.{Span}
 use Rattle.sdp_area.specs.Bytes as bytes
 use Rattle.sdp_area.specs.Bytes.{le, num}
-use Rattle.sdp_area.specs.Tables.{flat, tab}
+use Rattle.sdp_area.specs.Tables.{flat}
 use Rattle.sdp_area.specs.Session.{Session}
 use Rattle.sdp_area.specs.Area as area
-use Rattle.sdp_area.specs.Area.{span, opt, originBytes, nameBytes, connectionBytes, keyBytes, mediaConnectionRow, bandwidthRow, timeRow, repeatRow, offsetRow, zoneRow, attributeRow, mediaRow, encode, originAt, nameAt, descriptionAt, uriAt, connectionAt, keyAt, emailsAt, phonesAt, connectionsAt, bandwidthsAt, timesAt, repeatsAt, offsetsAt, zonesAt, attributesAt, mediasAt}
-use Rattle.sdp_area.proofs.WidthLaws.{length-span, length-media-connection, length-bandwidth, length-time, length-repeat, length-offset, length-zone, length-attribute, length-media}
+use Rattle.sdp_area.specs.Area.{span, opt, originBytes, nameBytes, connectionBytes, keyBytes, attributeRow, mediaRow, encode, originAt, nameAt, descriptionAt, uriAt, connectionAt, keyAt, timesAt, repeatsAt, mediasAt}
 use Rattle.sdp_judge.specs.Judge as judge
-use Rattle.sdp_judge.specs.Judge.{everyAt, fineIf, rising, owned, rows, counts, owners, fineString, fineOrigin, fineConnection, finePair, fineAttribute, fineBandwidth, fineMediaConnection, finePorts, fineMedia, fineHead, fineTables, wellFormed}
-use Rattle.sdp_same.specs.Fits.{FitsSpan, IfGiven, Each, Rows, FitOrigin, FitConnection, FitKey, FitMediaConnection, FitBandwidth, FitTime, FitRepeat, FitOffset, FitZone, FitAttribute, FitMedia, Fits, nameOf}
+use Rattle.sdp_judge.specs.Judge.{everyAt, fineIf, rising, owned, rows, counts, owners, fineString, fineOrigin, fineConnection, finePair, fineAttribute, fineBandwidth, fineMediaConnection, fineMedia, fineHead, fineTables, wellFormed}
+use Rattle.sdp_same.specs.Fits.{FitsSpan, IfGiven, Each, FitOrigin, FitConnection, FitKey, FitAttribute, FitMedia, Fits, nameOf}
 use Rattle.sdp_same.specs.Sound.{FineIn, Rising, Sound}
 use Rattle.sdp_same.proofs.StandsLaws.{Stands, num-back, absent-mark, present-mark, first-row, segment}
 use Rattle.sdp_same.proofs.TableLaws.{Table, count, rows-here, emails-here, phones-here, connections-here, bandwidths-here, times-here, repeats-here, offsets-here, zones-here, attributes-here, medias-here}

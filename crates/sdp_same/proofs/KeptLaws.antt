@@ -23,8 +23,8 @@ use Rattle.sdp_step.specs.Step as steps
 use Rattle.sdp_step.specs.Step.{Reading, Stepped, goes, stops, once, row, keyIn, mediaIn, zoneIn, repeated, zonesTaken, stepRole, step}
 use Rattle.sdp_step.specs.declared.Role.{Role}
 use Rattle.sdp_step.specs.declared.Role.the-variants as role
-use Rattle.sdp_same.specs.Fits.{IfGiven, Each, Rows, FitKey, FitMedia, FitMediaConnection, FitBandwidth, FitTime, FitRepeat, FitOffset, FitZone, FitAttribute, FitHead, FitTables}
-use Rattle.sdp_same.specs.Sound.{Rising, Owned, Sound}
+use Rattle.sdp_same.specs.Fits.{Rows, FitMedia, FitOffset, FitHead, FitTables}
+use Rattle.sdp_same.specs.Sound.{Owned, Sound}
 use Rattle.sdp_same.proofs.FineLaws.{Fine, FitLine, time-fit, repeat-fit, zones-fit, whole-fine, origin-fit, connection-fit, bandwidth-fit, key-fit, attribute-fit, media-fit}
 use Rattle.sdp_same.proofs.RowLaws.{each-map, rows-append, rows-more, rows-last, rising-more, rising-append}
 

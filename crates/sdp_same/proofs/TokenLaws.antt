@@ -3,10 +3,10 @@ use Prim.Native.Nat.{ℕ, suc, _≤_, _<_}
 use native.Mathlib.Decide.{decLt}
 use native.Mathlib.Omega.{arith}
 use mathlib.Core.Path.{_≡_, refl, sym, ap, _∙_}
-use mathlib.Core.Bool.{Bool, true, false, _&&_, false≢true}
+use mathlib.Core.Bool.{true, false, false≢true}
 use mathlib.Core.List.{List, [], _∷_}
 use borrow.Author.Tests.{ne-eqb, eq-eqb, lt-leb, le-leb}
-use lib.Dec.{ltb, leb, eqb, lit<, lit≤}
+use lib.Dec.{ltb, eqb, lit<, lit≤}
 use lib.ListN.{length}
 use Rattle.sdp_bytes.specs.Ranges.{_to_, within}
 use Rattle.sdp_bytes.specs.Token as token

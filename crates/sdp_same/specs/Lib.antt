@@ -1,3 +1,4 @@
 pub mod Said
 pub mod Fits
 pub mod Sound
+pub mod Same
