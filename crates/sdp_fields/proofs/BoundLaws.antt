@@ -55,11 +55,11 @@ module _ {A : Type 0} (P : A → Type 0) where
       go false = never _ _
   every-choice w v field.Nothing l k h = h absent (omega arith)
 
-  pub every-end : (w : ℕ) (f : Field) (r : Read A) → Every P r → Every P (ending w f r)
+  every-end : (w : ℕ) (f : Field) (r : Read A) → Every P r → Every P (ending w f r)
   every-end w (field.Got p e) r h = never _ _
   every-end w field.Nothing r h = h
 
-  pub every-cond : (b : Bool) (r s : Read A) → Every P r → Every P s → Every P (cond b r s)
+  every-cond : (b : Bool) (r s : Read A) → Every P r → Every P s → Every P (cond b r s)
   every-cond true r s h k = h
   every-cond false r s h k = k
 
@@ -164,7 +164,7 @@ ports s =
     (never _ _)
 
 module _ {A : Type 0} (P : A → Type 0) where
-  pub every-port : (v : List ℕ) (f : Field) (k : Port → ℕ → Read A) → ((p : Port) (e : ℕ) → Ports (p .port) (p .«num_ports» .value) → Every P (k p e)) → Every P (afterPort v f k)
+  every-port : (v : List ℕ) (f : Field) (k : Port → ℕ → Read A) → ((p : Port) (e : ℕ) → Ports (p .port) (p .«num_ports» .value) → Every P (k p e)) → Every P (afterPort v f k)
   every-port v field.Nothing k h = never _ _
   every-port v (field.Got p e) k h = go (portOf (part v p)) (ports (part v p))
     where

@@ -1,18 +1,17 @@
--- Each line keeps a session sound. Assumes nothing.
+-- Each line keeps a session sound, or is refused with a number. Assumes nothing.
 use Prim.Native.Nat.{ℕ, _+_, _^_, _≤_, _<_}
 use native.Mathlib.Omega.{arith}
 use mathlib.Core.Path.{_≡_, refl, sym}
 use mathlib.Core.Bool.{Bool, true, false, cond}
 use mathlib.Core.List.{List, [], _∷_, _++_, map}
 use borrow.Author.Tests.{ltb-true, leb-true, eqb-false}
-use lib.Dec.{ltb, leb, eqb}
+use lib.Dec.{ltb, leb, eqb, lit<}
 use lib.ListN.{length, length-append, length-map}
 use Rattle.sdp_lines.specs.declared.Span.{Span}
 use Rattle.sdp_fields.specs.Read.{Read, got, refused}
 use Rattle.sdp_fields.specs.Records.{wholeOf, originOf, connectionOf, bandwidthOf, timesOf, pairOf, mediaOf}
 use Rattle.sdp_fields.specs.Lists.{RepeatLine, repeatOf, zonesOf}
 use Rattle.sdp_fields.specs.declared.Piece.{Piece}
-use Rattle.sdp_fields.proofs.ReadLaws.{Every}
 use Rattle.sdp_area.specs.Session.{MediaConnection, Bandwidth, Repeat, Offset, Attribute, Media, Head, Tables, Session}
 use Rattle.sdp_area.specs.With.{withMedias, setLast, titled, keyed}
 use Rattle.sdp_area.specs.Latest.{given, lastTitled, lastKeyed}
@@ -25,29 +24,30 @@ use Rattle.sdp_step.specs.declared.Role.{Role}
 use Rattle.sdp_step.specs.declared.Role.the-variants as role
 use Rattle.sdp_same.specs.Fits.{Rows, FitMedia, FitOffset, FitHead, FitTables}
 use Rattle.sdp_same.specs.Sound.{Owned, Sound}
-use Rattle.sdp_same.proofs.FineLaws.{Fine, FitLine, time-fit, repeat-fit, zones-fit, whole-fine, origin-fit, connection-fit, bandwidth-fit, key-fit, attribute-fit, media-fit}
+use Rattle.sdp_same.proofs.FineLaws.{Fine, Gives, FitLine, time-fit, repeat-fit, zones-fit, whole-fine, origin-fit, connection-fit, bandwidth-fit, key-fit, attribute-fit, media-fit}
 use Rattle.sdp_same.proofs.RowLaws.{each-map, rows-append, rows-more, rows-last, rising-more, rising-append}
 
--- Q of what goes on
+-- Q of what goes on; what stops has a number that is not 0
 abbrev pub Goes : (Reading Span → Type 0) → Stepped Span → Type 0
 Goes Q (goes τ) = Q τ
-Goes Q (stops n w) = Unit {0}
+Goes Q (stops n w) = 0 < n
 
 -- ---- the shapes of a step
 module _ (Q : Reading Span → Type 0) where
-  once-goes : {A : Type 0} (n : ℕ) (b : Bool) (r : Read A) (k : A → Stepped Span) → Every (λ x. Goes Q (k x)) r → Goes Q (once n b r k)
-  once-goes n true r k h = tt
-  once-goes n false (got x) k h = h x refl
-  once-goes n false (refused w) k h = tt
-
   room-goes : (b : Bool) (table : ℕ) (τ : Reading Span) → (b ≡ true → Q τ) → Goes Q (cond b (goes τ) (stops 21 table))
   room-goes true table τ h = h refl
-  room-goes false table τ h = tt
+  room-goes false table τ h = lit< tt
 
-  row-goes : {A : Type 0} (table cap c : ℕ) (r : Read A) (k : A → Reading Span) → Every (λ x. c < cap → Q (k x)) r → Goes Q (row table cap c r k)
-  unfolding steps.row
-  row-goes table cap c (got x) k h = room-goes (ltb c cap) table (k x) (λ e. h x refl (ltb-true c cap e))
-  row-goes table cap c (refused w) k h = tt
+  module _ {A : Type 0} (P : A → Type 0) where
+    once-goes : (n : ℕ) → 0 < n → (b : Bool) (r : Read A) → Gives P r → (k : A → Stepped Span) → ((x : A) → P x → Goes Q (k x)) → Goes Q (once n b r k)
+    once-goes n l true r g k h = l
+    once-goes n l false (got x) g k h = h x g
+    once-goes n l false (refused w) g k h = g
+
+    row-goes : (table cap c : ℕ) (r : Read A) → Gives P r → (k : A → Reading Span) → ((x : A) → P x → c < cap → Q (k x)) → Goes Q (row table cap c r k)
+    unfolding steps.row
+    row-goes table cap c (got x) g k h = room-goes (ltb c cap) table (k x) (λ e. h x g (ltb-true c cap e))
+    row-goes table cap c (refused w) g k h = g
 
 -- ---- a line whose value is v: mk makes its strings, with P of each
 module _ (v : List ℕ) (mk : Piece → Span) (P : Span → Type 0) (fine : (p : Piece) → Fine v p → P (mk p)) (ρ : Reading Span) (sound : Sound P (ρ .session)) where
@@ -82,80 +82,80 @@ module _ (v : List ℕ) (mk : Piece → Span) (P : Span → Type 0) (fine : (p :
   -- ---- the head
   origin-kept : Keeps role.Origin
   unfolding steps.stepRole
-  origin-kept = once-goes Kept 12 (given (s .head .origin)) (originOf v) _ (λ o q. head-kept _ (record { origin = origin-fit v mk P fine o q; name = H .name; description = H .description; uri = H .uri; connection = H .connection; key = H .key }))
+  origin-kept = once-goes Kept _ 12 (lit< tt) (given (s .head .origin)) (originOf v) (origin-fit v mk P fine) _ (λ o f. head-kept _ (record { origin = f; name = H .name; description = H .description; uri = H .uri; connection = H .connection; key = H .key }))
 
   name-kept : Keeps role.Name
   unfolding steps.stepRole
-  name-kept = once-goes Kept 13 (given (s .head .name)) (wholeOf 34 v) _ (λ p q. head-kept _ (record { origin = H .origin; name = fine p (whole-fine 34 v p q); description = H .description; uri = H .uri; connection = H .connection; key = H .key }))
+  name-kept = once-goes Kept _ 13 (lit< tt) (given (s .head .name)) (wholeOf 34 v) (whole-fine 34 v) _ (λ p f. head-kept _ (record { origin = H .origin; name = fine p f; description = H .description; uri = H .uri; connection = H .connection; key = H .key }))
 
   description-kept : Keeps role.Description
   unfolding steps.stepRole
-  description-kept = once-goes Kept 14 (given (s .head .description)) (wholeOf 35 v) _ (λ p q. head-kept _ (record { origin = H .origin; name = H .name; description = fine p (whole-fine 35 v p q); uri = H .uri; connection = H .connection; key = H .key }))
+  description-kept = once-goes Kept _ 14 (lit< tt) (given (s .head .description)) (wholeOf 35 v) (whole-fine 35 v) _ (λ p f. head-kept _ (record { origin = H .origin; name = H .name; description = fine p f; uri = H .uri; connection = H .connection; key = H .key }))
 
   uri-kept : Keeps role.Uri
   unfolding steps.stepRole
-  uri-kept = once-goes Kept 15 (given (s .head .uri)) (wholeOf 36 v) _ (λ p q. head-kept _ (record { origin = H .origin; name = H .name; description = H .description; uri = fine p (whole-fine 36 v p q); connection = H .connection; key = H .key }))
+  uri-kept = once-goes Kept _ 15 (lit< tt) (given (s .head .uri)) (wholeOf 36 v) (whole-fine 36 v) _ (λ p f. head-kept _ (record { origin = H .origin; name = H .name; description = H .description; uri = fine p f; connection = H .connection; key = H .key }))
 
   connection-kept : Keeps role.Connection
   unfolding steps.stepRole
-  connection-kept = once-goes Kept 16 (given (s .head .connection)) (connectionOf v) _ (λ c q. head-kept _ (record { origin = H .origin; name = H .name; description = H .description; uri = H .uri; connection = connection-fit v mk P fine c q; key = H .key }))
+  connection-kept = once-goes Kept _ 16 (lit< tt) (given (s .head .connection)) (connectionOf v) (connection-fit v mk P fine) _ (λ c f. head-kept _ (record { origin = H .origin; name = H .name; description = H .description; uri = H .uri; connection = f; key = H .key }))
 
   key-kept : Keeps role.Key
   unfolding steps.stepRole
-  key-kept = once-goes Kept 19 (given (s .head .key)) (pairOf 25 26 v) _ (λ p q. head-kept _ (record { origin = H .origin; name = H .name; description = H .description; uri = H .uri; connection = H .connection; key = key-fit v mk P fine p q }))
+  key-kept = once-goes Kept _ 19 (lit< tt) (given (s .head .key)) (pairOf 25 26 v) (key-fit v mk P fine) _ (λ p f. head-kept _ (record { origin = H .origin; name = H .name; description = H .description; uri = H .uri; connection = H .connection; key = f }))
 
   -- ---- tables without owners
   emails-kept : Keeps role.Email
   unfolding steps.stepRole
   emails-kept =
-      row-goes Kept 1 16 _ (wholeOf 37 v) _ (λ p q room.
-      tables-kept _ (record { emails = rows-more P 16 (s .tables .emails) (T .emails) (mk p) (fine p (whole-fine 37 v p q)) room; phones = T .phones; connections = T .connections; bandwidths = T .bandwidths; times = T .times; repeats = T .repeats; offsets = T .offsets; zones = T .zones; attributes = T .attributes; medias = T .medias }) O)
+      row-goes Kept _ 1 16 _ (wholeOf 37 v) (whole-fine 37 v) _ (λ p f room.
+      tables-kept _ (record { emails = rows-more P 16 (s .tables .emails) (T .emails) (mk p) (fine p f) room; phones = T .phones; connections = T .connections; bandwidths = T .bandwidths; times = T .times; repeats = T .repeats; offsets = T .offsets; zones = T .zones; attributes = T .attributes; medias = T .medias }) O)
 
   phones-kept : Keeps role.Phone
   unfolding steps.stepRole
   phones-kept =
-      row-goes Kept 2 16 _ (wholeOf 38 v) _ (λ p q room.
-      tables-kept _ (record { emails = T .emails; phones = rows-more P 16 (s .tables .phones) (T .phones) (mk p) (fine p (whole-fine 38 v p q)) room; connections = T .connections; bandwidths = T .bandwidths; times = T .times; repeats = T .repeats; offsets = T .offsets; zones = T .zones; attributes = T .attributes; medias = T .medias }) O)
+      row-goes Kept _ 2 16 _ (wholeOf 38 v) (whole-fine 38 v) _ (λ p f room.
+      tables-kept _ (record { emails = T .emails; phones = rows-more P 16 (s .tables .phones) (T .phones) (mk p) (fine p f) room; connections = T .connections; bandwidths = T .bandwidths; times = T .times; repeats = T .repeats; offsets = T .offsets; zones = T .zones; attributes = T .attributes; medias = T .medias }) O)
 
   zones-kept : Keeps role.Zone
   unfolding steps.stepRole
   zones-kept =
-      once-goes Kept 17 (ρ .zoned) (zonesOf v) (zonesTaken mk ρ v) (λ zs q.
+      once-goes Kept _ 17 (lit< tt) (ρ .zoned) (zonesOf v) (zones-fit v) (zonesTaken mk ρ v) (λ zs f.
       room-goes Kept (leb (length zs) 64) 8 _ (λ e.
-      tables-kept _ (record { emails = T .emails; phones = T .phones; connections = T .connections; bandwidths = T .bandwidths; times = T .times; repeats = T .repeats; offsets = T .offsets; zones = record { few = omega (arith, length-map zs zoneIn, leb-true (length zs) 64 e); each = zones-fit v zs q }; attributes = T .attributes; medias = T .medias }) O))
+      tables-kept _ (record { emails = T .emails; phones = T .phones; connections = T .connections; bandwidths = T .bandwidths; times = T .times; repeats = T .repeats; offsets = T .offsets; zones = record { few = omega (arith, length-map zs zoneIn, leb-true (length zs) 64 e); each = f }; attributes = T .attributes; medias = T .medias }) O))
 
   -- ---- rows with owners
   connections-kept : 1 ≤ length (s .tables .medias) → Keeps role.MediaConnection
   unfolding steps.stepRole
   connections-kept some =
-      row-goes Kept 3 64 _ (connectionOf v) _ (λ c q room.
+      row-goes Kept _ 3 64 _ (connectionOf v) (connection-fit v mk P fine) _ (λ c f room.
       tables-kept _
-      (record { emails = T .emails; phones = T .phones; connections = rows-more _ 64 (s .tables .connections) (T .connections) _ (record { owner = small; connection = connection-fit v mk P fine c q }) room; bandwidths = T .bandwidths; times = T .times; repeats = T .repeats; offsets = T .offsets; zones = T .zones; attributes = T .attributes; medias = T .medias })
+      (record { emails = T .emails; phones = T .phones; connections = rows-more _ 64 (s .tables .connections) (T .connections) _ (record { owner = small; connection = f }) room; bandwidths = T .bandwidths; times = T .times; repeats = T .repeats; offsets = T .offsets; zones = T .zones; attributes = T .attributes; medias = T .medias })
       (record { connections = rising-append (λ (c : MediaConnection Span). c .owner) _ (s .tables .connections) 1 some (O .connections) _ (refl, tt); bandwidths = O .bandwidths; repeats = O .repeats; offsets = O .offsets; attributes = O .attributes }))
 
   bandwidths-kept : Keeps role.Bandwidth
   unfolding steps.stepRole
   bandwidths-kept =
-      row-goes Kept 4 64 _ (bandwidthOf v) _ (λ b q room.
+      row-goes Kept _ 4 64 _ (bandwidthOf v) (bandwidth-fit v mk P fine _ small) _ (λ b f room.
       tables-kept _
-      (record { emails = T .emails; phones = T .phones; connections = T .connections; bandwidths = rows-more _ 64 (s .tables .bandwidths) (T .bandwidths) _ (bandwidth-fit v mk P fine _ small b q) room; times = T .times; repeats = T .repeats; offsets = T .offsets; zones = T .zones; attributes = T .attributes; medias = T .medias })
+      (record { emails = T .emails; phones = T .phones; connections = T .connections; bandwidths = rows-more _ 64 (s .tables .bandwidths) (T .bandwidths) _ f room; times = T .times; repeats = T .repeats; offsets = T .offsets; zones = T .zones; attributes = T .attributes; medias = T .medias })
       (record { connections = O .connections; bandwidths = rising-append (λ (b : Bandwidth Span). b .owner) _ (s .tables .bandwidths) 0 (omega arith) (O .bandwidths) _ (refl, tt); repeats = O .repeats; offsets = O .offsets; attributes = O .attributes }))
 
   attributes-kept : Keeps role.Attribute
   unfolding steps.stepRole
   attributes-kept =
-      row-goes Kept 9 512 _ (pairOf 23 24 v) _ (λ p q room.
+      row-goes Kept _ 9 512 _ (pairOf 23 24 v) (attribute-fit v mk P fine _ small) _ (λ p f room.
       tables-kept _
-      (record { emails = T .emails; phones = T .phones; connections = T .connections; bandwidths = T .bandwidths; times = T .times; repeats = T .repeats; offsets = T .offsets; zones = T .zones; attributes = rows-more _ 512 (s .tables .attributes) (T .attributes) _ (attribute-fit v mk P fine _ small p q) room; medias = T .medias })
+      (record { emails = T .emails; phones = T .phones; connections = T .connections; bandwidths = T .bandwidths; times = T .times; repeats = T .repeats; offsets = T .offsets; zones = T .zones; attributes = rows-more _ 512 (s .tables .attributes) (T .attributes) _ f room; medias = T .medias })
       (record { connections = O .connections; bandwidths = O .bandwidths; repeats = O .repeats; offsets = O .offsets; attributes = rising-append (λ (a : Attribute Span). a .owner) _ (s .tables .attributes) 0 (omega arith) (O .attributes) _ (refl, tt) }))
 
   -- ---- the owners: times, and repeats with their offsets
   times-kept : Keeps role.Time
   unfolding steps.stepRole
   times-kept =
-      row-goes Kept 5 32 _ (timesOf v) _ (λ t q room.
+      row-goes Kept _ 5 32 _ (timesOf v) (time-fit v) _ (λ t f room.
       tables-kept _
-      (record { emails = T .emails; phones = T .phones; connections = T .connections; bandwidths = T .bandwidths; times = rows-more _ 32 (s .tables .times) (T .times) _ (time-fit v t q) room; repeats = T .repeats; offsets = T .offsets; zones = T .zones; attributes = T .attributes; medias = T .medias })
+      (record { emails = T .emails; phones = T .phones; connections = T .connections; bandwidths = T .bandwidths; times = rows-more _ 32 (s .tables .times) (T .times) _ f room; repeats = T .repeats; offsets = T .offsets; zones = T .zones; attributes = T .attributes; medias = T .medias })
       (record { connections = O .connections; bandwidths = O .bandwidths; repeats = rising-more (λ (r : Repeat). r .owner) _ _ (let e = length-append (s .tables .times) (steps.timeIn t ∷ []) in omega arith) (s .tables .repeats) 1 (O .repeats); offsets = O .offsets; attributes = O .attributes }))
 
   repeats-kept : Keeps role.Repeat
@@ -177,12 +177,12 @@ module _ (v : List ℕ) (mk : Piece → Span) (P : Span → Type 0) (fine : (p :
       fits : (a b : Bool) (r : RepeatLine) → FitLine r → 1 ≤ length (s .tables .times) → ltb (length (s .tables .repeats)) 64 ≡ a → leb (length (s .tables .offsets) + length (r .offsets)) 256 ≡ b
           → Goes Kept (cond a (cond b (goes (record { session = steps.withRepeat mk ρ v r; zoned = ρ .zoned })) (stops 21 7)) (stops 21 6))
       fits true b r f some p q = room-goes Kept b 7 _ (λ e. taken r f some (ltb-true _ _ p) (leb-true _ _ (rw (← q) at e)))
-      fits false b r f some p q = tt
+      fits false b r f some p q = lit< tt
 
-      go : (b : Bool) → eqb (length (s .tables .times)) 0 ≡ b → (r : Read RepeatLine) → Every FitLine r → Goes Kept (cond b (stops 20 0) (repeated mk ρ v r))
-      go true e r f = tt
-      go false e (got r) f = fits _ _ r (f r refl) (let z = eqb-false (length (s .tables .times)) 0 e in omega arith) refl refl
-      go false e (refused w) f = tt
+      go : (b : Bool) → eqb (length (s .tables .times)) 0 ≡ b → (r : Read RepeatLine) → Gives FitLine r → Goes Kept (cond b (stops 20 0) (repeated mk ρ v r))
+      go true e r f = lit< tt
+      go false e (got r) f = fits _ _ r f (let z = eqb-false (length (s .tables .times)) 0 e in omega arith) refl refl
+      go false e (refused w) f = f
 
   -- ---- medias
   medias-kept : (ms : List (Media Span)) → Rows 32 (FitMedia P) ms → length (s .tables .medias) ≤ length ms → Sound P (withMedias s ms)
@@ -194,8 +194,8 @@ module _ (v : List ℕ) (mk : Piece → Span) (P : Span → Type 0) (fine : (p :
   media-kept : Keeps role.Media
   unfolding steps.stepRole
   media-kept =
-      row-goes Kept 10 32 _ (mediaOf v) _ (λ m q room.
-      medias-kept _ (rows-more _ 32 (s .tables .medias) (T .medias) (mediaIn mk m) (media-fit v mk P fine m q) room) (let e = length-append (s .tables .medias) (mediaIn mk m ∷ []) in omega arith))
+      row-goes Kept _ 10 32 _ (mediaOf v) (media-fit v mk P fine) _ (λ m f room.
+      medias-kept _ (rows-more _ 32 (s .tables .medias) (T .medias) (mediaIn mk m) f room) (let e = length-append (s .tables .medias) (mediaIn mk m ∷ []) in omega arith))
 
   -- the latest one changed
   last-kept : (g : Media Span → Media Span) → ((m : Media Span) → FitMedia P m → FitMedia P (g m)) → Sound P (withMedias s (setLast g (s .tables .medias)))
@@ -204,14 +204,14 @@ module _ (v : List ℕ) (mk : Piece → Span) (P : Span → Type 0) (fine : (p :
   title-kept : Keeps role.MediaTitle
   unfolding steps.stepRole
   title-kept =
-      once-goes Kept 18 (lastTitled (s .tables .medias)) (wholeOf 33 v) _ (λ p q.
-      last-kept (titled (mk p)) (λ m f. record { media = f .media; port = f .port; numPorts = f .numPorts; proto = f .proto; fmt = f .fmt; mediaTitle = fine p (whole-fine 33 v p q); key = f .key }))
+      once-goes Kept _ 18 (lit< tt) (lastTitled (s .tables .medias)) (wholeOf 33 v) (whole-fine 33 v) _ (λ p f.
+      last-kept (titled (mk p)) (λ m g. record { media = g .media; port = g .port; numPorts = g .numPorts; proto = g .proto; fmt = g .fmt; mediaTitle = fine p f; key = g .key }))
 
   media-key-kept : Keeps role.MediaKey
   unfolding steps.stepRole
   media-key-kept =
-      once-goes Kept 19 (lastKeyed (s .tables .medias)) (pairOf 25 26 v) _ (λ p q.
-      last-kept (keyed (keyIn mk p)) (λ m f. record { media = f .media; port = f .port; numPorts = f .numPorts; proto = f .proto; fmt = f .fmt; mediaTitle = f .mediaTitle; key = key-fit v mk P fine p q }))
+      once-goes Kept _ 19 (lit< tt) (lastKeyed (s .tables .medias)) (pairOf 25 26 v) (key-fit v mk P fine) _ (λ p f.
+      last-kept (keyed (keyIn mk p)) (λ m g. record { media = g .media; port = g .port; numPorts = g .numPorts; proto = g .proto; fmt = g .fmt; mediaTitle = g .mediaTitle; key = f }))
 
   nothing-kept : Keeps role.Nothing
   unfolding steps.stepRole

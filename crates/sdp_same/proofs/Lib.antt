@@ -11,5 +11,4 @@ pub mod RowLaws
 pub mod KeptLaws
 pub mod SoundLaws
 pub mod JudgeLaws
-pub mod RefusalLaws
 pub mod SameLaws

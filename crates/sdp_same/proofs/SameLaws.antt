@@ -26,8 +26,7 @@ use Rattle.sdp_same.specs.Fits.{nameOf, named}
 use Rattle.sdp_same.specs.Sound.{FineIn}
 use Rattle.sdp_same.specs.Same.{ReadThenWritten}
 use Rattle.sdp_same.proofs.DecodeLaws.{decode-encode}
-use Rattle.sdp_same.proofs.SoundLaws.{read-sound}
-use Rattle.sdp_same.proofs.RefusalLaws.{refusal-number}
+use Rattle.sdp_same.proofs.SoundLaws.{read-sound, refusal-number}
 use Rattle.sdp_same.proofs.JudgeLaws.{fine-room, well-formed}
 
 -- ---- no name is written as an empty one
@@ -95,4 +94,4 @@ read-then-write t a o = go (ltb (length a) size) (ltb 32768 (length t)) (lines s
     go true c r p q e n = absurd (let z : _≡_ {A = ℕ} 2 0 = n in omega arith)
     go false true r p q e n = absurd (let z : _≡_ {A = ℕ} 1 0 = n in omega arith)
     go false false (accepted s) p q e n = accepted-written t (ltb-false 32768 (length t) q) s e a o (ltb-false (length a) size p)
-    go false false (refused x) p q e n = absurd (let z = refusal-number spanAt t x e in let y : x .number ≡ 0 = n in omega arith)
+    go false false (refused x) p q e n = absurd (let z = refusal-number t x e in let y : x .number ≡ 0 = n in omega arith)

@@ -18,7 +18,7 @@ use Rattle.sdp_fields.specs.declared.Pair.{Pair}
 use Rattle.sdp_fields.specs.declared.Media as media
 use Rattle.sdp_fields.proofs.ReadLaws.{Every}
 use Rattle.sdp_fields.proofs.BoundLaws.{OriginInside, origin-within, ConnectionInside, connection-within, PairInside, pair-within, MediaInside, media-within, whole-within, bandwidth-within}
-use Rattle.sdp_area.specs.Session.{Key, Media, Session}
+use Rattle.sdp_area.specs.Session.{Media, Session}
 use Rattle.sdp_area.specs.With as change
 use Rattle.sdp_area.specs.With.{withOrigin, withName, withDescription, withUri, withConnection, withKey, withEmails, withPhones, withConnections, withBandwidths, withZones, withAttributes, withMedias, setLast, titled, keyed}
 use Rattle.sdp_area.specs.Latest as latest
@@ -42,12 +42,9 @@ snoc-said h xs x y e = map-append h xs (x ∷ []) ∙ ap (λ z. map h xs ++ (z �
 -- the latest row changed
 last-said : {X Y : Type 0} (h : X → Y) (g : X → X) (k : Y → Y) → ((x : X) → h (g x) ≡ k (h x)) → (xs : List X) → map h (setLast g xs) ≡ setLast k (map h xs)
 unfolding change.setLast
-last-said {X} {Y} h g k e = go
-  where
-    go : (xs : List X) → map h (setLast g xs) ≡ setLast k (map h xs)
-    go [] = refl
-    go (x ∷ []) = ap (λ (y : Y). y ∷ []) (e x)
-    go (x ∷ y ∷ ys) = ap (λ (l : List Y). h x ∷ l) (go (y ∷ ys))
+last-said h g k e [] = refl
+last-said h g k e (x ∷ []) = ap (λ y. y ∷ []) (e x)
+last-said h g k e (x ∷ y ∷ ys) = ap (λ l. h x ∷ l) (last-said h g k e (y ∷ ys))
 
 module _ {S T : Type 0} (f : S → T) where
   titled-said : (ms : List (Media S)) → lastTitled ms ≡ lastTitled (map (saidMedia f) ms)

@@ -5,7 +5,7 @@ use mathlib.Core.List.{List, [], _∷_, _++_, map}
 use mathlib.Core.Option.{Option, none, some, Option·map}
 use Rattle.sdp_area.specs.Session.{Origin, Bandwidth, Key, MediaConnection, Attribute, Media, Head, Tables, Session}
 use Rattle.sdp_write.specs.Written as form
-use Rattle.sdp_write.specs.Written.{line, text, zonesLine, each, mine, optional, usernameText, originValue, originLine, nameLine, pairLine, stringLine, connectionLine, keyLine, bandwidthsOf, attributesOf, connectionsOf, bandwidthLine, mediaLine, mediaLines, headLines, contactLines, closingLines, written}
+use Rattle.sdp_write.specs.Written.{line, text, zonesLine, each, mine, optional, usernameText, originLine, nameLine, pairLine, stringLine, keyLine, bandwidthsOf, attributesOf, connectionsOf, mediaLine, mediaLines, headLines, contactLines, closingLines, written}
 use Rattle.sdp_same.specs.Said.{saidOrigin, saidConnection, saidKey, saidMediaConnection, saidBandwidth, saidAttribute, saidMedia, saidHead, saidTables, said}
 
 behind : (a : List ℕ) {b b′ : List ℕ} → b ≡ b′ → a ++ b ≡ a ++ b′
@@ -18,11 +18,8 @@ join p q = λ i. p i ++ q i
 module _ {X Y : Type 0} (h : X → Y) where
   each-said : (f : ℕ → X → List ℕ) (g : ℕ → Y → List ℕ) → ((k : ℕ) (x : X) → f k x ≡ g k (h x)) → (xs : List X) (n : ℕ) → each f n xs ≡ each g n (map h xs)
   unfolding form.each
-  each-said f g e = go
-    where
-      go : (xs : List X) (n : ℕ) → each f n xs ≡ each g n (map h xs)
-      go [] n = refl
-      go (x ∷ xs) n = join (e n x) (go xs (n + 1))
+  each-said f g e [] n = refl
+  each-said f g e (x ∷ xs) n = join (e n x) (each-said f g e xs (n + 1))
 
   optional-said : (f : X → List ℕ) (g : Y → List ℕ) → ((x : X) → f x ≡ g (h x)) → (o : Option X) → optional f o ≡ optional g (Option·map h o)
   optional-said f g e none = refl
