@@ -127,7 +127,7 @@ pair-within w x v =
     every-got _ _ (record { name = n; value = m })))
 
 -- ---- the media, and its ports
-number-below : (w : ℕ) (s : List ℕ) (n : ℕ) → wholeNumber w s ≡ Value n → n < 2 ^ w
+pub number-below : (w : ℕ) (s : List ℕ) (n : ℕ) → wholeNumber w s ≡ Value n → n < 2 ^ w
 unfolding wholeNumber numeral digitsBelow
 number-below w s n = go (isUtf8 s) (ltb 0 (length (dropPlus s)) && (allDigits (dropPlus s) && ltb (value 0 (dropPlus s)) (2 ^ w))) refl
   where

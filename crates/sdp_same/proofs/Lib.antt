@@ -1,0 +1,14 @@
+pub mod WrittenLaws
+pub mod StandsLaws
+pub mod PartLaws
+pub mod TableLaws
+pub mod DecodeLaws
+pub mod StepLaws
+pub mod LinesLaws
+pub mod TokenLaws
+pub mod FineLaws
+pub mod RowLaws
+pub mod KeptLaws
+pub mod SoundLaws
+pub mod JudgeLaws
+pub mod SameLaws

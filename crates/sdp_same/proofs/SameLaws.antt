@@ -1,0 +1,97 @@
+-- The area that reading leaves is written, and says the session that was read. Assumes nothing.
+use Prim.Native.Nat.{ℕ, _≤_}
+use native.Mathlib.Omega.{arith}
+use mathlib.Core.Path.{_≡_, refl, ap, _∙_}
+use mathlib.Core.Logic.{_⊎_, inl, inr}
+use mathlib.Core.Bool.{Bool, true, false, cond}
+use mathlib.Core.List.{List, [], _∷_, _++_}
+use mathlib.Core.Option.{Option, none, some}
+use borrow.Author.Tests.{le-ltb, ltb-false}
+use lib.Dec.{ltb}
+use lib.ListN.{length, drop, length-append}
+use Rattle.sdp_put.specs.Strings as strings
+use Rattle.sdp_lines.specs.Strings.{bytesOf}
+use Rattle.sdp_lines.specs.declared.Span.{Span}
+use Rattle.sdp_area.specs.Session.{Session}
+use Rattle.sdp_area.specs.Area.{encode, size}
+use Rattle.sdp_area.proofs.WidthLaws.{length-encode}
+use Rattle.sdp_step.specs.Strings.{spanAt}
+use Rattle.sdp_read.specs.Run as reader
+use Rattle.sdp_read.specs.Run.{Verdict, accepted, refused, answer, outcomeOf, lines, readText}
+use Rattle.sdp_write.specs.Written as form
+use Rattle.sdp_write.specs.Written.{line, originLine, nameLine, stringLine, optional, headLines, contactLines, closingLines, mediaLines, each, written}
+use Rattle.sdp_write.specs.Write as writer
+use Rattle.sdp_write.specs.Write.{Outcome, textOf, fill, writeText}
+use Rattle.sdp_same.specs.Fits.{nameOf, named}
+use Rattle.sdp_same.specs.Sound.{FineIn}
+use Rattle.sdp_same.specs.Same.{ReadThenWritten}
+use Rattle.sdp_same.proofs.DecodeLaws.{decode-encode}
+use Rattle.sdp_same.proofs.SoundLaws.{read-sound, refusal-number}
+use Rattle.sdp_same.proofs.JudgeLaws.{fine-room, well-formed}
+
+-- ---- no name is written as an empty one
+module _ (t : List ℕ) where
+  name-same : (o : Option Span) → nameLine (bytesOf t) (some (nameOf o)) ≡ nameLine (bytesOf t) o
+  unfolding strings.clean
+  name-same none = refl
+  name-same (some x) = refl
+
+  head-same : (s : Session Span) → headLines (bytesOf t) (named s .head) ≡ headLines (bytesOf t) (s .head)
+  unfolding form.headLines
+  head-same s =
+      ap (λ (l : List ℕ). line 0x76 (0x30 ∷ []) ++ (originLine (bytesOf t) (s .head .origin) ++ (l ++ (optional (stringLine (bytesOf t) 0x69) (s .head .description) ++ optional (stringLine (bytesOf t) 0x75) (s .head .uri)))))
+      (name-same (s .head .name))
+
+  written-same : (s : Session Span) → written (bytesOf t) (named s) ≡ written (bytesOf t) s
+  unfolding form.written form.contactLines form.closingLines
+  written-same s =
+      ap (λ (l : List ℕ). l ++ (contactLines (bytesOf t) s ++ (closingLines (bytesOf t) s ++ each (mediaLines (bytesOf t) (s .tables)) 1 (s .tables .medias)))) (head-same s)
+
+-- ---- the writer's answer where it judges the session well
+fill-answer : (w o : List ℕ) → (fill w o .answer .number ≡ 0) ⊎ (fill w o .answer .number ≡ 22)
+fill-answer w o = go (ltb (length o) (length w))
+  where
+    go : (b : Bool) → let r : Outcome = cond b (record { answer = writer.answer 22 (length w); out = o }) (record { answer = writer.answer 0 (length w); out = w ++ drop (length w) o }) in (r .answer .number ≡ 0) ⊎ (r .answer .number ≡ 22)
+    go true = inr refl
+    go false = inl refl
+
+module _ (t : List ℕ) (short : length t ≤ 32768) (s : Session Span) (read : lines spanAt t ≡ accepted s) where
+  -- ---- what reading leaves
+  read-is : (a : List ℕ) → size ≤ length a → readText t a ≡ record { answer = answer 0 0 0; area = encode s ++ drop size a }
+  unfolding reader.readText
+  read-is a h = rw (le-ltb (length a) size h, le-ltb 32768 (length t) short, read)
+
+  -- ---- and what writing makes of it
+  text-is : (x : List ℕ) → textOf t (encode s ++ x) ≡ written (bytesOf t) s
+  text-is x = ap (written (bytesOf t)) (decode-encode (FineIn t) (fine-room t short) s (read-sound t s read .fits) x) ∙ written-same t s
+
+  write-is : (x o : List ℕ) → writeText t (encode s ++ x) o ≡ fill (written (bytesOf t) s) o
+  unfolding writer.writeText
+  write-is x o =
+      let l : size ≤ length (encode s ++ x) = omega (arith, length-append (encode s) x, length-encode s) in
+      rw (le-ltb (length (encode s ++ x)) size l, le-ltb 32768 (length t) short, well-formed t short s (read-sound t s read) x, text-is x)
+
+  accepted-written : (a o : List ℕ) → size ≤ length a → ReadThenWritten t a o
+  accepted-written a o h =
+      let e : writeText t (readText t a .area) o ≡ fill (written (bytesOf t) s) o = ap (λ r. writeText t (r .area) o) (read-is a h) ∙ write-is (drop size a) o in
+      record {
+        session = s;
+        read = read;
+        text = ap (λ r. textOf t (r .area)) (read-is a h) ∙ text-is (drop size a);
+        outcome = e;
+        answer = rw e (fill-answer (written (bytesOf t) s) o);
+      }
+
+-- ---- over the promises of read and write
+pub read-then-write : (t a o : List ℕ) → readText t a .answer .number ≡ 0 → ReadThenWritten t a o
+unfolding reader.readText
+read-then-write t a o = go (ltb (length a) size) (ltb 32768 (length t)) (lines spanAt t) refl refl refl
+  where
+    result : Bool → Bool → Verdict Span → reader.Outcome
+    result b c r = cond b (record { answer = answer 2 0 0; area = a }) (cond c (record { answer = answer 1 0 0; area = a }) (outcomeOf a r))
+
+    go : (b c : Bool) (r : Verdict Span) → ltb (length a) size ≡ b → ltb 32768 (length t) ≡ c → lines spanAt t ≡ r → result b c r .answer .number ≡ 0 → ReadThenWritten t a o
+    go true c r p q e n = absurd (let z : _≡_ {A = ℕ} 2 0 = n in omega arith)
+    go false true r p q e n = absurd (let z : _≡_ {A = ℕ} 1 0 = n in omega arith)
+    go false false (accepted s) p q e n = accepted-written t (ltb-false 32768 (length t) q) s e a o (ltb-false (length a) size p)
+    go false false (refused x) p q e n = absurd (let z = refusal-number t x e in let y : x .number ≡ 0 = n in omega arith)

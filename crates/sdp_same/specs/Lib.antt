@@ -1,0 +1,4 @@
+pub mod Said
+pub mod Fits
+pub mod Sound
+pub mod Same

@@ -1,0 +1,21 @@
+-- What reading a text and writing the area that it leaves come to.
+use mathlib.Core.Path.{_≡_}
+use mathlib.Core.Logic.{_⊎_}
+use mathlib.Core.List.{List}
+use Prim.Native.Nat.{ℕ}
+use Rattle.sdp_lines.specs.Strings.{bytesOf}
+use Rattle.sdp_lines.specs.declared.Span.{Span}
+use Rattle.sdp_area.specs.Session.{Session}
+use Rattle.sdp_step.specs.Strings.{spanAt}
+use Rattle.sdp_read.specs.Run.{accepted, lines, readText}
+use Rattle.sdp_write.specs.Written.{written}
+use Rattle.sdp_write.specs.Write.{textOf, fill, writeText}
+
+-- the text t is read into the area a, and the area is written to the output o: the session that the text says is written, and the writer
+-- answers 0, or 22 for an output that is too short
+pub record ReadThenWritten (t a o : List ℕ) : Type 0 where
+  pub session : Session Span
+  pub read : lines spanAt t ≡ accepted session
+  pub text : textOf t (readText t a .area) ≡ written (bytesOf t) session
+  pub outcome : writeText t (readText t a .area) o ≡ fill (written (bytesOf t) session) o
+  pub answer : (writeText t (readText t a .area) o .answer .number ≡ 0) ⊎ (writeText t (readText t a .area) o .answer .number ≡ 22)
