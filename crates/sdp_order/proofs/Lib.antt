@@ -1,1 +1,2 @@
 pub mod ExpressionLaws
+pub mod SeenLaws

@@ -1,5 +1,5 @@
 -- The lines from a cursor on: what the recognisers promise.
-use Prim.Native.Nat.{ℕ, _<_, _≤_}
+use Prim.Native.Nat.{ℕ, zero, suc, _<_, _≤_}
 use mathlib.Core.Path.{_≡_}
 use mathlib.Core.Bool.{Bool, true, false, _&&_, _||_, cond}
 use mathlib.Core.List.{List}
@@ -8,7 +8,7 @@ use lib.ListN.{length, drop}
 use Rattle.sdp_lines.specs.Lines.{split}
 use Rattle.sdp_lines.specs.declared.Cursor.{Cursor}
 use Rattle.sdp_order.specs.Expression.{Expr, nothing, empty, letter, _·_, _or_, _*, maybeEmpty, after}
-use Rattle.sdp_order.specs.Order.{letters, run}
+use Rattle.sdp_order.specs.Order.{grammar, letters, run}
 use Rattle.sdp_order.specs.declared.Found.{Found}
 use Rattle.sdp_order.specs.declared.Found.the-variants.{Past, Not}
 
@@ -30,13 +30,66 @@ pub record Behind (s : List ℕ) (c d : Cursor) : Type 0 where
   pub stands : c .at .0 < length s
   pub moved : c .at .0 < d .at .0
 
--- what one line with the letter l is to the lines from c on: it is there, and the others stand behind it; or the first
--- letter is another, or there is none
+-- what was found of a line with the letter l from c on: its place does not matter, what follows it stands behind it; or
+-- the first letter is another or there is none, and then whatever begins with no other letter is passed over
 abbrev pub Finds : List ℕ → ℕ → Cursor → Found → Type 0
 Finds s l c (Past d) = Behind s c d × ((x : Expr) → runFrom s c x ≡ runFrom s d (after l x))
 Finds s l c Not = (x y : Expr) → ((k : ℕ) → eqb k l ≡ false → begins k x ≡ false) → runFrom s c (x · y) ≡ maybeEmpty x && runFrom s c y
 
--- the lines from c on run as x and then y, where those from d on run as y
+-- the lines from c on run as x where those from d on run as y; d is not before c
 pub record Passes (s : List ℕ) (x y : Expr) (c d : Cursor) : Type 0 where
-  pub on : c .at .0 ≤ d .at .0
-  pub rest : runFrom s c (x · y) ≡ runFrom s d y
+  pub onward : c .at .0 ≤ d .at .0
+  pub rest : runFrom s c x ≡ runFrom s d y
+
+-- the same where there may be no such d: then no lines from c on run as x
+abbrev pub Leads : List ℕ → Expr → Expr → Cursor → Found → Type 0
+Leads s x y c (Past d) = runFrom s c x ≡ runFrom s d y
+Leads s x y c Not = runFrom s c x ≡ false
+
+-- ---- parts of the grammar
+-- y of x · y
+abbrev pub second : Expr → Expr
+second nothing = nothing
+second empty = nothing
+second (letter k) = nothing
+second (x · y) = y
+second (x or y) = nothing
+second (x *) = nothing
+
+-- x of x *
+abbrev pub repeated : Expr → Expr
+repeated nothing = nothing
+repeated empty = nothing
+repeated (letter k) = nothing
+repeated (x · y) = nothing
+repeated (x or y) = nothing
+repeated (x *) = x
+
+-- x without its first n parts
+abbrev pub partsFrom : ℕ → Expr → Expr
+partsFrom zero x = x
+partsFrom (suc n) x = partsFrom n (second x)
+
+-- "i? u? e* p* c? b*" and on
+abbrev pub fromTitle : Expr
+fromTitle = partsFrom 3 grammar
+
+-- "one or more times (t r*)" and on
+abbrev pub fromTimes : Expr
+fromTimes = partsFrom 9 grammar
+
+-- "(t r*)"
+abbrev pub timeRun : Expr
+timeRun = letter 0x74 · letter 0x72 *
+
+-- "z? k? a*" and on
+abbrev pub fromZone : Expr
+fromZone = partsFrom 10 grammar
+
+-- "any number of (m i? c* b* k? a*)"
+abbrev pub fromMedia : Expr
+fromMedia = partsFrom 13 grammar
+
+-- "(m i? c* b* k? a*)" without the m
+abbrev pub inMedia : Expr
+inMedia = partsFrom 1 (repeated fromMedia)

@@ -15,32 +15,46 @@ use Rattle.sdp_order.specs.declared.Order.the-variants.{InOrder, OutOfOr
 -- ---- the letters, one line each
 abbrev v : Expr
 v = letter 0x76
+
 abbrev o : Expr
 o = letter 0x6f
+
 abbrev s : Expr
 s = letter 0x73
+
 abbrev i : Expr
 i = letter 0x69
+
 abbrev u : Expr
 u = letter 0x75
+
 abbrev e : Expr
 e = letter 0x65
+
 abbrev p : Expr
 p = letter 0x70
+
 abbrev c : Expr
 c = letter 0x63
+
 abbrev b : Expr
 b = letter 0x62
+
 abbrev t : Expr
 t = letter 0x74
+
 abbrev r : Expr
 r = letter 0x72
+
 abbrev z : Expr
 z = letter 0x7a
+
 abbrev k : Expr
 k = letter 0x6b
+
 abbrev a : Expr
 a = letter 0x61
+
 abbrev m : Expr
 m = letter 0x6d
 

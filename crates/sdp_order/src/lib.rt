@@ -1,6 +1,10 @@
 // Document 01, module 7: the letter order of a text.
 ghost use mathlib.Core.Path.{_≡_};
-ghost use Rattle.sdp_order.specs.Order.{orderOf, orderNumber, orderYes};
+ghost use Rattle.sdp_lines.specs.Lines.{start};
+ghost use Rattle.sdp_order.specs.Expression.{Expr, empty, letter, _·_, _*, _⁇};
+ghost use Rattle.sdp_order.specs.Order.{grammar, orderOf, orderNumber, orderYes};
+ghost use Rattle.sdp_order.specs.From.{runFrom, begins, Finds, Passes, Leads, timeRun, fromTitle, fromTimes, fromZone, fromMedia, inMedia};
+ghost use mathlib.Core.Bool.{false};
 use sdp_lines::Cursor;
 use sdp_lines::Cut;
 
@@ -11,10 +15,208 @@ pub enum Order {
     TooLong,
 }
 
-// Whether the next line that is not empty has the letter asked for, and where the line after it is due.
+// Where the next line is due, or that a line is not as it should be.
 pub enum Found {
     Past(Cursor),
     Not,
+}
+
+// The next line that is not empty, if it has this letter.
+fn line_with(text: &[u8], from: Cursor, letter: u8) -> Found
+    ensures { λ r. ⌜ Finds (now (text .entry)) letter from r ⌝ }
+{
+    let mut c = from;
+    loop {
+        match c.cut(text) {
+            Cut::End => {
+                return Found::Not;
+            }
+            Cut::Refused { fault, line } => {
+                return Found::Not;
+            }
+            Cut::Empty { next } => {
+                c = next;
+            }
+            Cut::Line {
+                letter: l,
+                value,
+                next,
+            } => {
+                if l == letter {
+                    return Found::Past(next);
+                }
+                return Found::Not;
+            }
+        }
+    }
+}
+
+// Whether no line but empty ones is left.
+fn ended(text: &[u8], from: Cursor) -> bool
+    ensures { λ r. ⌜ r ≡ runFrom (now (text .entry)) from empty ⌝ }
+{
+    let mut c = from;
+    loop {
+        match c.cut(text) {
+            Cut::End => {
+                return true;
+            }
+            Cut::Empty { next } => {
+                c = next;
+            }
+            Cut::Refused { fault, line } => {
+                return false;
+            }
+            Cut::Line {
+                letter,
+                value,
+                next,
+            } => {
+                return false;
+            }
+        }
+    }
+}
+
+// At most one line with this letter.
+fn maybe(text: &[u8], c: Cursor, l: u8) -> Cursor
+    ensures { λ r. ⌜ ((y : Expr) → begins l y ≡ false → Passes (now (text .entry)) (letter l ⁇ · y) y c r) ⌝ }
+{
+    match line_with(text, c, l) {
+        Found::Past(next) => next,
+        Found::Not => c,
+    }
+}
+
+// Any number of lines with this letter.
+fn many(text: &[u8], from: Cursor, l: u8) -> Cursor
+    ensures { λ r. ⌜ ((y : Expr) → begins l y ≡ false → Passes (now (text .entry)) (letter l * · y) y from r) ⌝ }
+{
+    let mut c = from;
+    loop {
+        match line_with(text, c, l) {
+            Found::Past(next) => {
+                c = next;
+            }
+            Found::Not => {
+                return c;
+            }
+        }
+    }
+}
+
+// v o s
+fn first_lines(text: &[u8]) -> Found
+    ensures { λ r. ⌜ Leads (now (text .entry)) grammar fromTitle start r ⌝ }
+{
+    let Found::Past(o) = line_with(text, Cursor::new(), b'v') else {
+        return Found::Not;
+    };
+    let Found::Past(s) = line_with(text, o, b'o') else {
+        return Found::Not;
+    };
+    line_with(text, s, b's')
+}
+
+// i? u? e* p* c? b*
+fn session_lines(text: &[u8], from: Cursor) -> Cursor
+    ensures { λ r. ⌜ runFrom (now (text .entry)) from fromTitle ≡ runFrom (now (text .entry)) r fromTimes ⌝ }
+{
+    let u = maybe(text, from, b'i');
+    let e = maybe(text, u, b'u');
+    let p = many(text, e, b'e');
+    let c = many(text, p, b'p');
+    let b = maybe(text, c, b'c');
+    many(text, b, b'b')
+}
+
+// Any number of (t r*): a time's line hands over to its repeats.
+fn times(text: &[u8], c: Cursor) -> Cursor
+    ensures { λ r. ⌜ runFrom (now (text .entry)) c (timeRun * · fromZone) ≡ runFrom (now (text .entry)) r fromZone ⌝ }
+{
+    match line_with(text, c, b't') {
+        Found::Past(next) => repeats(text, next),
+        Found::Not => c,
+    }
+}
+
+// r*, and these hand back to the next time's line.
+fn repeats(text: &[u8], c: Cursor) -> Cursor
+    ensures { λ r. ⌜ runFrom (now (text .entry)) c (letter 0x72 * · timeRun * · fromZone) ≡ runFrom (now (text .entry)) r fromZone ⌝ }
+{
+    match line_with(text, c, b'r') {
+        Found::Past(next) => repeats(text, next),
+        Found::Not => times(text, c),
+    }
+}
+
+// One or more times (t r*).
+fn time_lines(text: &[u8], c: Cursor) -> Found
+    ensures { λ r. ⌜ Leads (now (text .entry)) fromTimes fromZone c r ⌝ }
+{
+    let Found::Past(next) = line_with(text, c, b't') else {
+        return Found::Not;
+    };
+    Found::Past(repeats(text, next))
+}
+
+// z? k? a*
+fn last_lines(text: &[u8], from: Cursor) -> Cursor
+    ensures { λ r. ⌜ runFrom (now (text .entry)) from fromZone ≡ runFrom (now (text .entry)) r fromMedia ⌝ }
+{
+    let k = maybe(text, from, b'z');
+    let a = maybe(text, k, b'k');
+    many(text, a, b'a')
+}
+
+// i? c* b* k? a*
+fn media_lines(text: &[u8], from: Cursor) -> Cursor
+    ensures { λ r. ⌜ Passes (now (text .entry)) (inMedia · fromMedia) fromMedia from r ⌝ }
+{
+    let c = maybe(text, from, b'i');
+    let b = many(text, c, b'c');
+    let k = many(text, b, b'b');
+    let a = maybe(text, k, b'k');
+    many(text, a, b'a')
+}
+
+// Any number of (m i? c* b* k? a*).
+fn medias(text: &[u8], from: Cursor) -> Cursor
+    ensures { λ r. ⌜ runFrom (now (text .entry)) from fromMedia ≡ runFrom (now (text .entry)) r empty ⌝ }
+{
+    let mut c = from;
+    loop {
+        match line_with(text, c, b'm') {
+            Found::Past(next) => {
+                c = media_lines(text, next);
+            }
+            Found::Not => {
+                return c;
+            }
+        }
+    }
+}
+
+// Whether the letters of a text are in order.
+pub fn letter_order(text: &[u8]) -> Order
+    ensures { λ r. ⌜ r ≡ orderOf (now (text .entry)) ⌝ }
+{
+    if 32768 < text.len() {
+        return Order::TooLong;
+    }
+    let Found::Past(i) = first_lines(text) else {
+        return Order::OutOfOrder;
+    };
+    let t = session_lines(text, i);
+    let Found::Past(z) = time_lines(text, t) else {
+        return Order::OutOfOrder;
+    };
+    let m = last_lines(text, z);
+    let end = medias(text, m);
+    if ended(text, end) {
+        return Order::InOrder;
+    }
+    Order::OutOfOrder
 }
 
 // The number of document 01.
