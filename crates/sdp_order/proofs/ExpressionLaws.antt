@@ -30,7 +30,7 @@ unfolding matches maybeEmpty after
 matches-or x y [] = refl
 matches-or x y (l ∷ ls) = matches-or (after l x) (after l y) ls
 
-matches-nothing : (ls : List ℕ) → matches nothing ls ≡ false
+pub matches-nothing : (ls : List ℕ) → matches nothing ls ≡ false
 unfolding matches maybeEmpty after
 matches-nothing [] = refl
 matches-nothing (l ∷ ls) = matches-nothing ls
@@ -90,6 +90,10 @@ then-assoc x y w (l ∷ ls) = then-cons (x · y) w l ls ∙ go (maybeEmpty x) (t
         rw (or-then (after l x · y) (after l y) w ls, ih, then-cons y w l ls)
         (or-assoc (matches (after l x · (y · w)) ls) (matches (after l y · w) ls) (maybeEmpty y && matches (after l w) ls))
     go false ih = rw ih
+
+-- what follows x · y follows y
+pub then-in : (x y w z : Expr) → Same (y · w) z → Same ((x · y) · w) (x · z)
+then-in x y w z f ls = then-assoc x y w ls ∙ then-same x x (y · w) z (λ k. refl) f ls
 
 -- ---- what may follow a letter
 -- nothing, where x does not begin with it

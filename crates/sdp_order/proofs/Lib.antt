@@ -1,2 +1,5 @@
 pub mod ExpressionLaws
 pub mod SeenLaws
+pub mod FindLaws
+pub mod PassLaws
+pub mod GrammarLaws

@@ -9,6 +9,8 @@ use Rattle.sdp_lines.specs.Lines.{split}
 use Rattle.sdp_lines.specs.declared.Cursor.{Cursor}
 use Rattle.sdp_order.specs.Expression.{Expr, nothing, empty, letter, _·_, _or_, _*, maybeEmpty, after}
 use Rattle.sdp_order.specs.Order.{grammar, letters, run}
+use Rattle.sdp_order.specs.declared.Next.{Next}
+use Rattle.sdp_order.specs.declared.Next.the-variants.{Good, Bad, End}
 use Rattle.sdp_order.specs.declared.Found.{Found}
 use Rattle.sdp_order.specs.declared.Found.the-variants.{Past, Not}
 
@@ -29,6 +31,13 @@ begins l (x *) = begins l x
 pub record Behind (s : List ℕ) (c d : Cursor) : Type 0 where
   pub stands : c .at .0 < length s
   pub moved : c .at .0 < d .at .0
+
+-- the next line that is not empty, from c on: it takes its letter, and the others stand behind it; or nothing runs; or
+-- no line is left
+abbrev pub Follows : List ℕ → Cursor → Next → Type 0
+Follows s c (Good l d) = Behind s c d × ((x : Expr) → runFrom s c x ≡ runFrom s d (after l x))
+Follows s c Bad = (x : Expr) → runFrom s c x ≡ false
+Follows s c End = (x : Expr) → runFrom s c x ≡ maybeEmpty x
 
 -- what was found of a line with the letter l from c on: its place does not matter, what follows it stands behind it; or
 -- the first letter is another or there is none, and then whatever begins with no other letter is passed over

@@ -3,7 +3,7 @@ ghost use mathlib.Core.Path.{_≡_};
 ghost use Rattle.sdp_lines.specs.Lines.{start};
 ghost use Rattle.sdp_order.specs.Expression.{Expr, empty, letter, _·_, _*, _⁇};
 ghost use Rattle.sdp_order.specs.Order.{grammar, orderOf, orderNumber, orderYes};
-ghost use Rattle.sdp_order.specs.From.{runFrom, begins, Finds, Passes, Leads, timeRun, fromTitle, fromTimes, fromZone, fromMedia, inMedia};
+ghost use Rattle.sdp_order.specs.From.{runFrom, begins, Follows, Finds, Passes, Leads, timeRun, fromTitle, fromTimes, fromZone, fromMedia, inMedia};
 ghost use mathlib.Core.Bool.{false};
 use sdp_lines::Cursor;
 use sdp_lines::Cut;
@@ -15,65 +15,69 @@ pub enum Order {
     TooLong,
 }
 
+// The next line that is not empty: its letter and where the line after it is due, or that its form is bad.
+pub enum Next {
+    Good { letter: u8, past: Cursor },
+    Bad,
+    End,
+}
+
 // Where the next line is due, or that a line is not as it should be.
 pub enum Found {
     Past(Cursor),
     Not,
 }
 
-// The next line that is not empty, if it has this letter.
-fn line_with(text: &[u8], from: Cursor, letter: u8) -> Found
-    ensures { λ r. ⌜ Finds (now (text .entry)) letter from r ⌝ }
+// The next line that is not empty.
+fn next_line(text: &[u8], from: Cursor) -> Next
+    ensures { λ r. ⌜ Follows (now (text .entry)) from r ⌝ }
 {
     let mut c = from;
     loop {
         match c.cut(text) {
             Cut::End => {
-                return Found::Not;
+                return Next::End;
             }
             Cut::Refused { fault, line } => {
-                return Found::Not;
+                return Next::Bad;
             }
             Cut::Empty { next } => {
                 c = next;
-            }
-            Cut::Line {
-                letter: l,
-                value,
-                next,
-            } => {
-                if l == letter {
-                    return Found::Past(next);
-                }
-                return Found::Not;
-            }
-        }
-    }
-}
-
-// Whether no line but empty ones is left.
-fn ended(text: &[u8], from: Cursor) -> bool
-    ensures { λ r. ⌜ r ≡ runFrom (now (text .entry)) from empty ⌝ }
-{
-    let mut c = from;
-    loop {
-        match c.cut(text) {
-            Cut::End => {
-                return true;
-            }
-            Cut::Empty { next } => {
-                c = next;
-            }
-            Cut::Refused { fault, line } => {
-                return false;
             }
             Cut::Line {
                 letter,
                 value,
                 next,
             } => {
-                return false;
+                return Next::Good { letter, past: next };
             }
+        }
+    }
+}
+
+// Whether no line but empty ones is left.
+fn ended(text: &[u8], c: Cursor) -> bool
+    ensures { λ r. ⌜ r ≡ runFrom (now (text .entry)) c empty ⌝ }
+{
+    match next_line(text, c) {
+        Next::End => true,
+        Next::Bad => false,
+        Next::Good { letter, past } => false,
+    }
+}
+
+// The next line that is not empty, if it has the letter l.
+fn line_with(text: &[u8], c: Cursor, l: u8) -> Found
+    ensures { λ r. ⌜ Finds (now (text .entry)) l c r ⌝ }
+{
+    match next_line(text, c) {
+        Next::End => Found::Not,
+        Next::Bad => Found::Not,
+        Next::Good { letter, past } => {
+            if letter == l {
+                return Found::Past(past);
+            }
+            Found::Not
         }
     }
 }

@@ -1,0 +1,67 @@
+use borrow.Author.Needs.{needs}
+use Rattle.sdp_order.proofs.first_lines.Statement.{statement}
+use Rattle.sdp_order.proofs.first_lines.Tie as tie
+use Rattle.sdp_order.proofs.first_lines.Reads as reads
+use Rattle.sdp_order.proofs.first_lines.Lts as lts
+use Rattle.sdp_lines.proofs.Cursor.new.Reads as new-reads
+use Rattle.sdp_order.proofs.line_with.Reads as line-with-reads
+
+-- src/lib.rt:116:42
+new-requires : tie.Need-new-requires
+new-requires c κs = search needs
+
+-- src/lib.rt:116:26
+line-with-requires : tie.Need-line-with-requires
+line-with-requires c κs = search needs
+
+-- src/lib.rt:116:21
+enum-known-o : tie.Need-enum-known-o
+enum-known-o c = search needs
+
+-- src/lib.rt:117:9
+enum-told : tie.Need-enum-told
+enum-told c = search needs
+
+-- src/lib.rt:117:9
+returns : tie.Need-returns
+returns c = ?
+
+-- src/lib.rt:119:26
+line-with-requires-2 : tie.Need-line-with-requires-2
+line-with-requires-2 c κs = search needs
+
+-- src/lib.rt:119:21
+enum-known-s : tie.Need-enum-known-s
+enum-known-s c = search needs
+
+-- src/lib.rt:120:9
+enum-told-2 : tie.Need-enum-told-2
+enum-told-2 c = search needs
+
+-- src/lib.rt:120:9
+returns-2 : tie.Need-returns-2
+returns-2 c = ?
+
+-- src/lib.rt:122:5
+line-with-requires-3 : tie.Need-line-with-requires-3
+line-with-requires-3 c κs = search needs
+
+-- src/lib.rt:113:1
+returns-3 : tie.Need-returns-3
+returns-3 c = ?
+
+pub first-lines-spec : {M : Type 1} → statement M
+first-lines-spec =
+    tie.close
+    (tie.spec
+    new-requires
+    line-with-requires
+    enum-known-o
+    enum-told
+    returns
+    line-with-requires-2
+    enum-known-s
+    enum-told-2
+    returns-2
+    line-with-requires-3
+    returns-3)
