@@ -17,6 +17,10 @@ use Rattle.sdp_order.proofs.SeenLaws.{run-same}
 pub passes-on : (s : List ℕ) (x y z : Expr) (c d e : Cursor) → Passes s x y c d → Passes s y z d e → Passes s x z c e
 passes-on s x y z c d e f g = record { onward = omega (arith, f .onward, g .onward); rest = f .rest ∙ g .rest }
 
+pub leads-on : (s : List ℕ) (x y z : Expr) (c d : Cursor) (r : Found) → runFrom s c x ≡ runFrom s d y → Leads s y z d r → Leads s x z c r
+leads-on s x y z c d (Past e) f g = f ∙ g
+leads-on s x y z c d Not f g = f ∙ g
+
 module _ (s : List ℕ) (c : Cursor) (l : ℕ) where
   -- one line must come
   pub must-come : (y : Expr) (r : Found) → Finds s l c r → Leads s (letter l · y) y c r

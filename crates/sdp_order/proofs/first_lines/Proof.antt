@@ -1,3 +1,8 @@
+-- `sdp_order::first_lines` meets its contract. Assumes nothing.
+use mathlib.Core.Path.{_∙_}
+use Rattle.sdp_lines.specs.Lines.{start}
+use Rattle.sdp_order.specs.declared.Found.the-variants.{Past, Not}
+use Rattle.sdp_order.proofs.PassLaws.{leads-on, must-come}
 use borrow.Author.Needs.{needs}
 use Rattle.sdp_order.proofs.first_lines.Statement.{statement}
 use Rattle.sdp_order.proofs.first_lines.Tie as tie
@@ -24,7 +29,7 @@ enum-told c = search needs
 
 -- src/lib.rt:117:9
 returns : tie.Need-returns
-returns c = ?
+returns c = must-come _ start 0x76 _ Not (rw (c .before .before .before .new .ensures, c .enum-told .given .1) at (c .before .before .line-with .ensures))
 
 -- src/lib.rt:119:26
 line-with-requires-2 : tie.Need-line-with-requires-2
@@ -40,7 +45,7 @@ enum-told-2 c = search needs
 
 -- src/lib.rt:120:9
 returns-2 : tie.Need-returns-2
-returns-2 c = ?
+returns-2 c = must-come _ start 0x76 _ (Past _) (rw (c .before .before .before .before .before .before .before .new .ensures, c .before .before .before .before .o .given .1) at (c .before .before .before .before .before .before .line-with .ensures)) ∙ must-come _ _ 0x6f _ Not (rw (c .enum-told2 .given .1) at (c .before .before .line-with2 .ensures))
 
 -- src/lib.rt:122:5
 line-with-requires-3 : tie.Need-line-with-requires-3
@@ -48,7 +53,7 @@ line-with-requires-3 c κs = search needs
 
 -- src/lib.rt:113:1
 returns-3 : tie.Need-returns-3
-returns-3 c = ?
+returns-3 c = leads-on _ _ _ _ _ _ _ (must-come _ start 0x76 _ (Past _) (rw (c .before .before .before .before .before .before .before .before .before .new .ensures, c .before .before .before .before .before .before .o .given .1) at (c .before .before .before .before .before .before .before .before .line-with .ensures)) ∙ must-come _ _ 0x6f _ (Past _) (rw (c .before .before .s .given .1) at (c .before .before .before .before .line-with2 .ensures))) (must-come _ _ 0x73 _ _ (c .line-with3 .ensures))
 
 pub first-lines-spec : {M : Type 1} → statement M
 first-lines-spec =
