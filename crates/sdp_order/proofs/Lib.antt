@@ -3,3 +3,4 @@ pub mod SeenLaws
 pub mod FindLaws
 pub mod PassLaws
 pub mod GrammarLaws
+pub mod AnswerLaws

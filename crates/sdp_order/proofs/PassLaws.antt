@@ -17,6 +17,9 @@ use Rattle.sdp_order.proofs.SeenLaws.{run-same}
 pub passes-on : (s : List ℕ) (x y z : Expr) (c d e : Cursor) → Passes s x y c d → Passes s y z d e → Passes s x z c e
 passes-on s x y z c d e f g = record { onward = omega (arith, f .onward, g .onward); rest = f .rest ∙ g .rest }
 
+pub passes-as : (s : List ℕ) (x x′ y : Expr) (c d : Cursor) → Same x x′ → Passes s x′ y c d → Passes s x y c d
+passes-as s x x′ y c d f g = record { onward = g .onward; rest = run-same s c x x′ f ∙ g .rest }
+
 pub leads-on : (s : List ℕ) (x y z : Expr) (c d : Cursor) (r : Found) → runFrom s c x ≡ runFrom s d y → Leads s y z d r → Leads s x z c r
 leads-on s x y z c d (Past e) f g = f ∙ g
 leads-on s x y z c d Not f g = f ∙ g

@@ -1,3 +1,11 @@
+-- `sdp_order::repeats` and `sdp_order::times` meet their contracts. Assumes nothing.
+use Prim.Native.Nat.{_+_, _*_, _-_}
+use native.Mathlib.Omega.{arith}
+use mathlib.Core.Path.{_∙_}
+use lib.ListN.{length}
+use borrow.Author.Needs.{needs}
+use Rattle.sdp_order.proofs.PassLaws.{many-came, many-none, run-came, run-none}
+use Rattle.sdp_order.proofs.GrammarLaws.{repeats-end, times-end}
 use Prim.Native.Nat.{ℕ, _<_}
 use borrow.Fn.Kinds.{In}
 use borrow.Fn.PlainCycle.{Measures, is, falls, and}
@@ -12,10 +20,10 @@ use Rattle.sdp_order.proofs.+repeats+times.{statement}
 use Rattle.sdp_order.proofs.+repeats+times.Tie.{close}
 
 abbrev μ-repeats : Measures 1 repeats-kinds.ps ℕ
-μ-repeats κs a = ?
+μ-repeats κs a = 2 * (length (a .0 .now) - a .1 .0 .at .0) + 1
 
 abbrev μ-times : Measures 1 times-kinds.ps ℕ
-μ-times κs a = ?
+μ-times κs a = 2 * (length (a .0 .now) - a .1 .0 .at .0)
 
 abbrev repeats-at : ℕ → In 1 repeats-kinds.ps
 repeats-at t = and 1 repeats-kinds.ps (is 1 repeats-kinds.ps μ-repeats t) repeats.Pre
@@ -38,7 +46,7 @@ repeats-line-with-requires : (t : ℕ) → repeats-lts.Need-line-with-requires (
   times-below t,
   times.Post,
 ) (repeats-at t) repeats.Post
-repeats-line-with-requires t c κs = ?
+repeats-line-with-requires t c κs = search needs
 
 -- src/lib.rt:152:21
 repeats-enum-known-next : (t : ℕ) → repeats-lts.Need-enum-known-next (
@@ -49,7 +57,7 @@ repeats-enum-known-next : (t : ℕ) → repeats-lts.Need-enum-known-next (
   times-below t,
   times.Post,
 ) (repeats-at t) repeats.Post
-repeats-enum-known-next t c = ?
+repeats-enum-known-next t c = search needs
 
 -- src/lib.rt:152:30
 repeats-repeats-requires : (t : ℕ) → repeats-lts.Need-repeats-requires (
@@ -60,7 +68,7 @@ repeats-repeats-requires : (t : ℕ) → repeats-lts.Need-repeats-requires (
   times-below t,
   times.Post,
 ) (repeats-at t) repeats.Post
-repeats-repeats-requires t c κs = ?
+repeats-repeats-requires t c κs = let h = rw (c .before .next .given .1) at (c .before .before .before .line-with .ensures) in omega (arith, h .0 .stands, h .0 .moved)
 
 -- src/lib.rt:153:23
 repeats-enum-told : (t : ℕ) → repeats-lts.Need-enum-told (
@@ -71,7 +79,7 @@ repeats-enum-told : (t : ℕ) → repeats-lts.Need-enum-told (
   times-below t,
   times.Post,
 ) (repeats-at t) repeats.Post
-repeats-enum-told t c = ?
+repeats-enum-told t c = search needs
 
 -- src/lib.rt:153:23
 repeats-times-requires : (t : ℕ) → repeats-lts.Need-times-requires (
@@ -82,7 +90,7 @@ repeats-times-requires : (t : ℕ) → repeats-lts.Need-times-requires (
   times-below t,
   times.Post,
 ) (repeats-at t) repeats.Post
-repeats-times-requires t c κs = ?
+repeats-times-requires t c κs = omega arith
 
 -- src/lib.rt:148:1
 repeats-returns : (t : ℕ) → repeats-lts.Need-returns (
@@ -93,7 +101,7 @@ repeats-returns : (t : ℕ) → repeats-lts.Need-returns (
   times-below t,
   times.Post,
 ) (repeats-at t) repeats.Post
-repeats-returns t c = ?
+repeats-returns t c = many-came _ _ _ _ repeats-end _ (rw (c .before .before .next .given .1) at (c .before .before .before .before .line-with .ensures)) .rest ∙ c .repeats .ensures
 
 -- src/lib.rt:148:1
 repeats-returns-2 : (t : ℕ) → repeats-lts.Need-returns-2 (
@@ -104,7 +112,7 @@ repeats-returns-2 : (t : ℕ) → repeats-lts.Need-returns-2 (
   times-below t,
   times.Post,
 ) (repeats-at t) repeats.Post
-repeats-returns-2 t c = ?
+repeats-returns-2 t c = many-none _ _ _ (rw (c .before .enum-told .given .1) at (c .before .before .before .line-with .ensures)) _ .rest ∙ c .times .ensures
 
 -- src/lib.rt:141:11
 times-line-with-requires : (t : ℕ) → times-lts.Need-line-with-requires (
@@ -113,7 +121,7 @@ times-line-with-requires : (t : ℕ) → times-lts.Need-line-with-requires (
   repeats-below t,
   repeats.Post,
 ) (times-at t) times.Post
-times-line-with-requires t c κs = ?
+times-line-with-requires t c κs = search needs
 
 -- src/lib.rt:142:21
 times-enum-known-next : (t : ℕ) → times-lts.Need-enum-known-next (
@@ -122,7 +130,7 @@ times-enum-known-next : (t : ℕ) → times-lts.Need-enum-known-next (
   repeats-below t,
   repeats.Post,
 ) (times-at t) times.Post
-times-enum-known-next t c = ?
+times-enum-known-next t c = search needs
 
 -- src/lib.rt:142:30
 times-repeats-requires : (t : ℕ) → times-lts.Need-repeats-requires (
@@ -131,7 +139,7 @@ times-repeats-requires : (t : ℕ) → times-lts.Need-repeats-requires (
   repeats-below t,
   repeats.Post,
 ) (times-at t) times.Post
-times-repeats-requires t c κs = ?
+times-repeats-requires t c κs = let h = rw (c .before .next .given .1) at (c .before .before .before .line-with .ensures) in omega (arith, h .0 .stands, h .0 .moved)
 
 -- src/lib.rt:143:23
 times-enum-told : (t : ℕ) → times-lts.Need-enum-told (
@@ -140,7 +148,7 @@ times-enum-told : (t : ℕ) → times-lts.Need-enum-told (
   repeats-below t,
   repeats.Post,
 ) (times-at t) times.Post
-times-enum-told t c = ?
+times-enum-told t c = search needs
 
 -- src/lib.rt:138:1
 times-returns : (t : ℕ) → times-lts.Need-returns (
@@ -149,7 +157,7 @@ times-returns : (t : ℕ) → times-lts.Need-returns (
   repeats-below t,
   repeats.Post,
 ) (times-at t) times.Post
-times-returns t c = ?
+times-returns t c = run-came _ _ _ _ times-end _ _ (rw (c .before .before .next .given .1) at (c .before .before .before .before .line-with .ensures)) ∙ c .repeats .ensures
 
 -- src/lib.rt:138:1
 times-returns-2 : (t : ℕ) → times-lts.Need-returns-2 (
@@ -158,7 +166,7 @@ times-returns-2 : (t : ℕ) → times-lts.Need-returns-2 (
   repeats-below t,
   repeats.Post,
 ) (times-at t) times.Post
-times-returns-2 t c = ?
+times-returns-2 t c = run-none _ _ _ (rw (c .enum-told .given .1) at (c .before .before .line-with .ensures)) _ _
 
 pub +repeats+times-spec : {M : Type 1} → statement M
 +repeats+times-spec = close μ-repeats μ-times (λ t. repeats-lts.spec (

@@ -1,3 +1,7 @@
+-- `sdp_order::last_lines` meets its contract. Assumes nothing.
+use mathlib.Core.Path.{refl, _∙_}
+use Rattle.sdp_order.specs.Expression.{maybeEmpty}
+use Rattle.sdp_order.specs.From.{begins}
 use borrow.Author.Needs.{needs}
 use Rattle.sdp_order.proofs.last_lines.Statement.{statement}
 use Rattle.sdp_order.proofs.last_lines.Tie as tie
@@ -20,7 +24,8 @@ many-requires c κs = search needs
 
 -- src/lib.rt:168:1
 returns : tie.Need-returns
-returns c = ?
+unfolding begins maybeEmpty
+returns c = c .before .before .maybe .ensures _ refl .rest ∙ c .before .maybe2 .ensures _ refl .rest ∙ c .many .ensures _ refl .rest
 
 pub last-lines-spec : {M : Type 1} → statement M
 last-lines-spec = tie.close (tie.spec maybe-requires maybe-requires-2 many-requires returns)

@@ -1,3 +1,6 @@
+-- `sdp_order::letter_order` meets its contract. Assumes nothing.
+use mathlib.Core.Path.{sym, _∙_}
+use Rattle.sdp_order.proofs.AnswerLaws.{too-long, in-order, out-of-order}
 use borrow.Author.Needs.{needs}
 use Rattle.sdp_order.proofs.letter_order.Statement.{statement}
 use Rattle.sdp_order.proofs.letter_order.Tie as tie
@@ -12,7 +15,7 @@ use Rattle.sdp_order.proofs.time_lines.Reads as time-lines-reads
 
 -- src/lib.rt:209:9
 returns : tie.Need-returns
-returns c = ?
+returns c = too-long _ (c .if1 .taken)
 
 -- src/lib.rt:211:26
 first-lines-requires : tie.Need-first-lines-requires
@@ -28,7 +31,7 @@ enum-told c = search needs
 
 -- src/lib.rt:212:9
 returns-2 : tie.Need-returns-2
-returns-2 c = ?
+returns-2 c = out-of-order _ (c .before .before .before .if1 .left) (rw (c .enum-told .given .1) at (c .before .before .first-lines .ensures))
 
 -- src/lib.rt:214:9
 session-lines-requires : tie.Need-session-lines-requires
@@ -48,7 +51,7 @@ enum-told-2 c = search needs
 
 -- src/lib.rt:216:9
 returns-3 : tie.Need-returns-3
-returns-3 c = ?
+returns-3 c = out-of-order _ (c .before .before .before .before .before .before .before .before .if1 .left) ((rw (c .before .before .before .before .before .i .given .1) at (c .before .before .before .before .before .before .before .first-lines .ensures)) ∙ c .before .before .before .session-lines .ensures ∙ (rw (c .enum-told2 .given .1) at (c .before .before .time-lines .ensures)))
 
 -- src/lib.rt:218:9
 last-lines-requires : tie.Need-last-lines-requires
@@ -64,11 +67,11 @@ ended-requires c κs = search needs
 
 -- src/lib.rt:221:9
 returns-4 : tie.Need-returns-4
-returns-4 c = ?
+returns-4 c = in-order _ (c .before .before .before .before .before .before .before .before .before .before .before .before .before .if1 .left) ((rw (c .before .before .before .before .before .before .before .before .before .before .i .given .1) at (c .before .before .before .before .before .before .before .before .before .before .before .before .first-lines .ensures)) ∙ c .before .before .before .before .before .before .before .before .session-lines .ensures ∙ (rw (c .before .before .before .before .before .z .given .1) at (c .before .before .before .before .before .before .before .time-lines .ensures)) ∙ c .before .before .before .last-lines .ensures ∙ c .before .before .medias .ensures ∙ sym (c .before .ended .ensures) ∙ c .if2 .taken)
 
 -- src/lib.rt:205:1
 returns-5 : tie.Need-returns-5
-returns-5 c = ?
+returns-5 c = out-of-order _ (c .before .before .before .before .before .before .before .before .before .before .before .before .before .if1 .left) ((rw (c .before .before .before .before .before .before .before .before .before .before .i .given .1) at (c .before .before .before .before .before .before .before .before .before .before .before .before .first-lines .ensures)) ∙ c .before .before .before .before .before .before .before .before .session-lines .ensures ∙ (rw (c .before .before .before .before .before .z .given .1) at (c .before .before .before .before .before .before .before .time-lines .ensures)) ∙ c .before .before .before .last-lines .ensures ∙ c .before .before .medias .ensures ∙ sym (c .before .ended .ensures) ∙ c .if2 .left)
 
 pub letter-order-spec : {M : Type 1} → statement M
 letter-order-spec =
