@@ -8,52 +8,13 @@ use Rattle.sdp_order.proofs.PassLaws.{leads-on, must-come}
 use borrow.Author.Needs.{needs}
 use Rattle.sdp_order.proofs.first_lines.Statement.{statement}
 use Rattle.sdp_order.proofs.first_lines.Tie as tie
-use Rattle.sdp_order.proofs.first_lines.Reads as reads
-use Rattle.sdp_order.proofs.first_lines.Lts as lts
-use Rattle.sdp_lines.proofs.Cursor.new.Reads as new-reads
-use Rattle.sdp_order.proofs.line_with.Reads as line-with-reads
 
--- src/lib.rt:116:42
-new-requires : tie.Need-new-requires
-new-requires c κs = search needs
-
--- src/lib.rt:116:26
-line-with-requires : tie.Need-line-with-requires
-line-with-requires c κs = search needs
-
--- src/lib.rt:116:21
-enum-known-o : tie.Need-enum-known-o
-enum-known-o c = search needs
-
--- src/lib.rt:117:9
-enum-told : tie.Need-enum-told
-enum-told c = search needs
-
--- src/lib.rt:117:9
 returns : tie.Need-returns
 returns c = must-come _ start 0x76 _ Not (rw (c .before .before .before .new .ensures, c .enum-told .given .1) at (c .before .before .line-with .ensures))
 
--- src/lib.rt:119:26
-line-with-requires-2 : tie.Need-line-with-requires-2
-line-with-requires-2 c κs = search needs
-
--- src/lib.rt:119:21
-enum-known-s : tie.Need-enum-known-s
-enum-known-s c = search needs
-
--- src/lib.rt:120:9
-enum-told-2 : tie.Need-enum-told-2
-enum-told-2 c = search needs
-
--- src/lib.rt:120:9
 returns-2 : tie.Need-returns-2
 returns-2 c = must-come _ start 0x76 _ (Past _) (rw (c .before .before .before .before .before .before .before .new .ensures, c .before .before .before .before .o .given .1) at (c .before .before .before .before .before .before .line-with .ensures)) ∙ must-come _ _ 0x6f _ Not (rw (c .enum-told2 .given .1) at (c .before .before .line-with2 .ensures))
 
--- src/lib.rt:122:5
-line-with-requires-3 : tie.Need-line-with-requires-3
-line-with-requires-3 c κs = search needs
-
--- src/lib.rt:113:1
 returns-3 : tie.Need-returns-3
 returns-3 c = let t = c .before .before .before .before .before .before .before .before .before .before .before .args .text .now in leads-on t grammar (partsFrom 2 grammar) fromTitle start (c .before .before .s .given .0 .0) (c .line-with3 .result) (must-come t start 0x76 _ (Past _) (rw (c .before .before .before .before .before .before .before .before .before .new .ensures, c .before .before .before .before .before .before .o .given .1) at (c .before .before .before .before .before .before .before .before .line-with .ensures)) ∙ must-come t _ 0x6f _ (Past _) (rw (c .before .before .s .given .1) at (c .before .before .before .before .line-with2 .ensures))) (must-come t (c .before .before .s .given .0 .0) 0x73 fromTitle (c .line-with3 .result) (c .line-with3 .ensures))
 
@@ -61,14 +22,14 @@ pub first-lines-spec : {M : Type 1} → statement M
 first-lines-spec =
     tie.close
     (tie.spec
-    new-requires
-    line-with-requires
-    enum-known-o
-    enum-told
+    (λ c κs. search needs)
+    (λ c κs. search needs)
+    (λ c. search needs)
+    (λ c. search needs)
     returns
-    line-with-requires-2
-    enum-known-s
-    enum-told-2
+    (λ c κs. search needs)
+    (λ c. search needs)
+    (λ c. search needs)
     returns-2
-    line-with-requires-3
+    (λ c κs. search needs)
     returns-3)
