@@ -1,6 +1,6 @@
 -- Document 01, "Letter order".
 use Prim.Native.Nat.{ℕ}
-use mathlib.Core.Bool.{Bool, true, false, cond}
+use mathlib.Core.Bool.{Bool, false, cond}
 use mathlib.Core.List.{List, [], _∷_}
 use mathlib.Core.Option.{Option, none, some}
 use lib.ListN.{length}
@@ -9,6 +9,7 @@ use Rattle.sdp_lines.specs.Lines.{Raw, split, content, formOf}
 use Rattle.sdp_lines.specs.declared.Form.{Form}
 use Rattle.sdp_lines.specs.declared.Form.the-variants.{Blank, Good, Bad}
 use Rattle.sdp_order.specs.Expression.{Expr, letter, _·_, _*, _⁇, _+, matches}
+use Rattle.sdp_order.specs.declared.Verdict.{Verdict}
 use Rattle.sdp_order.specs.declared.Order.{Order}
 use Rattle.sdp_order.specs.declared.Order.the-variants.{InOrder, OutOfOrder, TooLong}
 
@@ -83,14 +84,8 @@ run x (some ls) = matches x ls
 unfoldable pub orderOf : List ℕ → Order
 orderOf text = cond (ltb 32768 (length text)) TooLong (cond (run grammar (letters (split text))) InOrder OutOfOrder)
 
--- "Refusal numbers": "1 text over 32,768 bytes"; "Acceptance is 0", whether yes or no
-abbrev pub orderNumber : Order → ℕ
-orderNumber InOrder = 0
-orderNumber OutOfOrder = 0
-orderNumber TooLong = 1
-
--- yes or no
-abbrev pub orderYes : Order → Bool
-orderYes InOrder = true
-orderYes OutOfOrder = false
-orderYes TooLong = false
+-- the answer in the paper's numbers: "1 text over 32,768 bytes", else 0; and 1 for yes, 0 for no
+abbrev pub verdictOf : Order → Verdict
+verdictOf InOrder = record { number = 0; yes = 1 }
+verdictOf OutOfOrder = record { number = 0; yes = 0 }
+verdictOf TooLong = record { number = 1; yes = 0 }

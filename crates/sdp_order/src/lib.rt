@@ -2,7 +2,7 @@
 ghost use mathlib.Core.Path.{_≡_};
 ghost use Rattle.sdp_lines.specs.Lines.{start};
 ghost use Rattle.sdp_order.specs.Expression.{Expr, empty, letter, _·_, _*, _⁇};
-ghost use Rattle.sdp_order.specs.Order.{grammar, orderOf, orderNumber, orderYes};
+ghost use Rattle.sdp_order.specs.Order.{grammar, orderOf, verdictOf};
 ghost use Rattle.sdp_order.specs.From.{runFrom, begins, Follows, Finds, Passes, Leads, timeRun, fromTitle, fromTimes, fromZone, fromMedia, inMedia};
 ghost use mathlib.Core.Bool.{false};
 use sdp_lines::Cursor;
@@ -13,6 +13,13 @@ pub enum Order {
     InOrder,
     OutOfOrder,
     TooLong,
+}
+
+// The answer in numbers: 0, or the refusal 1; and 1 for yes, 0 for no.
+#[repr(C)]
+pub struct Verdict {
+    pub number: u64,
+    pub yes: u64,
 }
 
 // The next line that is not empty: its letter and where the line after it is due, or that its form is bad.
@@ -158,10 +165,10 @@ fn repeats(text: &[u8], c: Cursor) -> Cursor
 fn time_lines(text: &[u8], c: Cursor) -> Found
     ensures { λ r. ⌜ Leads (now (text .entry)) fromTimes fromZone c r ⌝ }
 {
-    let Found::Past(next) = line_with(text, c, b't') else {
-        return Found::Not;
-    };
-    Found::Past(repeats(text, next))
+    match line_with(text, c, b't') {
+        Found::Past(next) => Found::Past(repeats(text, next)),
+        Found::Not => Found::Not,
+    }
 }
 
 // z? k? a*
@@ -223,24 +230,13 @@ pub fn letter_order(text: &[u8]) -> Order
     Order::OutOfOrder
 }
 
-// The number of document 01.
-pub fn order_number(o: Order) -> u64
-    ensures { λ r. ⌜ r ≡ orderNumber o ⌝ }
+// The answer in the numbers of document 01; yes is 1.
+pub fn verdict_of(o: Order) -> Verdict
+    ensures { λ r. ⌜ r ≡ verdictOf o ⌝ }
 {
     match o {
-        Order::InOrder => 0,
-        Order::OutOfOrder => 0,
-        Order::TooLong => 1,
-    }
-}
-
-// Yes or no.
-pub fn order_yes(o: Order) -> bool
-    ensures { λ r. ⌜ r ≡ orderYes o ⌝ }
-{
-    match o {
-        Order::InOrder => true,
-        Order::OutOfOrder => false,
-        Order::TooLong => false,
+        Order::InOrder => Verdict { number: 0, yes: 1 },
+        Order::OutOfOrder => Verdict { number: 0, yes: 0 },
+        Order::TooLong => Verdict { number: 1, yes: 0 },
     }
 }
