@@ -25,7 +25,7 @@ crosswise false true false d = refl
 crosswise false false c d = refl
 
 -- ---- one or the other, and nothing
-matches-or : (x y : Expr) → (ls : List ℕ) → matches (x or y) ls ≡ matches x ls || matches y ls
+pub matches-or : (x y : Expr) → (ls : List ℕ) → matches (x or y) ls ≡ matches x ls || matches y ls
 unfolding matches maybeEmpty after
 matches-or x y [] = refl
 matches-or x y (l ∷ ls) = matches-or (after l x) (after l y) ls
@@ -36,7 +36,7 @@ matches-nothing [] = refl
 matches-nothing (l ∷ ls) = matches-nothing ls
 
 -- ---- one and then the other
-then-cons : (x y : Expr) (l : ℕ) (ls : List ℕ) → matches (x · y) (l ∷ ls) ≡ matches (after l x · y) ls || maybeEmpty x && matches y (l ∷ ls)
+pub then-cons : (x y : Expr) (l : ℕ) (ls : List ℕ) → matches (x · y) (l ∷ ls) ≡ matches (after l x · y) ls || maybeEmpty x && matches y (l ∷ ls)
 unfolding matches after
 then-cons x y l ls = go (maybeEmpty x)
   where

@@ -4,3 +4,4 @@ pub mod FindLaws
 pub mod PassLaws
 pub mod GrammarLaws
 pub mod AnswerLaws
+pub mod Described

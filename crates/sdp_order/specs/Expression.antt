@@ -1,7 +1,7 @@
 -- Regular expressions over letters, and the lists that they describe, as in any textbook: by what may follow a letter.
 use Prim.Native.Nat.{ℕ}
 use mathlib.Core.Bool.{Bool, true, false, _&&_, _||_, cond}
-use mathlib.Core.List.{List, [], _∷_}
+use mathlib.Core.List.{List, [], _∷_, _++_}
 use lib.Dec.{eqb}
 
 infixr 40 _·_
@@ -48,3 +48,14 @@ after l (x *) = after l x · x *
 unfoldable pub matches : Expr → List ℕ → Bool
 matches e [] = maybeEmpty e
 matches e (l ∷ ls) = matches (after l e) ls
+
+-- The same by an expression's parts, in one rule for each way to build a list. `matches` says yes to exactly these lists
+-- (`described` in proofs/Described.antt).
+pub data Describes : Expr → List ℕ → Type 0 where
+  no-letter : Describes empty []
+  one-letter : (k : ℕ) → Describes (letter k) (k ∷ [])
+  one-then : {x y : Expr} (ls ms : List ℕ) → Describes x ls → Describes y ms → Describes (x · y) (ls ++ ms)
+  left : {x y : Expr} (ls : List ℕ) → Describes x ls → Describes (x or y) ls
+  right : {x y : Expr} (ls : List ℕ) → Describes y ls → Describes (x or y) ls
+  no-more : {x : Expr} → Describes (x *) []
+  one-more : {x : Expr} (ls ms : List ℕ) → Describes x ls → Describes (x *) ms → Describes (x *) (ls ++ ms)
