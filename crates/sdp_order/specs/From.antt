@@ -32,15 +32,15 @@ pub record Behind (s : List ℕ) (c d : Cursor) : Type 0 where
   pub stands : c .at .0 < length s
   pub moved : c .at .0 < d .at .0
 
--- the next line that is not empty, from c on: it takes its letter, and the others stand behind it; or nothing runs; or
--- no line is left
+-- the next line from c on that is not empty: it has the letter l, and the others stand behind it; or its form is bad, and
+-- nothing runs; or there is none
 abbrev pub Follows : List ℕ → Cursor → Next → Type 0
 Follows s c (Good l d) = Behind s c d × ((x : Expr) → runFrom s c x ≡ runFrom s d (after l x))
 Follows s c Bad = (x : Expr) → runFrom s c x ≡ false
 Follows s c End = (x : Expr) → runFrom s c x ≡ maybeEmpty x
 
--- what was found of a line with the letter l from c on: its place does not matter, what follows it stands behind it; or
--- the first letter is another or there is none, and then whatever begins with no other letter is passed over
+-- whether the next letter from c on is l. It is, and the others stand behind it; or it is not, and then an x that can
+-- begin with l alone is not there: what is due after it is due at c
 abbrev pub Finds : List ℕ → ℕ → Cursor → Found → Type 0
 Finds s l c (Past d) = Behind s c d × ((x : Expr) → runFrom s c x ≡ runFrom s d (after l x))
 Finds s l c Not = (x y : Expr) → ((k : ℕ) → eqb k l ≡ false → begins k x ≡ false) → runFrom s c (x · y) ≡ maybeEmpty x && runFrom s c y

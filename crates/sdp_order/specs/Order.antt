@@ -13,7 +13,7 @@ use Rattle.sdp_order.specs.declared.Verdict.{Verdict}
 use Rattle.sdp_order.specs.declared.Order.{Order}
 use Rattle.sdp_order.specs.declared.Order.the-variants.{InOrder, OutOfOrder, TooLong}
 
--- ---- the letters, one line each
+-- ---- the letters of document 01, as bytes
 abbrev v : Expr
 v = letter 0x76
 
