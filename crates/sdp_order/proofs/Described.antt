@@ -8,7 +8,7 @@ use mathlib.Core.Bool.{Bool, true, false, _&&_, _||_, cond, false≢true, or-tru
 use mathlib.Core.List.{List, [], _∷_, _++_}
 use lib.Dec.{eqb}
 use lib.ListN.{length, length-append}
-use borrow.Author.Tests.{eq-eqb, eqb-true}
+use borrow.Author.Tests.{eqb-true}
 use Rattle.sdp_order.specs.Expression.{Expr, nothing, empty, letter, _·_, _or_, _*, maybeEmpty, after, matches, Describes, no-letter, one-letter, one-then, left, right, no-more, one-more}
 use Rattle.sdp_order.proofs.ExpressionLaws.{matches-or, matches-nothing, then-cons, after-letter}
 

@@ -1,10 +1,9 @@
 -- Laws of expressions: which describe the same lists, and what may follow a letter.
 -- Assumes nothing.
 use Prim.Native.Nat.{ℕ}
-use mathlib.Core.Path.{_≡_, refl, sym, ap, _∙_}
+use mathlib.Core.Path.{_≡_, refl, sym, _∙_}
 use mathlib.Core.Bool.{Bool, true, false, _&&_, _||_, cond, true≢false, or-false, or-assoc, and-assoc, and-true, and-false, and-or-distrib-right}
 use mathlib.Core.List.{List, [], _∷_}
-use lib.Dec.{eqb}
 use borrow.Author.Tests.{eq-eqb}
 use Rattle.sdp_order.specs.Expression.{Expr, nothing, empty, letter, _·_, _or_, _*, _⁇, maybeEmpty, after, matches}
 use Rattle.sdp_order.specs.From.{begins}

@@ -3,23 +3,22 @@
 use Prim.Native.Nat.{ℕ, _≤_}
 use native.Mathlib.Omega.{arith}
 use mathlib.Core.Path.{_≡_, refl, sym, ap, _∙_}
-use mathlib.Core.Bool.{Bool, true, false, _&&_, and-false}
+use mathlib.Core.Bool.{false, _&&_, and-false}
 use mathlib.Core.List.{List}
 use mathlib.Core.Option.{Option, none, some}
-use lib.Dec.{eqb}
 use lib.ListN.{drop}
 use borrow.Author.Tests.{ne-eqb}
 use Rattle.sdp_lines.specs.Lines.{split}
 use Rattle.sdp_lines.specs.declared.Cursor.{Cursor}
 use Rattle.sdp_lines.specs.declared.Span.{Span}
 use Rattle.sdp_lines.specs.declared.Cut.the-variants as cut
-use Rattle.sdp_order.specs.Expression.{Expr, empty, _·_, maybeEmpty, after, matches}
+use Rattle.sdp_order.specs.Expression.{Expr, empty, _·_, maybeEmpty, after}
 use Rattle.sdp_order.specs.Order.{letters, run}
-use Rattle.sdp_order.specs.From.{runFrom, begins, Behind, Follows, Finds}
+use Rattle.sdp_order.specs.From.{runFrom, Follows, Finds}
 use Rattle.sdp_order.specs.declared.Next.the-variants.{Good, Bad, End}
 use Rattle.sdp_order.specs.declared.Found.the-variants.{Past, Not}
 use Rattle.sdp_order.proofs.ExpressionLaws.{matches-nothing, passed-over}
-use Rattle.sdp_order.proofs.SeenLaws.{Seen, run-same}
+use Rattle.sdp_order.proofs.SeenLaws.{Seen}
 
 -- only empty lines stand between from and c
 pub record Skips (s : List ℕ) (from c : Cursor) : Type 0 where

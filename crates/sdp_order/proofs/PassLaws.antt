@@ -2,13 +2,12 @@
 -- Assumes nothing.
 use Prim.Native.Nat.{ℕ}
 use native.Mathlib.Omega.{arith}
-use mathlib.Core.Path.{_≡_, refl, sym, _∙_}
-use mathlib.Core.Bool.{true, false}
+use mathlib.Core.Path.{_≡_, sym, _∙_}
+use mathlib.Core.Bool.{false}
 use mathlib.Core.List.{List}
-use lib.Dec.{eqb}
 use Rattle.sdp_lines.specs.declared.Cursor.{Cursor}
 use Rattle.sdp_order.specs.Expression.{Expr, empty, letter, _·_, _*, _⁇, maybeEmpty, after}
-use Rattle.sdp_order.specs.From.{runFrom, begins, Behind, Finds, Passes, Leads}
+use Rattle.sdp_order.specs.From.{runFrom, begins, Finds, Passes, Leads}
 use Rattle.sdp_order.specs.declared.Found.{Found}
 use Rattle.sdp_order.specs.declared.Found.the-variants.{Past, Not}
 use Rattle.sdp_order.proofs.ExpressionLaws.{Same, empty-then, then-empty, then-assoc, after-then, after-letter, after-one, after-maybe, after-many}

@@ -3,11 +3,10 @@
 use Prim.Native.Nat.{ℕ, _+_, _≤_, _<_}
 use native.Mathlib.Decide.{decLt}
 use native.Mathlib.Omega.{arith}
-use mathlib.Core.Path.{_≡_, refl, sym, ap, _∙_}
-use mathlib.Core.Bool.{Bool, true, false, _&&_, and-false}
-use mathlib.Core.List.{List, [], _∷_}
+use mathlib.Core.Path.{_≡_, refl, _∙_}
+use mathlib.Core.Bool.{false}
+use mathlib.Core.List.{List}
 use mathlib.Core.Option.{Option, none, some}
-use lib.Dec.{eqb}
 use lib.ListN.{length, drop, length-drop, drop-of-length-le}
 use Rattle.sdp_lines.specs.Lines
 use Rattle.sdp_lines.specs.Lines.{Raw, split, content, width, formOf, past, cutForm, cutAt}
@@ -18,7 +17,7 @@ use Rattle.sdp_lines.specs.declared.Form.the-variants.{Blank, Good, Bad}
 use Rattle.sdp_lines.specs.declared.Cut.{Cut}
 use Rattle.sdp_lines.specs.declared.Cut.the-variants.{Line, Empty, Refused, End}
 use Rattle.sdp_lines.proofs.LineLaws.{split-at-place, width-pos}
-use Rattle.sdp_order.specs.Expression.{Expr, _·_, maybeEmpty, after, matches}
+use Rattle.sdp_order.specs.Expression.{Expr, maybeEmpty, after, matches}
 use Rattle.sdp_order.specs.Order.{before, letters, run}
 use Rattle.sdp_order.specs.From.{runFrom, Behind}
 use Rattle.sdp_order.proofs.ExpressionLaws.{Same}
