@@ -101,7 +101,11 @@ fn kind(name: &str, width: usize) -> Kind {
 pub fn cells(area: &[u8]) -> Vec<Cell> {
     let mut cells = Vec::with_capacity(4_000);
     for part in &PARTS {
-        let (count, rows, first) = if part.rows == 0 { (1, 1, part.at) } else { (two(area, part.at), part.rows, part.at + 2) };
+        let (count, rows, first) = if part.rows == 0 {
+            (1, 1, part.at)
+        } else {
+            (two(area, part.at), part.rows, part.at + 2)
+        };
         if part.rows > 0 {
             cells.push(Cell {
                 part,
@@ -113,32 +117,37 @@ pub fn cells(area: &[u8]) -> Vec<Cell> {
                 judged: true,
             });
         }
+        // of each field its kind, and for a mark the field behind the last one that it speaks for
+        let kinds: Vec<(Kind, usize)> = part.fields.iter().map(|(_, width, name)| (kind(name, *width), behind(part, name))).collect();
         for row in 0..rows {
-            // the field with which an absent one ends
-            let mut absent = None;
-            for (offset, width, name) in part.fields {
+            let mut absent_to = 0;
+            for (field, (offset, width, name)) in part.fields.iter().enumerate() {
+                let (kind, behind) = kinds[field];
                 let at = first + row * part.width + offset;
-                let cell = Cell {
+                let judged = row < count && field >= absent_to;
+                if judged && kind == Kind::Mark && two(area, at) != 1 {
+                    absent_to = behind;
+                }
+                cells.push(Cell {
                     part,
                     row,
                     name,
-                    kind: kind(name, *width),
+                    kind,
                     at,
                     width: *width,
-                    judged: row < count && absent.is_none(),
-                };
-                cells.push(cell);
-                if cell.judged && cell.kind == Kind::Mark && two(area, at) != 1 {
-                    let of = MARKS.iter().find(|(of, mark, _)| *of == part.name && mark == name);
-                    absent = of.map(|(_, _, last)| *last);
-                    assert!(absent.is_some(), "{} {name} is in the list of marks", part.name);
-                } else if absent == Some(*name) {
-                    absent = None;
-                }
+                    judged,
+                });
             }
         }
     }
     cells
+}
+
+fn behind(part: &Part, name: &str) -> usize {
+    let of = MARKS.iter().find(|(of, mark, _)| *of == part.name && *mark == name);
+    let last = of.map(|(_, _, last)| part.fields.iter().position(|(.., name)| name == last).expect("a field of the part"));
+    assert_eq!(last.is_some(), name.ends_with("mark"), "{} {name}: each mark is in the list", part.name);
+    last.map_or(0, |last| last + 1)
 }
 
 /// All reasons to refuse this area with 23; none for a good one.
