@@ -8,6 +8,7 @@ use compare::judge::{cells, faults, judge, Fault, Kind, FAULTS};
 use compare::made::{self, at, put_eight, put_two, DAMAGES};
 use compare::writing::{folded, kept_lines, Outcome, Writing};
 use compare::{read, theirs, write, Answer};
+use generate::fields::BROKEN;
 use generate::random::count;
 use generate::sessions::{self, LONGEST};
 use generate::{texts, Random};
@@ -357,7 +358,7 @@ fn rich() -> (Vec<u8>, Vec<u8>) {
 }
 
 /// Every judged cell of a rich session in turn: each mark with values that are no mark, each string with a place or a
-/// length that is one too much, each owner, each count.
+/// length that is one too much or where no characters stand, each owner, each count.
 #[test]
 fn every_cell_in_turn() {
     let (text, area) = rich();
@@ -399,10 +400,28 @@ fn every_cell_in_turn() {
             classes.add(&text, &changed);
         }
     }
+    // each string where bytes stand that are no character, or only a part of one
+    for cell in cells(&area).iter().filter(|cell| cell.judged && cell.kind == Kind::Text) {
+        for (broken, good) in BROKEN.iter().map(|broken| (*broken, false)).chain([(&b"\xc3\xa9\xf4\x8f\xbf\xbf"[..], true)]) {
+            let text = [&text[..], broken].concat();
+            let mut changed = area.clone();
+            put_two(&mut changed, cell.at, len);
+            put_two(&mut changed, cell.at + 2, broken.len());
+            assert_eq!(judge(&text, &changed), good);
+            classes.add(&text, &changed);
+            // its last byte alone, and all but its last
+            put_two(&mut changed, cell.at, text.len() - 1);
+            put_two(&mut changed, cell.at + 2, 1);
+            classes.add(&text, &changed);
+            put_two(&mut changed, cell.at, len);
+            put_two(&mut changed, cell.at + 2, broken.len() - 1);
+            classes.add(&text, &changed);
+        }
+    }
     classes.print("every cell in turn");
     println!("    judged cells: {seen:?}");
-    // all strings here are ASCII; a row's owner can be 0 and not fall only in the first of three tables
-    assert!(FAULTS.iter().filter(|fault| **fault != Fault::Encoding).all(|fault| classes.alone(*fault) >= 3));
+    // an owner of 0 doesn't fall in the first row only, and is bad in three tables
+    assert!(FAULTS.iter().all(|fault| classes.alone(*fault) >= 3));
 }
 
 /// Every table with its count at the most and one over, the rows being good and the text long enough.
