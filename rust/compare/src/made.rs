@@ -29,7 +29,7 @@ pub fn text(random: &mut Random) -> Vec<u8> {
             _ => text.extend(fields::string(random, 30)),
         }
     }
-    if random.once_in(60) {
+    if random.once_in(250) {
         text.resize(32_768 - random.below(3), random.letter(b"x\n\xff"));
     }
     text
