@@ -80,6 +80,12 @@ pub const OWNED: [(&str, usize, &str); 5] = [
     ("attributes", 0, "medias"),
 ];
 
+/// The lowest owner of a table, and the table that its owners name.
+pub fn owners_of(part: &Part) -> (usize, &'static str) {
+    let of = OWNED.iter().find(|(name, ..)| *name == part.name);
+    of.map(|(_, lowest, of)| (*lowest, *of)).expect("a table with owners")
+}
+
 pub fn part(name: &str) -> &'static Part {
     PARTS.iter().find(|part| part.name == name).expect("a part of the area")
 }
@@ -118,7 +124,8 @@ pub fn cells(area: &[u8]) -> Vec<Cell> {
             });
         }
         // of each field its kind, and for a mark the field behind the last one that it speaks for
-        let kinds: Vec<(Kind, usize)> = part.fields.iter().map(|(_, width, name)| (kind(name, *width), behind(part, name))).collect();
+        let fields = part.fields.iter();
+        let kinds: Vec<_> = fields.map(|(_, width, name)| (kind(name, *width), behind(part, name))).collect();
         for row in 0..rows {
             let mut absent_to = 0;
             for (field, (offset, width, name)) in part.fields.iter().enumerate() {
@@ -145,9 +152,11 @@ pub fn cells(area: &[u8]) -> Vec<Cell> {
 
 fn behind(part: &Part, name: &str) -> usize {
     let of = MARKS.iter().find(|(of, mark, _)| *of == part.name && *mark == name);
-    let last = of.map(|(_, _, last)| part.fields.iter().position(|(.., name)| name == last).expect("a field of the part"));
-    assert_eq!(last.is_some(), name.ends_with("mark"), "{} {name}: each mark is in the list", part.name);
-    last.map_or(0, |last| last + 1)
+    assert_eq!(of.is_some(), name.ends_with("mark"), "{} {name}: each mark is in the list", part.name);
+    of.map_or(0, |(_, _, last)| {
+        let at = part.fields.iter().position(|(.., name)| name == last);
+        at.expect("a field of the part") + 1
+    })
 }
 
 /// All reasons to refuse this area with 23; none for a good one.
@@ -177,8 +186,8 @@ pub fn faults(text: &[u8], area: &[u8]) -> BTreeSet<Fault> {
             }
             Kind::Owner => {
                 let owner = two(area, cell.at);
-                let (_, lowest, of) = OWNED.iter().find(|(name, ..)| *name == cell.part.name).expect("a table with owners");
-                if owner < *lowest {
+                let (lowest, of) = owners_of(cell.part);
+                if owner < lowest {
                     faults.insert(Fault::OwnerZero);
                 }
                 if owner > two(area, part(of).at) {

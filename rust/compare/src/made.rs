@@ -1,6 +1,6 @@
 //! Areas that no reader made: good ones with any strings, numbers and owners, and damage to an area.
 use crate::area::{Part, PARTS, SIZE};
-use crate::judge::{cells, part, two, Cell, Kind, OWNED};
+use crate::judge::{cells, owners_of, part, two, Cell, Kind, OWNED};
 use generate::{fields, Random};
 
 pub fn put_two(area: &mut [u8], at: usize, value: usize) {
@@ -183,8 +183,7 @@ pub fn damage(random: &mut Random, kind: &str, text: &[u8], area: &mut [u8]) {
             let later = kind == "fallen owner";
             let is_owner = |cell: &Cell| cell.judged && cell.kind == Kind::Owner && (!later || cell.row > 0);
             let Some(cell) = pick(random, &all, is_owner) else { return };
-            let (_, _, of) = OWNED.iter().find(|(name, ..)| *name == cell.part.name).expect("a table with owners");
-            let most = two(area, part(of).at);
+            let most = two(area, part(owners_of(cell.part).1).at);
             let owner = two(area, cell.at);
             let value = if later {
                 // one less than the row before

@@ -5,6 +5,10 @@ use crate::judge::{self, Fault};
 use crate::{theirs, Answer};
 use oracle::{fold, leaf, written};
 use std::collections::BTreeSet;
+use std::time::{Duration, Instant};
+
+/// To make a failing area small.
+const LONG_ENOUGH: Duration = Duration::from_secs(20);
 
 /// What became of an area: the text that both sides wrote, or why both refuse it.
 #[derive(Debug, Clone, PartialEq, Eq)]
@@ -17,7 +21,7 @@ pub struct Writing<W> {
     writer: W,
 }
 
-/// What the output holds before a call, from the call's number on: never the same byte twice in a row.
+/// What the output holds before a call: no byte of it is ASCII, as most of what is written is.
 fn pattern(len: usize) -> Vec<u8> {
     (0..len).map(|at| (at * 89 + at / 256) as u8 | 0x80).collect()
 }
@@ -101,14 +105,14 @@ impl<W: Fn(&[u8], &[u8], &mut [u8]) -> Answer> Writing<W> {
     /// A report on the emptiest area found that still differs.
     pub fn smallest(&self, text: &[u8], area: &[u8]) -> String {
         let mut small = area[..SIZE].to_vec();
+        let start = Instant::now();
         let what = match self.compare(text, &small) {
             Ok(_) => return format!("only with the bytes beyond: {:?}", self.compare(text, area).err()),
             Err(_) => loop {
                 let before = small.clone();
-                // counts go down, then cells become zero
                 for cell in judge::cells(&before) {
                     let cell_at = cell.at..cell.at + cell.width;
-                    if area::all_zero(&small[cell_at.clone()]) {
+                    if area::all_zero(&small[cell_at.clone()]) || start.elapsed() > LONG_ENOUGH {
                         continue;
                     }
                     let mut less = small.clone();
@@ -125,8 +129,9 @@ impl<W: Fn(&[u8], &[u8], &mut [u8]) -> Answer> Writing<W> {
         let mut report = format!("the two sides differ, text of {} bytes:\n{}\n", text.len(), text.escape_ascii());
         for cell in judge::cells(&small) {
             let bytes = &small[cell.at..cell.at + cell.width];
+            let (part, row, name, at) = (cell.part.name, cell.row + 1, cell.name, cell.at);
             if !area::all_zero(bytes) {
-                report += &format!("{} row {} {} at {}: {bytes:02x?}\n", cell.part.name, cell.row + 1, cell.name, cell.at);
+                report += &format!("{part} row {row} {name} at {at}: {bytes:02x?}\n");
             }
         }
         report + &format!("all other cells are zero\n{what}")

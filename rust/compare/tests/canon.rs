@@ -1,5 +1,5 @@
-//! The program `canon` as a user runs it: on each text of the folder `texts`, on inputs at the limit, on inputs that come
-//! in pieces, and stopped while it waits. The archive must say the same.
+//! The program `canon` as a user runs it: on each text of the folder `texts`, on inputs at the limit, on inputs that
+//! come in pieces, and stopped while it waits. The archive must say the same.
 use compare::area::SIZE;
 use compare::{read, write};
 use generate::sessions::LONGEST;
@@ -65,7 +65,8 @@ impl Run {
 
     /// By the shell, whose own `kill` needs no other program.
     fn signal(&self, name: &str) {
-        let sent = Command::new("sh").args(["-c", "kill -s \"$1\" \"$2\"", "sh", name, &self.child.id().to_string()]).status();
+        let number = self.child.id().to_string();
+        let sent = Command::new("sh").args(["-c", "kill -s \"$1\" \"$2\"", "sh", name, &number]).status();
         assert!(sent.expect("a shell").success(), "the signal {name} was sent");
     }
 

@@ -4,7 +4,7 @@ use compare::area::{
     decode, Attribute, Bandwidth, Connection, Key, Media, MediaConnection, Offset, Origin, Repeat, Seen, Span, Time,
     Zone, PARTS, SIZE,
 };
-use compare::judge::{cells, faults, judge, Fault, Kind, FAULTS};
+use compare::judge::{cells, faults, judge, two, Fault, Kind, FAULTS};
 use compare::made::{self, at, put_eight, put_two, DAMAGES};
 use compare::writing::{folded, kept_lines, Outcome, Writing};
 use compare::{read, theirs, write, Answer};
@@ -242,7 +242,8 @@ impl Classes {
     }
 
     fn print(&self, what: &str) {
-        println!("{what}: {} good, {} of them with noise in cells that aren't judged; {} bad", self.good, self.noisy, self.bad);
+        let Classes { good, noisy, bad, .. } = self;
+        println!("{what}: {good} good, {noisy} of them with noise in cells that aren't judged; {bad} bad");
         for fault in FAULTS {
             let of = |counts: &BTreeMap<Fault, u64>| counts.get(&fault).copied().unwrap_or(0);
             if of(&self.any) > 0 {
@@ -350,12 +351,15 @@ fn areas_of_noise() {
 
 /// A session with something in every part, twice where it is a table, and a text for it with other bytes behind.
 fn rich() -> (Vec<u8>, Vec<u8>) {
-    let text = b"v=0\no=u 1 2 IN IP4 h\ns=n\ni=d\nu=u\ne=e\ne=f\np=p\np=q\nc=IN IP4 h\nb=AS:1\nb=X:2\nt=1 2\nr=1 2 3 4\n\
-        t=3 4\nr=5 6 7\nz=1 -2 3 4\nk=m:t\na=x\na=y:z\nm=a 1/2 p f\ni=t\nc=A B C\nb=CT:5\nk=q:r\na=w:\nm=b 2/3 p f\ni=g\n\
-        c=D E F\nb=Y:6\nk=m:t\na=v:s\n";
+    let text = b"v=0\no=u 1 2 IN IP4 h\ns=n\ni=d\nu=u\ne=e\ne=f\np=p\np=q\nc=IN IP4 h\nb=AS:1\nb=X:2\nt=1 2\n\
+        r=1 2 3 4\nt=3 4\nr=5 6 7\nz=1 -2 3 4\nk=m:t\na=x\na=y:z\nm=a 1/2 p f\ni=t\nc=A B C\nb=CT:5\nk=q:r\na=w:\n\
+        m=b 2/3 p f\ni=g\nc=D E F\nb=Y:6\nk=m:t\na=v:s\n";
     let area = area_of(text).unwrap();
     (text.to_vec(), area)
 }
+
+/// Two characters, of two and of four bytes.
+const GOOD: &[u8] = b"\xc3\xa9\xf4\x8f\xbf\xbf";
 
 /// Every judged cell of a rich session in turn: each mark with values that are no mark, each string with a place or a
 /// length that is one too much or where no characters stand, each owner, each count.
@@ -373,22 +377,26 @@ fn every_cell_in_turn() {
     for cell in cells(&area).iter().filter(|cell| cell.judged) {
         *seen.entry(format!("{:?}", cell.kind)).or_insert(0u64) += 1;
         match cell.kind {
-            Kind::Mark => [0, 1, 2, 3, 128, 255, 256, 257, 512, 0x8000, 0xff00, 0xffff].map(|value| add(cell.at, value)).len(),
             Kind::Text => {
-                let (place, used) = (area[cell.at] as usize | (area[cell.at + 1] as usize) << 8, usize::from(area[cell.at + 2]));
+                let (place, used) = (two(&area, cell.at), two(&area, cell.at + 2));
                 for value in [len - used, len - used + 1, len, len + 1, 0xffff, 0, 256] {
                     add(cell.at, value);
                 }
-                [len - place, len - place + 1, len, 0xffff, 0, 256].map(|value| add(cell.at + 2, value)).len()
+                for value in [len - place, len - place + 1, len, 0xffff, 0, 256] {
+                    add(cell.at + 2, value);
+                }
             }
-            Kind::Owner => (0..4).chain([255, 256, 257, 258, 0xffff]).map(|value| add(cell.at, value)).count(),
-            Kind::Count => {
-                let rows = cell.part.rows;
-                [0, 1, 2, 3, rows, rows + 1, 255, 256, 257, 258, 0x8001, 0xffff].map(|value| add(cell.at, value)).len()
+            Kind::Number if cell.width == 8 => (0..4).for_each(|word| add(cell.at + 2 * word, 0xffff)),
+            Kind::Mark | Kind::Owner | Kind::Count | Kind::Number => {
+                for value in [0, 1, 2, 3, 128, 255, 256, 257, 258, 512, 0x8001, 0xff00, 0xffff] {
+                    add(cell.at, value);
+                }
+                if cell.kind == Kind::Count {
+                    add(cell.at, cell.part.rows);
+                    add(cell.at, cell.part.rows + 1);
+                }
             }
-            Kind::Number if cell.width == 2 => [0, 1, 255, 256, 0xffff].map(|value| add(cell.at, value)).len(),
-            Kind::Number => (0..4).map(|word| add(cell.at + 2 * word, 0xffff)).count(),
-        };
+        }
     }
     // an empty string at the end of the text is inside, one place further it is not
     for cell in cells(&area).iter().filter(|cell| cell.judged && cell.kind == Kind::Text) {
@@ -402,7 +410,8 @@ fn every_cell_in_turn() {
     }
     // each string where bytes stand that are no character, or only a part of one
     for cell in cells(&area).iter().filter(|cell| cell.judged && cell.kind == Kind::Text) {
-        for (broken, good) in BROKEN.iter().map(|broken| (*broken, false)).chain([(&b"\xc3\xa9\xf4\x8f\xbf\xbf"[..], true)]) {
+        for broken in BROKEN.iter().copied().chain([GOOD]) {
+            let good = broken == GOOD;
             let text = [&text[..], broken].concat();
             let mut changed = area.clone();
             put_two(&mut changed, cell.at, len);
@@ -465,8 +474,10 @@ impl Hand {
     }
 }
 
+#[rustfmt::skip] // in one row what is left out, in the other what is kept beside it
 const HARD: [&str; 12] = [
-    "", "\r", "\n", "\0", "\r\n", "\0\r\n\0", "a\rb", "a\nb=c\n", "\0a\0", "\u{e9}\r\u{10ffff}", "\t \u{7f}", "a\r\nm=x 1 y z\r\n",
+    "", "\r", "\n", "\0", "\r\n", "\0\r\n\0",
+    "a\rb", "a\nb=c\n", "\0a\0", "\u{e9}\r\u{10ffff}", "\t \u{7f}", "a\r\nm=x 1 y z\r\n",
 ];
 
 /// Strings with NUL, CR and LF in every place that a string can have.
@@ -642,7 +653,8 @@ fn owners() {
         let medias = random.between(1, 6) as u64;
         let times = random.between(1, 5) as u64;
         let rows = |random: &mut Random, low: u64, most: u64| {
-            let mut owners: Vec<u64> = (0..random.between(2, 12)).map(|_| random.between(low as usize, most as usize) as u64).collect();
+            let rows = random.between(2, 12);
+            let mut owners: Vec<u64> = (0..rows).map(|_| random.between(low as usize, most as usize) as u64).collect();
             owners.sort();
             owners
         };
@@ -653,9 +665,10 @@ fn owners() {
             .zip(0..)
             .map(|(owner, at)| Repeat { owner, interval: at, duration: 60 * at })
             .collect();
+        let offsets = rows(&mut random, 1, repeats.len() as u64).into_iter();
         let seen = Seen {
             times: (0..times).map(|at| Time { start: at, stop: 9 }).collect(),
-            offsets: rows(&mut random, 1, repeats.len() as u64).into_iter().map(|owner| Offset { owner, value: owner }).collect(),
+            offsets: offsets.map(|owner| Offset { owner, value: owner }).collect(),
             repeats,
             zones: vec![Zone { adjustment: 1, offset: -7_200 }],
             connections: rows(&mut random, 1, medias)

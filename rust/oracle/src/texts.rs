@@ -1,5 +1,6 @@
 //! The folder of texts at the repository's root: each NAME.sdp has NAME.expected beside it, which is what the program
 //! `canon` must print for it. These files are made here, from the crate alone.
+use crate::Refusal;
 use std::path::{Path, PathBuf};
 use std::{fs, io};
 
@@ -9,7 +10,10 @@ pub const FOLDERS: [&str; 2] = ["published", "kinds"];
 pub fn canon(text: &[u8]) -> Vec<u8> {
     match crate::read(text) {
         Ok(session) => crate::written(&session),
-        Err(refusal) => format!("refused {} line {} field {}\n", refusal.number, refusal.line, refusal.field).into_bytes(),
+        Err(refusal) => {
+            let Refusal { number, line, field, .. } = refusal;
+            format!("refused {number} line {line} field {field}\n").into_bytes()
+        }
     }
 }
 

@@ -34,12 +34,15 @@ fn expected_outputs_are_the_crate_s() {
 
 #[test]
 fn each_text_has_its_output_and_its_row() {
-    let names = |ending: &str| -> BTreeSet<PathBuf> { files(ending).iter().map(|path| path.with_extension("")).collect() };
+    let names = |ending: &str| -> BTreeSet<PathBuf> {
+        files(ending).iter().map(|path| path.with_extension("")).collect()
+    };
     assert_eq!(names("sdp"), names("expected"));
     let page = fs::read_to_string(texts::folder().join("README.md")).unwrap();
     let mut rows: Vec<&str> = page.lines().filter_map(|line| line.strip_prefix("| `")?.split('`').next()).collect();
     rows.sort();
-    let mut due: Vec<String> = names("sdp").iter().map(|path| path.file_name().unwrap().to_str().unwrap().to_string()).collect();
+    let name = |path: &PathBuf| path.file_name().unwrap().to_str().unwrap().to_string();
+    let mut due: Vec<String> = names("sdp").iter().map(name).collect();
     due.sort();
     assert_eq!(rows, due, "texts/README.md has a row for each text");
     let count = |folder: &str| names("sdp").iter().filter(|path| path.parent().unwrap().ends_with(folder)).count();
@@ -62,7 +65,8 @@ fn no_text_is_folded() {
             let value = &text[cut.place as usize..(cut.place + cut.len) as usize];
             let fields: Vec<&[u8]> = value.split(|byte| *byte == b' ').filter(|field| !field.is_empty()).collect();
             if let Some([nettype, addrtype]) = fields.get(first..first + 2) {
-                assert_eq!((fold::nettype(nettype), fold::addrtype(addrtype)), (nettype.to_vec(), addrtype.to_vec()), "{}", path.display());
+                assert_eq!(fold::nettype(nettype), *nettype, "{}", path.display());
+                assert_eq!(fold::addrtype(addrtype), *addrtype, "{}", path.display());
                 words += 2;
             }
         }
