@@ -130,7 +130,7 @@ fn archive(text: &[u8]) -> Vec<u8> {
         return format!("refused {} line {} field {}\n", answer.number, answer.line, answer.field).into_bytes();
     }
     let needed = write(text, &area, &mut []);
-    assert_eq!(needed.number, 22, "even v=0 alone is written with 40 bytes");
+    assert_eq!(needed.number, 22, "a written text is never empty");
     let mut out = vec![0; needed.len as usize];
     let answer = write(text, &area, &mut out);
     assert_eq!((answer.number, answer.len), (0, needed.len));
