@@ -350,7 +350,7 @@ fn nearly_good_orders() {
 fn bad_forms() {
     let table = Table::new();
     let mut random = Random::of_test("bad forms");
-    let mut counts = Counts::of(&table);
+    let (mut counts, rounds) = (Counts::of(&table), count(4_000));
     #[rustfmt::skip] // a row for each kind
     const FORMS: [&[u8]; 16] = [
         b"a", b"abc",
@@ -358,7 +358,7 @@ fn bad_forms() {
         b"a\0=", b"a=\0", b"\0",
         b"a=\r", b"\r", b"a=\rb", b"a=b\r\r",
     ];
-    for _ in 0..count(4_000) {
+    for _ in 0..rounds {
         let letters = ordered(&mut random);
         let text = dressed(&mut random, &letters);
         let mut lines: Vec<Vec<u8>> = text.split_inclusive(|byte| *byte == b'\n').map(<[u8]>::to_vec).collect();
@@ -381,7 +381,7 @@ fn bad_forms() {
         counts.add(&damaged);
     }
     counts.print("bad forms");
-    assert!(counts.no > 4 * counts.yes && counts.yes > 100);
+    assert!(counts.no > 4 * counts.yes && counts.yes >= rounds / 4);
 }
 
 /// Texts of the other generators: their order is often right, since values aren't judged.
@@ -389,8 +389,8 @@ fn bad_forms() {
 fn other_texts() {
     let table = Table::new();
     let mut random = Random::of_test("order, other texts");
-    let mut counts = Counts::of(&table);
-    for number in 0..count(20_000) {
+    let (mut counts, rounds) = (Counts::of(&table), count(20_000));
+    for number in 0..rounds {
         counts.add(&sessions::nth(8866, 2_000_000_000 + number));
         counts.add(&texts::text(&mut random));
         counts.add(&texts::lines(&mut random));
@@ -399,7 +399,8 @@ fn other_texts() {
         counts.add(text);
     });
     counts.print("other texts");
-    assert!(counts.yes > 20 && counts.no > 20_000 && counts.long > 0);
+    assert!(counts.yes >= rounds / 40 && counts.no > rounds);
+    assert!(rounds < 20_000 || counts.long >= 10);
 }
 
 /// The longest text, and one byte more: 1, whatever stands in it.
@@ -407,8 +408,8 @@ fn other_texts() {
 fn at_the_limit() {
     let table = Table::new();
     let mut random = Random::of_test("order limit");
-    let mut counts = Counts::of(&table);
-    for _ in 0..count(40) {
+    let (mut counts, rounds) = (Counts::of(&table), count(40));
+    for _ in 0..rounds {
         for due in [LONGEST - 1, LONGEST, LONGEST + 1, LONGEST + 2, 3 * LONGEST] {
             let letters = ordered(&mut random);
             let mut text = dressed(&mut random, &letters);
@@ -435,5 +436,5 @@ fn at_the_limit() {
         }
     }
     counts.print("at the limit");
-    assert!(counts.yes > 10 && counts.no > 0 && counts.long > 100);
+    assert!(counts.yes > 5 && counts.long >= 4 * rounds);
 }

@@ -308,8 +308,10 @@ fn damaged_areas() {
     }
     classes.print("damaged areas");
     println!("    good and bad by the first damage: {by_kind:?}");
-    for fault in FAULTS {
-        assert!(classes.alone(fault) >= rounds / 25, "{fault:?} came too seldom");
+    if rounds >= 2_500 {
+        for fault in FAULTS {
+            assert!(classes.alone(fault) >= rounds / 25, "{fault:?} came too seldom");
+        }
     }
     assert!(classes.good >= rounds && classes.noisy >= rounds / 4);
     assert_eq!(by_kind["cell not judged"][1], 0);
@@ -849,8 +851,8 @@ fn the_sample() {
 #[test]
 fn the_builder_gives_the_crate_s_session_back() {
     let mut random = Random::of_test("builder");
-    let mut compared = 0;
-    for _ in 0..count(3_000) {
+    let (mut compared, rounds) = (0, count(3_000));
+    for _ in 0..rounds {
         let lines = sessions::good(&mut random);
         let text = sessions::ended(&mut random, &lines);
         let Ok(session) = oracle::read(&text) else { continue };
@@ -861,5 +863,5 @@ fn the_builder_gives_the_crate_s_session_back() {
         compared += 1;
     }
     println!("write: {compared} sessions built");
-    assert!(compared > 100);
+    assert!(compared * 2 > rounds);
 }
