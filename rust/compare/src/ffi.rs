@@ -28,7 +28,8 @@ pub struct Piece {
     pub next_line: u64,
 }
 
-/// What reading a text says: `number` 0 for accepted, else document 01's refusal number and what it names; else 0.
+/// What reading or writing says: `number` 0 for done, else document 01's refusal number and what it names; else 0. A
+/// writer gives the written length as `len`, and with 22 the length needed.
 #[repr(C)]
 #[derive(Debug, Clone, Copy, PartialEq, Eq, Default)]
 pub struct Answer {
@@ -39,8 +40,16 @@ pub struct Answer {
     pub len: u64,
 }
 
+/// Whether a text's letters are in order: `number` 0 and `yes` 1 or 0; or 1 (text too long) and 0.
+#[repr(C)]
+#[derive(Debug, Clone, Copy, PartialEq, Eq, Default)]
+pub struct Order {
+    pub number: u64,
+    pub yes: u64,
+}
+
 mod raw {
-    use super::{Answer, Numeral, Piece};
+    use super::{Answer, Numeral, Order, Piece};
     extern "C" {
         pub fn sdp_utf8_end(bytes: *const u8, len: usize) -> usize;
         pub fn sdp_is_token(bytes: *const u8, len: usize) -> bool;
@@ -50,6 +59,15 @@ mod raw {
         pub fn sdp_cut(text: *const u8, len: usize, place: usize, line: usize) -> Piece;
         pub fn sdp_read(text: *const u8, text_len: usize, area: *mut u8, area_len: usize) -> Answer;
         pub fn sdp_area_size() -> usize;
+        pub fn sdp_write(
+            text: *const u8,
+            text_len: usize,
+            area: *const u8,
+            area_len: usize,
+            out: *mut u8,
+            out_len: usize,
+        ) -> Answer;
+        pub fn sdp_letter_order(text: *const u8, text_len: usize) -> Order;
     }
 }
 
@@ -91,4 +109,25 @@ pub fn read(text: &[u8], area: &mut [u8]) -> Answer {
 #[inline]
 pub fn area_size() -> usize {
     unsafe { raw::sdp_area_size() }
+}
+
+/// Writes the session that the area holds, with its strings in the text, to the output that is lent.
+#[inline]
+pub fn write(text: &[u8], area: &[u8], out: &mut [u8]) -> Answer {
+    unsafe {
+        raw::sdp_write(
+            text.as_ptr(),
+            text.len(),
+            area.as_ptr(),
+            area.len(),
+            out.as_mut_ptr(),
+            out.len(),
+        )
+    }
+}
+
+/// Whether the letters of a text's lines run in RFC 8866's order.
+#[inline]
+pub fn letter_order(text: &[u8]) -> Order {
+    unsafe { raw::sdp_letter_order(text.as_ptr(), text.len()) }
 }

@@ -4,8 +4,12 @@ pub mod area;
 pub mod bench;
 mod ffi;
 pub mod interrupt;
+pub mod judge;
+pub mod made;
 #[cfg(feature = "crate")]
 pub mod placed;
 #[cfg(feature = "crate")]
 pub mod theirs;
+#[cfg(feature = "crate")]
+pub mod writing;
 pub use ffi::*;

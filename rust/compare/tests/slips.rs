@@ -1,7 +1,12 @@
-//! The comparison itself is tested: with a plain reader that has no slip it finds nothing, and it finds each slip.
+//! The comparisons themselves are tested: with a plain reader and a plain writer that have no slip they find nothing,
+//! and they find each slip.
 mod plain;
+use compare::area::SIZE;
 use compare::bench::{Bench, Tally};
-use generate::{random::count, sessions, shrink};
+use compare::made::{self, DAMAGES};
+use compare::writing::{Outcome, Writing};
+use generate::{random::count, sessions, shrink, Random};
+use plain::writer::PlainWriter;
 use plain::{Plain, SLIPS};
 
 const SEED: u64 = 8866;
@@ -41,4 +46,59 @@ fn each_slip_is_found() {
         }
     }
     println!("slips: all {} found, the last by text {latest}", SLIPS.len());
+}
+
+/// The area with this number, and its text: made or read, and mostly with some damage.
+fn area(number: u64) -> (Vec<u8>, Vec<u8>) {
+    let mut random = Random::new(SEED + number, "areas");
+    let (mut text, mut area) = (made::text(&mut random), vec![0; SIZE]);
+    if number % 3 == 0 {
+        let lines = sessions::good(&mut random);
+        let mut read = sessions::ended(&mut random, &lines);
+        if (Plain { slip: "" }).read(&read, &mut area).number == 0 {
+            read.extend(&text);
+            text = read;
+            text.truncate(sessions::LONGEST);
+        }
+    } else {
+        area = made::area(&mut random, &text);
+    }
+    if number % 4 > 0 {
+        made::damage(&mut random, DAMAGES[number as usize % DAMAGES.len()], &text, &mut area);
+    }
+    (text, area)
+}
+
+#[test]
+fn no_slip_of_the_writer_no_difference() {
+    let writer = PlainWriter { slip: "" };
+    let writing = Writing::new(|text: &[u8], area: &[u8], out: &mut [u8]| writer.write(text, area, out));
+    let (mut good, mut bad) = (0, 0);
+    for number in 0..count(4_000) {
+        let (text, area) = area(number);
+        match writing.same(&text, &area) {
+            Outcome::Written(_) => good += 1,
+            Outcome::Bad(_) => bad += 1,
+        }
+    }
+    println!("slips of the writer: {good} areas written and {bad} refused with none");
+    assert!(good > 0 && bad > 0);
+}
+
+#[test]
+fn each_slip_of_the_writer_is_found() {
+    let slips = plain::writer::SLIPS;
+    let mut latest = 0;
+    for slip in slips {
+        let writer = PlainWriter { slip };
+        let writing = Writing::new(|text: &[u8], area: &[u8], out: &mut [u8]| writer.write(text, area, out));
+        let found = (0..4_000).find(|number| {
+            let (text, area) = area(*number);
+            writing.compare(&text, &area).is_err()
+        });
+        let number = found.unwrap_or_else(|| panic!("the areas don't show: {slip}"));
+        println!("{slip}: area {number}");
+        latest = latest.max(number);
+    }
+    println!("slips of the writer: all {} found, the last by area {latest}", slips.len());
 }

@@ -4,6 +4,7 @@ pub mod fold;
 pub mod leaf;
 pub mod limits;
 pub mod refusal;
+pub mod texts;
 pub mod vectors;
 
 pub use refusal::Refusal;

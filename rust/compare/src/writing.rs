@@ -1,0 +1,168 @@
+//! One area through a writer, and through the judge and the crate's writer. The writer is a parameter, so that the
+//! comparison can be tested with writers that are known to be wrong.
+use crate::area::{self, SIZE};
+use crate::judge::{self, Fault};
+use crate::{theirs, Answer};
+use oracle::{fold, leaf, written};
+use std::collections::BTreeSet;
+use std::time::{Duration, Instant};
+
+/// To make a failing area small.
+const LONG_ENOUGH: Duration = Duration::from_secs(20);
+
+/// What became of an area: the text that both sides wrote, or why both refuse it.
+#[derive(Debug, Clone, PartialEq, Eq)]
+pub enum Outcome {
+    Written(Vec<u8>),
+    Bad(BTreeSet<Fault>),
+}
+
+pub struct Writing<W> {
+    writer: W,
+}
+
+/// What the output holds before a call: no byte of it is ASCII, as most of what is written is.
+fn pattern(len: usize) -> Vec<u8> {
+    (0..len).map(|at| (at * 89 + at / 256) as u8 | 0x80).collect()
+}
+
+fn refusal(number: u64, len: usize) -> Answer {
+    Answer {
+        number,
+        len: len as u64,
+        ..Answer::default()
+    }
+}
+
+/// What the crate's writer writes for an area that is good, by way of the decoder. An error is a rule of docs/AREA.md
+/// that is broken, or a string that Rust can't hold.
+pub fn by_the_crate(text: &[u8], area: &[u8]) -> Result<Vec<u8>, String> {
+    let seen = area::decode(&judge::cleaned(area))?;
+    theirs::session(&seen.strings(text)?).map(|session| written(&session))
+}
+
+impl<W: Fn(&[u8], &[u8], &mut [u8]) -> Answer> Writing<W> {
+    pub fn new(writer: W) -> Self {
+        Writing { writer }
+    }
+
+    /// One call with an output of `room` bytes. The answer must be `due`, and the output `out` and then what was there
+    /// before; text and area must be as they were.
+    fn call(&self, text: &[u8], area: &[u8], room: usize, due: Answer, out: &[u8]) -> Result<(), String> {
+        let (kept_text, kept_area) = (text.to_vec(), area.to_vec());
+        let before = pattern(room);
+        let mut output = before.clone();
+        let answer = (self.writer)(text, area, &mut output);
+        let at = format!("with {room} bytes of output");
+        if answer != due {
+            return Err(format!("{at}: ours {answer:?}, due {due:?}"));
+        }
+        if output[..out.len()] != *out {
+            return Err(format!("{at}:\nours\n{}\ndue\n{}", output[..out.len()].escape_ascii(), out.escape_ascii()));
+        }
+        if output[out.len()..] != before[out.len()..] {
+            return Err(format!("{at}: bytes that are not written were changed"));
+        }
+        if text != kept_text || area != kept_area {
+            return Err(format!("{at}: the text or the area was changed"));
+        }
+        Ok(())
+    }
+
+    /// Both sides on one area of `SIZE` bytes or more, with a text that isn't too long: into outputs that are empty,
+    /// short, exact and longer.
+    pub fn compare(&self, text: &[u8], area: &[u8]) -> Result<Outcome, String> {
+        let faults = judge::faults(text, area);
+        let due = by_the_crate(text, area);
+        match (faults.is_empty(), due) {
+            (true, Ok(due)) => {
+                let len = due.len();
+                for room in [0, 1, len / 2, len - 1] {
+                    self.call(text, area, room, refusal(22, len), b"")?;
+                }
+                for room in [len, len + 1, len + 77] {
+                    self.call(text, area, room, refusal(0, len), &due)?;
+                }
+                Ok(Outcome::Written(due))
+            }
+            (false, Err(_)) => {
+                for room in [0, 9, 1_000] {
+                    self.call(text, area, room, refusal(23, 0), b"")?;
+                }
+                Ok(Outcome::Bad(faults))
+            }
+            // the judge and the decoder were written apart
+            (true, Err(why)) => Err(format!("the judge takes what the decoder doesn't: {why}")),
+            (false, Ok(_)) => Err(format!("the decoder takes what the judge doesn't: {faults:?}")),
+        }
+    }
+
+    /// As `compare`; a difference ends the test. Cells that aren't needed to show it are first made zero.
+    pub fn same(&self, text: &[u8], area: &[u8]) -> Outcome {
+        self.compare(text, area).unwrap_or_else(|_| panic!("{}", self.smallest(text, area)))
+    }
+
+    /// A report on the emptiest area found that still differs.
+    pub fn smallest(&self, text: &[u8], area: &[u8]) -> String {
+        let mut small = area[..SIZE].to_vec();
+        let start = Instant::now();
+        let what = match self.compare(text, &small) {
+            Ok(_) => return format!("only with the bytes beyond: {:?}", self.compare(text, area).err()),
+            Err(_) => loop {
+                let before = small.clone();
+                for cell in judge::cells(&before) {
+                    let cell_at = cell.at..cell.at + cell.width;
+                    if area::all_zero(&small[cell_at.clone()]) || start.elapsed() > LONG_ENOUGH {
+                        continue;
+                    }
+                    let mut less = small.clone();
+                    less[cell_at].fill(0);
+                    if self.compare(text, &less).is_err() {
+                        small = less;
+                    }
+                }
+                if small == before {
+                    break self.compare(text, &small).expect_err("the emptiest area differs too");
+                }
+            },
+        };
+        let mut report = format!("the two sides differ, text of {} bytes:\n{}\n", text.len(), text.escape_ascii());
+        for cell in judge::cells(&small) {
+            let bytes = &small[cell.at..cell.at + cell.width];
+            let (part, row, name, at) = (cell.part.name, cell.row + 1, cell.name, cell.at);
+            if !area::all_zero(bytes) {
+                report += &format!("{part} row {row} {name} at {at}: {bytes:02x?}\n");
+            }
+        }
+        report + &format!("all other cells are zero\n{what}")
+    }
+}
+
+/// A written text with the nettypes and addrtypes folded as the crate's reader does it. Only for what was read: there
+/// no field of an o or c line has a space in it.
+pub fn folded(written: &[u8]) -> Vec<u8> {
+    let fold_line = |line: &[u8]| {
+        let first = match line.get(..2) {
+            Some(b"o=") => 3,
+            Some(b"c=") => 0,
+            _ => return line.to_vec(),
+        };
+        let mut words: Vec<Vec<u8>> = line[2..].split(|byte| *byte == b' ').map(<[u8]>::to_vec).collect();
+        words[first] = fold::nettype(&words[first]);
+        words[first + 1] = fold::addrtype(&words[first + 1]);
+        [&line[..2], &words.join(&b' ')].concat()
+    };
+    written.split_inclusive(|byte| *byte == b'\n').map(fold_line).collect::<Vec<_>>().concat()
+}
+
+/// How many lines of an accepted text are kept: the version line and all with a use.
+pub fn kept_lines(text: &[u8]) -> usize {
+    let mut medias = false;
+    let letters = leaf::cuts(text).into_iter().filter(|cut| cut.kind == 2).map(|cut| cut.letter as u8);
+    let kept = letters.enumerate().filter(|(at, letter)| {
+        medias |= *letter == b'm' && *at > 0;
+        let use_of: &[u8] = if medias { b"micbka" } else { b"osiuepcbtrzka" };
+        *at == 0 || use_of.contains(letter)
+    });
+    kept.count()
+}
