@@ -6,6 +6,8 @@ ghost use Rattle.sdp_bytes.specs.Number.{wholeNumber, typedTime};
 ghost use Rattle.sdp_lines.specs.Lines.{cutAt};
 ghost use Rattle.sdp_area.specs.Area.{size};
 ghost use Rattle.sdp_read.specs.Run.{readText};
+ghost use Rattle.sdp_write.specs.Write.{writeText};
+ghost use Rattle.sdp_order.specs.Order.{orderOf, verdictOf};
 ghost use Rattle.sdp.specs.Boundary.{numeralOf, cursorAt, pieceOf};
 use sdp_bytes::number::Number;
 use sdp_lines::Answer;
@@ -13,6 +15,7 @@ use sdp_lines::Cursor;
 use sdp_lines::Cut;
 use sdp_lines::LineNumber;
 use sdp_lines::Place;
+use sdp_order::Verdict;
 
 // A number that was read: refusal number 0 and the value, or 8 or 9 and 0.
 #[repr(C)]
@@ -169,6 +172,23 @@ pub extern "C" fn sdp_read(text: &[u8], area: &mut [u8]) -> Answer
     ensures { λ r. ⌜ now (area .exit) ≡ readText (now (text .entry)) (now (area .entry)) .area ⌝ }
 {
     sdp_read::read(text, area)
+}
+
+// Writes the session of a record area, whose strings stand in the text, into out. docs/FFI.md has the answers.
+#[no_mangle]
+pub extern "C" fn sdp_write(text: &[u8], area: &[u8], out: &mut [u8]) -> Answer
+    ensures { λ r. ⌜ r ≡ writeText (now (text .entry)) (now (area .entry)) (now (out .entry)) .answer ⌝ }
+    ensures { λ r. ⌜ now (out .exit) ≡ writeText (now (text .entry)) (now (area .entry)) (now (out .entry)) .out ⌝ }
+{
+    sdp_write::write(text, area, out)
+}
+
+// Whether the letters of a text's lines are in order.
+#[no_mangle]
+pub extern "C" fn sdp_letter_order(text: &[u8]) -> Verdict
+    ensures { λ r. ⌜ r ≡ verdictOf (orderOf (now (text .entry))) ⌝ }
+{
+    sdp_order::verdict_of(sdp_order::letter_order(text))
 }
 
 // The size of the record area in bytes.

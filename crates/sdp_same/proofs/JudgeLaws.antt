@@ -18,7 +18,8 @@ use Rattle.sdp_area.specs.Session.{Session}
 use Rattle.sdp_area.specs.Area as area
 use Rattle.sdp_area.specs.Area.{span, opt, originBytes, nameBytes, connectionBytes, keyBytes, attributeRow, mediaRow, encode, originAt, nameAt, descriptionAt, uriAt, connectionAt, keyAt, timesAt, repeatsAt, mediasAt}
 use Rattle.sdp_judge.specs.Judge as judge
-use Rattle.sdp_judge.specs.Judge.{everyAt, fineIf, rising, owned, rows, counts, owners, fineString, fineOrigin, fineConnection, finePair, fineAttribute, fineBandwidth, fineMediaConnection, fineMedia, fineHead, fineTables, wellFormed}
+use Rattle.sdp_judge.specs.declared.Row.the-variants.{Connection, Bandwidth, Attribute}
+use Rattle.sdp_judge.specs.Judge.{everyAt, fineIf, rising, owned, rows, smallCounts, largeCounts, owners, fineString, fineOrigin, fineConnection, finePair, fineMedia, fineRow, fineHead, fineTables, wellFormed}
 use Rattle.sdp_same.specs.Fits.{FitsSpan, IfGiven, Each, FitOrigin, FitConnection, FitKey, FitAttribute, FitMedia, Fits, nameOf}
 use Rattle.sdp_same.specs.Sound.{FineIn, Rising, Sound}
 use Rattle.sdp_same.proofs.StandsLaws.{Stands, num-back, absent-mark, present-mark, first-row, segment}
@@ -40,7 +41,7 @@ module _ (a : List ℕ) where
   -- ---- what may be absent, and rows
   module _ {X : Type 0} (P : X → Type 0) (f : X → List ℕ) (test : ℕ → Bool) (passes : Passes P f test) where
     if-passes : (k : ℕ) → Passes (IfGiven P) (opt k f) (fineIf a test)
-    unfolding judge.fineIf
+    unfolding judge.judged
     if-passes k n none h w = rw (absent-mark k f w)
     if-passes k n (some x) h w = let q = present-mark k f x w in rw (q .0) (passes (n + 2) x h (q .1))
 
@@ -105,7 +106,7 @@ module _ (a : List ℕ) where
     name-passes n none h w = string-passes n (nameOf none) (record { inside = omega arith; utf8 = refl }) w
     name-passes n (some x) h w = string-passes n x h w
 
-    attribute-passes : Passes (FitAttribute (FineIn t)) attributeRow (fineAttribute a t)
+    attribute-passes : Passes (FitAttribute (FineIn t)) attributeRow (fineRow a t Attribute)
     unfolding judge.finePair
     attribute-passes n x h w =
         let q = attribute-parts x w in
@@ -133,18 +134,21 @@ module _ (t : List ℕ) (short : length t ≤ 32768) (s : Session Span) (h : Sou
   abbrev F : Fits P s
   F = h .fits
 
-  counts-fine : counts a ≡ true
-  unfolding judge.counts
-  counts-fine =
+  small-fine : smallCounts a ≡ true
+  unfolding judge.smallCounts
+  small-fine =
       both (count-fine a (emails-here P s F x))
       (both (count-fine a (phones-here P s F x))
       (both (count-fine a (connections-here P s F x))
-      (both (count-fine a (bandwidths-here P s F x))
-      (both (count-fine a (times-here P s F x))
-      (both (count-fine a (repeats-here P s F x))
+      (both (count-fine a (bandwidths-here P s F x)) (count-fine a (times-here P s F x)))))
+
+  large-fine : largeCounts a ≡ true
+  unfolding judge.largeCounts
+  large-fine =
+      both (count-fine a (repeats-here P s F x))
       (both (count-fine a (offsets-here P s F x))
       (both (count-fine a (zones-here P s F x))
-      (both (count-fine a (attributes-here P s F x)) (count-fine a (medias-here P s F x))))))))))
+      (both (count-fine a (attributes-here P s F x)) (count-fine a (medias-here P s F x)))))
 
   owners-fine : owners a ≡ true
   unfolding judge.owners
@@ -170,10 +174,10 @@ module _ (t : List ℕ) (short : length t ≤ 32768) (s : Session Span) (h : Sou
   tables-fine =
       both (table-passes a (emails-here P s F x) (fineString a t) (string-passes a t short))
       (both (table-passes a (phones-here P s F x) (fineString a t) (string-passes a t short))
-      (both (table-passes a (connections-here P s F x) (fineMediaConnection a t) (λ n c f w. connection-passes a t short (n + 2) (c .connection) (f .connection) (media-connection-parts c w .1)))
-      (both (table-passes a (bandwidths-here P s F x) (fineBandwidth a t) (λ n b f w. string-passes a t short (n + 2) (b .bwtype) (f .bwtype) (bandwidth-parts b w .1)))
-      (both (table-passes a (attributes-here P s F x) (fineAttribute a t) (attribute-passes a t short)) (table-passes a (medias-here P s F x) (fineMedia a t) (media-passes a t short))))))
+      (both (table-passes a (connections-here P s F x) (fineRow a t Connection) (λ n c f w. connection-passes a t short (n + 2) (c .connection) (f .connection) (media-connection-parts c w .1)))
+      (both (table-passes a (bandwidths-here P s F x) (fineRow a t Bandwidth) (λ n b f w. string-passes a t short (n + 2) (b .bwtype) (f .bwtype) (bandwidth-parts b w .1)))
+      (both (table-passes a (attributes-here P s F x) (fineRow a t Attribute) (attribute-passes a t short)) (table-passes a (medias-here P s F x) (fineMedia a t) (media-passes a t short))))))
 
   pub well-formed : wellFormed (encode s ++ x) t ≡ true
   unfolding judge.wellFormed
-  well-formed = both counts-fine (both owners-fine (both head-fine tables-fine))
+  well-formed = both small-fine (both large-fine (both owners-fine (both head-fine tables-fine)))
