@@ -19,8 +19,8 @@ use Rattle.sdp_step.specs.Step.{Reading, Stepped, goes, stops, fresh}
 use Rattle.sdp_step.specs.declared.Role.{Role}
 use Rattle.sdp_read.specs.Run
 use Rattle.sdp_read.specs.Run.{Verdict, accepted, refused, after, stepForm, run, isZero, beginForm, begin, lines}
-use Rattle.sdp_write.specs.Written
-use Rattle.sdp_write.specs.Written.{written}
+use Rattle.sdp_row.specs.Written
+use Rattle.sdp_row.specs.Written.{written}
 use Rattle.sdp_bound.specs.Kept.{roleOf, uses, opens, usedFrom, fromVersion, keptLines, kept, bytesAt, id}
 use Rattle.sdp_bound.proofs.RowLaws.{sum}
 use Rattle.sdp_bound.proofs.CostLaws.{cost, timesCost, written-cost}

@@ -9,8 +9,8 @@ use Rattle.sdp_area.specs.Session.{empty}
 use Rattle.sdp_step.specs.Roles
 use Rattle.sdp_read.specs.Run
 use Rattle.sdp_read.specs.Run.{accepted, lines}
-use Rattle.sdp_write.specs.Written
-use Rattle.sdp_write.specs.Written.{written}
+use Rattle.sdp_row.specs.Written
+use Rattle.sdp_row.specs.Written.{written}
 use Rattle.sdp_bound.specs.Kept.{usedFrom, keptLines, kept, bytesAt, id}
 
 -- v=0

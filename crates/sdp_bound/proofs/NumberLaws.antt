@@ -20,7 +20,7 @@ use Rattle.sdp_fields.specs.Records.{negated, signedOf, offsetOf}
 use Rattle.sdp_fields.specs.Read.{got, refused}
 use Rattle.sdp_put.specs.Digits.{digits, timeText}
 use Rattle.sdp_put.proofs.DigitLaws.{digits-one, digits-more, time-zero, time-day, time-hour, time-minute, time-plain, offset-minus, offset-plain}
-use Rattle.sdp_write.specs.Written.{signedText}
+use Rattle.sdp_row.specs.Written.{signedText}
 
 -- ---- digits
 -- the digits of a number of two or more

@@ -35,8 +35,8 @@ use Rattle.sdp_fields.proofs.ReadLaws.{Every, every-got, never}
 use Rattle.sdp_step.specs.Step.{maybeIn, originIn, connectionIn, bandwidthIn, mediaIn, timeIn, zoneIn}
 use Rattle.sdp_put.specs.Digits.{digits, timeText}
 use Rattle.sdp_put.specs.Strings.{clean}
-use Rattle.sdp_write.specs.Written
-use Rattle.sdp_write.specs.Written.{line, each, optional, stringLine, usernameText, originLine, connectionLine, bandwidthLine, pairLine, mediaLine, timeValue, signedText, zoneText, zonesLine}
+use Rattle.sdp_row.specs.Written
+use Rattle.sdp_row.specs.Written.{line, each, optional, stringLine, usernameText, originLine, connectionLine, bandwidthLine, pairLine, mediaLine, timeValue, signedText, zoneText, zonesLine}
 use Rattle.sdp_bound.specs.Kept.{id}
 use Rattle.sdp_bound.proofs.NumberLaws.{number-short, time-short, offset-short}
 use Rattle.sdp_bound.proofs.RowLaws.{sum}

@@ -7,8 +7,8 @@ use native.Mathlib.Omega.{arith}
 use lib.ListN.{length, length-append}
 use lib.Dec.{leb, eqb}
 use borrow.Author.Tests.{eqb-true, eqb-false, leb-true, leb-false, le-leb, lt-leb}
-use Rattle.sdp_write.specs.Written
-use Rattle.sdp_write.specs.Written.{each, mine}
+use Rattle.sdp_row.specs.Written
+use Rattle.sdp_row.specs.Written.{each, mine}
 use Rattle.sdp_area.specs.With
 use Rattle.sdp_area.specs.With.{setLast}
 

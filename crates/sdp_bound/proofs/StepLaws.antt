@@ -18,8 +18,8 @@ use Rattle.sdp_step.specs.Step.{Reading, Stepped, goes, stops, once, row, bandw
 use Rattle.sdp_step.specs.declared.Role.{Role}
 use Rattle.sdp_step.specs.declared.Role.the-variants as role
 use Rattle.sdp_step.proofs.OnceLaws.{length-last}
-use Rattle.sdp_write.specs.Written
-use Rattle.sdp_write.specs.Written.{stringLine, keyLine, mediaLine}
+use Rattle.sdp_row.specs.Written
+use Rattle.sdp_row.specs.Written.{stringLine, keyLine, mediaLine}
 use Rattle.sdp_bound.specs.Kept.{id, uses, opens}
 use Rattle.sdp_bound.proofs.RowLaws.{sum, sum-append, sum-more, sum-map, sum-last}
 use Rattle.sdp_bound.proofs.RecordLaws.{whole-short, connection-short, origin-short, times-short, bandwidth-short, pair-short, media-short, offsetsSize, repeatSize, repeat-short, zones-short}

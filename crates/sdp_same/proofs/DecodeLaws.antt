@@ -12,10 +12,10 @@ use Rattle.sdp_area.specs.Tables.{flat}
 use Rattle.sdp_area.specs.Session.{Session}
 use Rattle.sdp_area.specs.Area as area
 use Rattle.sdp_area.specs.Area.{span, opt, originBytes, nameBytes, connectionBytes, keyBytes, mediaConnectionRow, bandwidthRow, timeRow, repeatRow, offsetRow, zoneRow, attributeRow, mediaRow, encode, originAt, nameAt, descriptionAt, uriAt, connectionAt, keyAt}
-use Rattle.sdp_cells.specs.Rows as cells
-use Rattle.sdp_cells.specs.Rows.{rowsAt, table, marked}
-use Rattle.sdp_cells.specs.Decode as decoded
-use Rattle.sdp_cells.specs.Decode.{num2, spanOf, originOf, connectionOf, keyOf, mediaConnectionOf, bandwidthOf, timeOf, repeatOf, offsetOf, zoneOf, attributeOf, mediaOf, decode}
+use Rattle.sdp_decode.specs.Rows as cells
+use Rattle.sdp_decode.specs.Rows.{rowsAt, table, marked}
+use Rattle.sdp_decode.specs.Decode as decoded
+use Rattle.sdp_decode.specs.Decode.{num2, spanOf, originOf, connectionOf, keyOf, mediaConnectionOf, bandwidthOf, timeOf, repeatOf, offsetOf, zoneOf, attributeOf, mediaOf, decode}
 use Rattle.sdp_same.specs.Fits.{FitsSpan, IfGiven, Each, FitOrigin, FitConnection, FitKey, FitMediaConnection, FitBandwidth, FitTime, FitRepeat, FitOffset, FitZone, FitAttribute, FitMedia, Fits, nameOf, named}
 use Rattle.sdp_same.proofs.StandsLaws.{Stands, num-back, absent-mark, present-mark, first-row, segment}
 use Rattle.sdp_same.proofs.TableLaws.{Table, count, rows-here, emails-here, phones-here, connections-here, bandwidths-here, times-here, repeats-here, offsets-here, zones-here, attributes-here, medias-here}

@@ -17,9 +17,9 @@ use Rattle.sdp_area.specs.Tables.{flat}
 use Rattle.sdp_area.specs.Session.{Session}
 use Rattle.sdp_area.specs.Area as area
 use Rattle.sdp_area.specs.Area.{span, opt, originBytes, nameBytes, connectionBytes, keyBytes, attributeRow, mediaRow, encode, originAt, nameAt, descriptionAt, uriAt, connectionAt, keyAt, timesAt, repeatsAt, mediasAt}
-use Rattle.sdp_judge.specs.Judge as judge
-use Rattle.sdp_judge.specs.declared.Row.the-variants.{Connection, Bandwidth, Attribute}
-use Rattle.sdp_judge.specs.Judge.{everyAt, fineIf, rising, owned, rows, smallCounts, largeCounts, owners, fineString, fineOrigin, fineConnection, finePair, fineMedia, fineRow, fineHead, fineTables, wellFormed}
+use Rattle.sdp_valid.specs.Judge as judge
+use Rattle.sdp_valid.specs.declared.Row.the-variants.{Connection, Bandwidth, Attribute}
+use Rattle.sdp_valid.specs.Judge.{everyAt, fineIf, rising, owned, rows, smallCounts, largeCounts, owners, fineString, fineOrigin, fineConnection, finePair, fineMedia, fineRow, fineHead, fineTables, wellFormed}
 use Rattle.sdp_same.specs.Fits.{FitsSpan, IfGiven, Each, FitOrigin, FitConnection, FitKey, FitAttribute, FitMedia, Fits, nameOf}
 use Rattle.sdp_same.specs.Sound.{FineIn, Rising, Sound}
 use Rattle.sdp_same.proofs.StandsLaws.{Stands, num-back, absent-mark, present-mark, first-row, segment}

@@ -18,8 +18,8 @@ use Rattle.sdp_area.proofs.WidthLaws.{length-encode}
 use Rattle.sdp_step.specs.Strings.{spanAt}
 use Rattle.sdp_read.specs.Run as reader
 use Rattle.sdp_read.specs.Run.{Verdict, accepted, refused, answer, outcomeOf, lines, readText}
-use Rattle.sdp_write.specs.Written as form
-use Rattle.sdp_write.specs.Written.{line, originLine, nameLine, stringLine, optional, headLines, contactLines, closingLines, mediaLines, each, written}
+use Rattle.sdp_row.specs.Written as form
+use Rattle.sdp_row.specs.Written.{line, originLine, nameLine, stringLine, optional, headLines, contactLines, closingLines, mediaLines, each, written}
 use Rattle.sdp_write.specs.Write as writer
 use Rattle.sdp_write.specs.Write.{Outcome, textOf, fill, writeText}
 use Rattle.sdp_same.specs.Fits.{nameOf, named}

@@ -4,8 +4,8 @@ use mathlib.Core.Path.{_≡_, refl, ap}
 use mathlib.Core.List.{List, [], _∷_, _++_, map}
 use mathlib.Core.Option.{Option, none, some, Option·map}
 use Rattle.sdp_area.specs.Session.{Origin, Bandwidth, Key, MediaConnection, Attribute, Media, Head, Tables, Session}
-use Rattle.sdp_write.specs.Written as form
-use Rattle.sdp_write.specs.Written.{line, text, zonesLine, each, mine, optional, usernameText, originLine, nameLine, pairLine, stringLine, keyLine, bandwidthsOf, attributesOf, connectionsOf, mediaLine, mediaLines, headLines, contactLines, closingLines, written}
+use Rattle.sdp_row.specs.Written as form
+use Rattle.sdp_row.specs.Written.{line, text, zonesLine, each, mine, optional, usernameText, originLine, nameLine, pairLine, stringLine, keyLine, bandwidthsOf, attributesOf, connectionsOf, mediaLine, mediaLines, headLines, contactLines, closingLines, written}
 use Rattle.sdp_same.specs.Said.{saidOrigin, saidConnection, saidKey, saidMediaConnection, saidBandwidth, saidAttribute, saidMedia, saidHead, saidTables, said}
 
 behind : (a : List ℕ) {b b′ : List ℕ} → b ≡ b′ → a ++ b ≡ a ++ b′

@@ -8,7 +8,7 @@ use Rattle.sdp_lines.specs.declared.Span.{Span}
 use Rattle.sdp_area.specs.Session.{Session}
 use Rattle.sdp_step.specs.Strings.{spanAt}
 use Rattle.sdp_read.specs.Run.{accepted, lines, readText}
-use Rattle.sdp_write.specs.Written.{written}
+use Rattle.sdp_row.specs.Written.{written}
 use Rattle.sdp_write.specs.Write.{textOf, fill, writeText}
 
 -- the text t is read into the area a, and the area is written to the output o: the session that the text says is written, and the writer

@@ -1,4 +1,3 @@
-pub mod LineLaws
 pub mod RowLaws
 pub mod ShortLaws
 pub mod WriteLaws

@@ -20,12 +20,12 @@ use Rattle.sdp_area.specs.Bytes as bytes
 use Rattle.sdp_area.specs.Bytes.{num}
 use Rattle.sdp_area.specs.Session.{Key}
 use Rattle.sdp_area.specs.Area.{originAt, nameAt, descriptionAt, uriAt, connectionAt, keyAt, emailsAt, phonesAt, connectionsAt, bandwidthsAt, timesAt, repeatsAt, offsetsAt, zonesAt, attributesAt, mediasAt}
-use Rattle.sdp_cells.specs.Rows as rows
-use Rattle.sdp_cells.specs.Rows.{rowsAt, table, marked}
-use Rattle.sdp_cells.specs.Decode.{num2, spanOf, originOf, connectionOf, mediaConnectionOf, keyOf, bandwidthOf, timeOf, repeatOf, offsetOf, zoneOf, attributeOf, mediaOf, decode}
-use Rattle.sdp_write.specs.Rows.{offsetsIn}
+use Rattle.sdp_decode.specs.Rows as rows
+use Rattle.sdp_decode.specs.Rows.{rowsAt, table, marked}
+use Rattle.sdp_decode.specs.Decode.{num2, spanOf, originOf, connectionOf, mediaConnectionOf, keyOf, bandwidthOf, timeOf, repeatOf, offsetOf, zoneOf, attributeOf, mediaOf, decode}
+use Rattle.sdp_write.specs.Tables.{offsetsIn}
 use Rattle.sdp_write.proofs.RowLaws.{times-none, times-some, zones-none, zones-some}
-use Rattle.sdp_write.specs.Written.{line, spaced, each, mine, optional, offsetsOf, repeatLine, timeLines, timesLines, signedText, zoneText, zonesLine, orDash, usernameText, originValue, originLine, connectionLine, bandwidthLine, pairLine, keyLine, stringLine, nameLine, bandwidthsOf, attributesOf, connectionsOf, mediaLine, mediaLines, headLines, contactLines, closingLines, written}
+use Rattle.sdp_row.specs.Written.{line, spaced, each, mine, optional, offsetsOf, repeatLine, timeLines, timesLines, signedText, zoneText, zonesLine, orDash, usernameText, originValue, originLine, connectionLine, bandwidthLine, pairLine, keyLine, stringLine, nameLine, bandwidthsOf, attributesOf, connectionsOf, mediaLine, mediaLines, headLines, contactLines, closingLines, written}
 
 -- ---- bytes that are kept
 length-kept : (b : ℕ) → length (kept b) ≤ 1

@@ -10,7 +10,7 @@ use Rattle.sdp_lines.specs.declared.Answer.{Answer}
 use Rattle.sdp_area.specs.Area.{size}
 use Rattle.sdp_put.specs.Out.{put, Put}
 use Rattle.sdp_put.proofs.OutLaws.{put-out, put-room}
-use Rattle.sdp_judge.specs.Judge.{wellFormed}
+use Rattle.sdp_valid.specs.Judge.{wellFormed}
 use Rattle.sdp_write.specs.Write.{Outcome, answer, textOf, writeText}
 
 -- what an answer and an output must be, by a case of the outcome

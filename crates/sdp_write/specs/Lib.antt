@@ -1,3 +1,2 @@
-pub mod Written
-pub mod Rows
+pub mod Tables
 pub mod Write

@@ -7,9 +7,9 @@ use lib.Dec.{ltb}
 use Rattle.sdp_lines.specs.Strings.{bytesOf}
 use Rattle.sdp_lines.specs.declared.Answer.{Answer}
 use Rattle.sdp_area.specs.Area.{size}
-use Rattle.sdp_cells.specs.Decode.{decode}
-use Rattle.sdp_judge.specs.Judge.{wellFormed}
-use Rattle.sdp_write.specs.Written.{written}
+use Rattle.sdp_decode.specs.Decode.{decode}
+use Rattle.sdp_valid.specs.Judge.{wellFormed}
+use Rattle.sdp_row.specs.Written.{written}
 
 -- "Acceptance is 0, for writing with the length"; "22 output too short: length needed"
 abbrev pub answer : ℕ → ℕ → Answer

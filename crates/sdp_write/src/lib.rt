@@ -1,21 +1,19 @@
-// Document 01, module 5: writing, after writer.rs. Each function puts one thing into out from at on; what finds no room is only counted.
+// Document 01, module 5: writing a whole session, after writer.rs. Each put function puts its bytes into out from at on; what finds no
+// room is only counted.
 ghost use mathlib.Core.Path.{_≡_};
-ghost use mathlib.Core.List.{List, [], _∷_, _++_};
 ghost use Prim.Native.Nat.{_+_, _<_};
 ghost use Rattle.sdp_lines.specs.Strings.{bytesOf};
 ghost use Rattle.sdp_area.specs.Bytes.{num};
-ghost use Rattle.sdp_area.specs.Area.{originAt, nameAt, descriptionAt, uriAt, connectionAt, keyAt, bandwidthsAt, timesAt, repeatsAt, zonesAt, attributesAt, mediasAt};
+ghost use Rattle.sdp_area.specs.Area.{timesAt, repeatsAt, zonesAt, mediasAt};
 ghost use Rattle.sdp_put.specs.Out.{Put};
-ghost use Rattle.sdp_put.specs.Digits.{digits, timeText};
-ghost use Rattle.sdp_put.specs.Strings.{clean};
-ghost use Rattle.sdp_cells.specs.Rows.{table, marked};
-ghost use Rattle.sdp_cells.specs.Decode.{num2, spanOf, originOf, connectionOf, keyOf, bandwidthOf, timeOf, repeatOf, zoneOf, mediaOf, decode};
-ghost use Rattle.sdp_write.specs.Written.{line, spaced, each, mine, optional, timeValue, repeatLine, timeLines, timesLines, signedText, between, zoneText, zonesLine, stringLine, orDash, usernameText, originValue, originLine, connectionLine, bandwidthLine, pairLine, keyLine, mediaLine, mediaLines, headLines, contactLines, closingLines, written};
-ghost use Rattle.sdp_write.specs.Rows.{eachAt, ownedLine, rowText, offsetsIn};
+ghost use Rattle.sdp_decode.specs.Rows.{table};
+ghost use Rattle.sdp_decode.specs.Decode.{timeOf, repeatOf, zoneOf, mediaOf, decode};
+ghost use Rattle.sdp_row.specs.Written.{mine, repeatLine, timeLines, timesLines, zonesLine, mediaLines, headLines, contactLines, closingLines, written};
+ghost use Rattle.sdp_row.specs.Rows.{rowText};
+ghost use Rattle.sdp_write.specs.Tables.{eachAt, offsetsIn};
 ghost use Rattle.sdp_write.specs.Write.{answer, writeText};
 use sdp_area::ATTRIBUTES;
 use sdp_area::BANDWIDTHS;
-use sdp_area::CONNECTION;
 use sdp_area::CONNECTIONS;
 use sdp_area::DESCRIPTION;
 use sdp_area::EMAILS;
@@ -23,312 +21,30 @@ use sdp_area::KEY;
 use sdp_area::MEDIAS;
 use sdp_area::NAME;
 use sdp_area::OFFSETS;
-use sdp_area::ORIGIN;
 use sdp_area::PHONES;
 use sdp_area::REPEATS;
 use sdp_area::SIZE;
 use sdp_area::TIMES;
 use sdp_area::URI;
 use sdp_area::ZONES;
-use sdp_cells::num2;
-use sdp_cells::num8;
-use sdp_judge::judge;
+use sdp_decode::num2;
+use sdp_decode::num8;
 use sdp_lines::Answer;
 use sdp_put::put_all;
-use sdp_put::put_byte;
-use sdp_put::put_number;
-use sdp_put::put_offset;
-use sdp_put::put_text;
 use sdp_put::put_time;
 use sdp_put::put_two;
-
-// The tables whose rows have an owner and nothing below them.
-pub enum Owned {
-    Connections,
-    Bandwidths,
-    Offsets,
-    Attributes,
-}
-
-// The tables whose rows have nothing below them.
-pub enum Table {
-    Emails,
-    Phones,
-    Zones,
-    Of(Owned),
-}
-
-// The string whose place and length stand at p.
-fn put_string(out: &mut [u8], at: usize, text: &[u8], area: &[u8], p: usize) -> usize
-    requires { ⌜ p < 4000000 ⌝ }
-    ensures { λ r. ⌜ Put (now (out .entry)) at (clean (bytesOf (now (text .entry)) (spanOf (now (area .entry)) p))) (now (out .exit)) r ⌝ }
-{
-    let place = num2(area, p);
-    let len = num2(area, p + 2);
-    put_text(out, at, text, place, len)
-}
-
-// A line of one string.
-fn put_string_line(
-    out: &mut [u8],
-    at: usize,
-    letter: u8,
-    text: &[u8],
-    area: &[u8],
-    p: usize,
-) -> usize
-    requires { ⌜ p < 4000000 ⌝ }
-    ensures { λ r. ⌜ Put (now (out .entry)) at (stringLine (bytesOf (now (text .entry))) letter (spanOf (now (area .entry)) p)) (now (out .exit)) r ⌝ }
-{
-    let b = put_two(out, at, letter, b'=');
-    let c = put_string(out, b, text, area, p);
-    put_two(out, c, 13, 10)
-}
-
-// A line of one string, where it is present.
-fn put_maybe_line(
-    out: &mut [u8],
-    at: usize,
-    letter: u8,
-    text: &[u8],
-    area: &[u8],
-    p: usize,
-) -> usize
-    requires { ⌜ p < 3900000 ⌝ }
-    ensures { λ r. ⌜ Put (now (out .entry)) at (optional (stringLine (bytesOf (now (text .entry))) letter) (marked spanOf (now (area .entry)) p)) (now (out .exit)) r ⌝ }
-{
-    if num2(area, p) == 0 {
-        return at;
-    }
-    put_string_line(out, at, letter, text, area, p + 2)
-}
-
-fn put_spaced(out: &mut [u8], at: usize, text: &[u8], area: &[u8], p: usize) -> usize
-    requires { ⌜ p < 4000000 ⌝ }
-    ensures { λ r. ⌜ Put (now (out .entry)) at (spaced (clean (bytesOf (now (text .entry)) (spanOf (now (area .entry)) p)))) (now (out .exit)) r ⌝ }
-{
-    let b = put_byte(out, at, b' ');
-    put_string(out, b, text, area, p)
-}
-
-fn put_spaced_number(out: &mut [u8], at: usize, v: u64) -> usize
-    ensures { λ r. ⌜ Put (now (out .entry)) at (spaced (digits v)) (now (out .exit)) r ⌝ }
-{
-    let b = put_byte(out, at, b' ');
-    put_number(out, b, v)
-}
-
-fn put_spaced_time(out: &mut [u8], at: usize, v: u64) -> usize
-    ensures { λ r. ⌜ Put (now (out .entry)) at (spaced (timeText v)) (now (out .exit)) r ⌝ }
-{
-    let b = put_byte(out, at, b' ');
-    put_time(out, b, v)
-}
-
-// A username, or - where it has no bytes: judged before anything is dropped from it.
-fn put_name(out: &mut [u8], at: usize, text: &[u8], area: &[u8], p: usize) -> usize
-    requires { ⌜ p < 4000000 ⌝ }
-    ensures { λ r. ⌜ Put (now (out .entry)) at (orDash (bytesOf (now (text .entry)) (spanOf (now (area .entry)) p))) (now (out .exit)) r ⌝ }
-{
-    if num2(area, p + 2) == 0 {
-        return put_byte(out, at, b'-');
-    }
-    if text.len() <= num2(area, p) {
-        return put_byte(out, at, b'-');
-    }
-    put_string(out, at, text, area, p)
-}
-
-// A username that is absent is - too.
-fn put_username(out: &mut [u8], at: usize, text: &[u8], area: &[u8], p: usize) -> usize
-    requires { ⌜ p < 3900000 ⌝ }
-    ensures { λ r. ⌜ Put (now (out .entry)) at (usernameText (bytesOf (now (text .entry))) (marked spanOf (now (area .entry)) p)) (now (out .exit)) r ⌝ }
-{
-    if num2(area, p) == 0 {
-        return put_byte(out, at, b'-');
-    }
-    put_name(out, at, text, area, p + 2)
-}
-
-fn put_origin_value(out: &mut [u8], at: usize, text: &[u8], area: &[u8], p: usize) -> usize
-    requires { ⌜ p < 3800000 ⌝ }
-    ensures { λ r. ⌜ Put (now (out .entry)) at (originValue (bytesOf (now (text .entry))) (originOf (now (area .entry)) p)) (now (out .exit)) r ⌝ }
-{
-    let b = put_username(out, at, text, area, p);
-    let c = put_spaced(out, b, text, area, p + 6);
-    let d = put_spaced_number(out, c, num8(area, p + 10));
-    let e = put_spaced(out, d, text, area, p + 18);
-    let f = put_spaced(out, e, text, area, p + 22);
-    put_spaced(out, f, text, area, p + 26)
-}
-
-fn put_origin(out: &mut [u8], at: usize, text: &[u8], area: &[u8]) -> usize
-    ensures { λ r. ⌜ Put (now (out .entry)) at (originLine (bytesOf (now (text .entry))) (marked originOf (now (area .entry)) originAt)) (now (out .exit)) r ⌝ }
-{
-    if num2(area, ORIGIN) == 0 {
-        return put_all(out, at, b"o=- 0 0 IN IP4 0.0.0.0\r\n");
-    }
-    let b = put_two(out, at, b'o', b'=');
-    let c = put_origin_value(out, b, text, area, ORIGIN + 2);
-    put_two(out, c, 13, 10)
-}
-
-fn put_connection(out: &mut [u8], at: usize, text: &[u8], area: &[u8], p: usize) -> usize
-    requires { ⌜ p < 3800000 ⌝ }
-    ensures { λ r. ⌜ Put (now (out .entry)) at (connectionLine (bytesOf (now (text .entry))) (connectionOf (now (area .entry)) p)) (now (out .exit)) r ⌝ }
-{
-    let b = put_two(out, at, b'c', b'=');
-    let c = put_string(out, b, text, area, p);
-    let d = put_spaced(out, c, text, area, p + 4);
-    let e = put_spaced(out, d, text, area, p + 8);
-    put_two(out, e, 13, 10)
-}
-
-fn put_session_connection(out: &mut [u8], at: usize, text: &[u8], area: &[u8]) -> usize
-    ensures { λ r. ⌜ Put (now (out .entry)) at (optional (connectionLine (bytesOf (now (text .entry)))) (marked connectionOf (now (area .entry)) connectionAt)) (now (out .exit)) r ⌝ }
-{
-    if num2(area, CONNECTION) == 0 {
-        return at;
-    }
-    put_connection(out, at, text, area, CONNECTION + 2)
-}
-
-fn put_bandwidth(out: &mut [u8], at: usize, text: &[u8], area: &[u8], p: usize) -> usize
-    requires { ⌜ p < 3800000 ⌝ }
-    ensures { λ r. ⌜ Put (now (out .entry)) at (bandwidthLine (bytesOf (now (text .entry))) (bandwidthOf (now (area .entry)) p)) (now (out .exit)) r ⌝ }
-{
-    let b = put_two(out, at, b'b', b'=');
-    let c = put_string(out, b, text, area, p + 2);
-    let d = put_byte(out, c, b':');
-    let e = put_number(out, d, num8(area, p + 6));
-    put_two(out, e, 13, 10)
-}
-
-// A colon and a value, where it is present.
-fn put_value(out: &mut [u8], at: usize, text: &[u8], area: &[u8], p: usize) -> usize
-    requires { ⌜ p < 3900000 ⌝ }
-    ensures { λ r. ⌜ Put (now (out .entry)) at (optional (λ x. (0x3a ∷ []) ++ clean (bytesOf (now (text .entry)) x)) (marked spanOf (now (area .entry)) p)) (now (out .exit)) r ⌝ }
-{
-    if num2(area, p) == 0 {
-        return at;
-    }
-    let b = put_byte(out, at, b':');
-    put_string(out, b, text, area, p + 2)
-}
-
-// A k or an a line: a name, and perhaps a value.
-fn put_pair(
-    out: &mut [u8],
-    at: usize,
-    letter: u8,
-    text: &[u8],
-    area: &[u8],
-    p: usize,
-    v: usize,
-) -> usize
-    requires { ⌜ (p < 3900000) × (v < 3900000) ⌝ }
-    ensures { λ r. ⌜ Put (now (out .entry)) at (pairLine (bytesOf (now (text .entry))) letter (spanOf (now (area .entry)) p) (marked spanOf (now (area .entry)) v)) (now (out .exit)) r ⌝ }
-{
-    let b = put_two(out, at, letter, b'=');
-    let c = put_string(out, b, text, area, p);
-    let d = put_value(out, c, text, area, v);
-    put_two(out, d, 13, 10)
-}
-
-fn put_key(out: &mut [u8], at: usize, text: &[u8], area: &[u8], p: usize) -> usize
-    requires { ⌜ p < 3700000 ⌝ }
-    ensures { λ r. ⌜ Put (now (out .entry)) at (optional (keyLine (bytesOf (now (text .entry)))) (marked keyOf (now (area .entry)) p)) (now (out .exit)) r ⌝ }
-{
-    if num2(area, p) == 0 {
-        return at;
-    }
-    put_pair(out, at, b'k', text, area, p + 2, p + 2 + 4)
-}
-
-// The 64 bits of a signed number: the magnitude of -2^63 has no signed number of its own.
-fn put_signed(out: &mut [u8], at: usize, v: u64) -> usize
-    ensures { λ r. ⌜ Put (now (out .entry)) at (signedText v) (now (out .exit)) r ⌝ }
-{
-    if 0x8000_0000_0000_0000 <= v {
-        return put_offset(out, at, true, 0xffff_ffff_ffff_ffff - v + 1);
-    }
-    put_offset(out, at, false, v)
-}
-
-// A space between the pairs.
-fn put_between(out: &mut [u8], at: usize, k: usize) -> usize
-    ensures { λ r. ⌜ Put (now (out .entry)) at (between k) (now (out .exit)) r ⌝ }
-{
-    if k == 1 {
-        return at;
-    }
-    put_byte(out, at, b' ')
-}
-
-// One pair of the z line.
-fn put_zone(out: &mut [u8], at: usize, area: &[u8], k: usize, p: usize) -> usize
-    requires { ⌜ p < 3800000 ⌝ }
-    ensures { λ r. ⌜ Put (now (out .entry)) at (zoneText k (zoneOf (now (area .entry)) p)) (now (out .exit)) r ⌝ }
-{
-    let b = put_between(out, at, k);
-    let c = put_number(out, b, num8(area, p));
-    let d = put_byte(out, c, b' ');
-    put_signed(out, d, num8(area, p + 8))
-}
-
-// A row that has an owner.
-fn put_owned(out: &mut [u8], at: usize, text: &[u8], area: &[u8], table: Owned, p: usize) -> usize
-    requires { ⌜ p < 3700000 ⌝ }
-    ensures { λ r. ⌜ Put (now (out .entry)) at (ownedLine (now (text .entry)) (now (area .entry)) table p) (now (out .exit)) r ⌝ }
-{
-    match table {
-        Owned::Connections => put_connection(out, at, text, area, p + 2),
-        Owned::Bandwidths => put_bandwidth(out, at, text, area, p),
-        Owned::Offsets => put_spaced_time(out, at, num8(area, p + 2)),
-        Owned::Attributes => put_pair(out, at, b'a', text, area, p + 2, p + 6),
-    }
-}
-
-// The row, where its owner is n.
-fn put_mine(
-    out: &mut [u8],
-    at: usize,
-    text: &[u8],
-    area: &[u8],
-    table: Owned,
-    n: usize,
-    p: usize,
-) -> usize
-    requires { ⌜ p < 3700000 ⌝ }
-    ensures { λ r. ⌜ Put (now (out .entry)) at (mine n (num 2 (now (area .entry)) p) (ownedLine (now (text .entry)) (now (area .entry)) table p)) (now (out .exit)) r ⌝ }
-{
-    if num2(area, p) == n {
-        return put_owned(out, at, text, area, table, p);
-    }
-    at
-}
-
-// Row k of a table.
-fn put_row(
-    out: &mut [u8],
-    at: usize,
-    text: &[u8],
-    area: &[u8],
-    table: Table,
-    n: usize,
-    k: usize,
-    p: usize,
-) -> usize
-    requires { ⌜ p < 3700000 ⌝ }
-    ensures { λ r. ⌜ Put (now (out .entry)) at (rowText (now (text .entry)) (now (area .entry)) n table k p) (now (out .exit)) r ⌝ }
-{
-    match table {
-        Table::Emails => put_string_line(out, at, b'e', text, area, p),
-        Table::Phones => put_string_line(out, at, b'p', text, area, p),
-        Table::Zones => put_zone(out, at, area, k, p),
-        Table::Of(x) => put_mine(out, at, text, area, x, n, p),
-    }
-}
+use sdp_row::Owned;
+use sdp_row::Table;
+use sdp_row::put_key;
+use sdp_row::put_maybe_line;
+use sdp_row::put_media_line;
+use sdp_row::put_origin;
+use sdp_row::put_row;
+use sdp_row::put_session_connection;
+use sdp_row::put_spaced_time;
+use sdp_row::put_string_line;
+use sdp_row::put_time_line;
+use sdp_valid::judge;
 
 // The rows of the table at base, of w bytes each: those of the owner n where rows have owners.
 fn put_rows(
@@ -354,16 +70,6 @@ fn put_rows(
         i += 1;
     }
     q
-}
-
-fn put_time_line(out: &mut [u8], at: usize, area: &[u8], p: usize) -> usize
-    requires { ⌜ p < 3800000 ⌝ }
-    ensures { λ r. ⌜ Put (now (out .entry)) at (line 0x74 (timeValue (timeOf (now (area .entry)) p))) (now (out .exit)) r ⌝ }
-{
-    let b = put_two(out, at, b't', b'=');
-    let c = put_number(out, b, num8(area, p));
-    let d = put_spaced_number(out, c, num8(area, p + 8));
-    put_two(out, d, 13, 10)
 }
 
 // The r line with number k and its offsets.
@@ -464,31 +170,6 @@ fn put_zone_line(out: &mut [u8], at: usize, text: &[u8], area: &[u8]) -> usize
     let b = put_two(out, at, b'z', b'=');
     let c = put_rows(out, b, text, area, Table::Zones, ZONES, 16, 0);
     put_two(out, c, 13, 10)
-}
-
-// A slash and the number of ports, where it is present.
-fn put_ports(out: &mut [u8], at: usize, area: &[u8], p: usize) -> usize
-    requires { ⌜ p < 3800000 ⌝ }
-    ensures { λ r. ⌜ Put (now (out .entry)) at (optional (λ n. (0x2f ∷ []) ++ digits n) (marked num2 (now (area .entry)) p)) (now (out .exit)) r ⌝ }
-{
-    if num2(area, p) == 0 {
-        return at;
-    }
-    let b = put_byte(out, at, b'/');
-    put_number(out, b, num2(area, p + 2) as u64)
-}
-
-fn put_media_line(out: &mut [u8], at: usize, text: &[u8], area: &[u8], p: usize) -> usize
-    requires { ⌜ p < 3700000 ⌝ }
-    ensures { λ r. ⌜ Put (now (out .entry)) at (mediaLine (bytesOf (now (text .entry))) (mediaOf (now (area .entry)) p)) (now (out .exit)) r ⌝ }
-{
-    let b = put_two(out, at, b'm', b'=');
-    let c = put_string(out, b, text, area, p);
-    let d = put_spaced_number(out, c, num2(area, p + 4) as u64);
-    let e = put_ports(out, d, area, p + 6);
-    let f = put_spaced(out, e, text, area, p + 10);
-    let g = put_spaced(out, f, text, area, p + 14);
-    put_two(out, g, 13, 10)
 }
 
 // The m line with number k, and i, c, b, k and a of this media.

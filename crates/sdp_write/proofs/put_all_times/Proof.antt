@@ -1,9 +1,9 @@
 -- `sdp_write::put_all_times` meets its contract. Assumes nothing.
 use Rattle.sdp_write.proofs.RowLaws.{Left, left-begin, left-turn, left-finish}
-use Rattle.sdp_write.specs.Written.{timeLines}
-use Rattle.sdp_write.specs.Rows.{offsetsIn}
-use Rattle.sdp_cells.specs.Rows.{table}
-use Rattle.sdp_cells.specs.Decode.{num2, timeOf, repeatOf}
+use Rattle.sdp_row.specs.Written.{timeLines}
+use Rattle.sdp_write.specs.Tables.{offsetsIn}
+use Rattle.sdp_decode.specs.Rows.{table}
+use Rattle.sdp_decode.specs.Decode.{num2, timeOf, repeatOf}
 use Rattle.sdp_area.specs.Bytes.{num}
 use Rattle.sdp_area.specs.Area.{timesAt, repeatsAt}
 use mathlib.Core.Path.{_≡_, refl}

@@ -1,8 +1,8 @@
 -- `sdp_write::put_closing` meets its contract. Assumes nothing.
 use Rattle.sdp_write.proofs.RowLaws.{each-rows}
 use Rattle.sdp_put.proofs.OutLaws.{_then_, said}
-use Rattle.sdp_write.specs.Written.{closingLines}
-use Rattle.sdp_cells.specs.Decode.{attributeOf, decode}
+use Rattle.sdp_row.specs.Written.{closingLines}
+use Rattle.sdp_decode.specs.Decode.{attributeOf, decode}
 use borrow.Author.Needs.{needs}
 use Rattle.sdp_write.proofs.put_closing.Statement.{statement}
 use Rattle.sdp_write.proofs.put_closing.Tie as tie

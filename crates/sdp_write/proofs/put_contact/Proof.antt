@@ -1,8 +1,8 @@
 -- `sdp_write::put_contact` meets its contract. Assumes nothing.
 use Rattle.sdp_write.proofs.RowLaws.{each-rows}
 use Rattle.sdp_put.proofs.OutLaws.{_then_, said}
-use Rattle.sdp_write.specs.Written.{contactLines}
-use Rattle.sdp_cells.specs.Decode.{spanOf, bandwidthOf, decode}
+use Rattle.sdp_row.specs.Written.{contactLines}
+use Rattle.sdp_decode.specs.Decode.{spanOf, bandwidthOf, decode}
 use borrow.Author.Needs.{needs}
 use Rattle.sdp_write.proofs.put_contact.Statement.{statement}
 use Rattle.sdp_write.proofs.put_contact.Tie as tie

@@ -1,7 +1,7 @@
 -- `sdp_write::put_head` meets its contract. Assumes nothing.
 use Rattle.sdp_put.proofs.OutLaws.{_then_}
-use Rattle.sdp_write.specs.Written.{line, headLines}
-use Rattle.sdp_cells.specs.Decode.{decode}
+use Rattle.sdp_row.specs.Written.{line, headLines}
+use Rattle.sdp_decode.specs.Decode.{decode}
 use borrow.Author.Needs.{needs}
 use Rattle.sdp_write.proofs.put_head.Statement.{statement}
 use Rattle.sdp_write.proofs.put_head.Tie as tie

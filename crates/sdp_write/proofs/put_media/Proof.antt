@@ -1,8 +1,8 @@
 -- `sdp_write::put_media` meets its contract. Assumes nothing.
 use Rattle.sdp_write.proofs.RowLaws.{each-rows}
 use Rattle.sdp_put.proofs.OutLaws.{_then_, said}
-use Rattle.sdp_write.specs.Written.{mediaLines}
-use Rattle.sdp_cells.specs.Decode.{mediaConnectionOf, bandwidthOf, attributeOf, decode}
+use Rattle.sdp_row.specs.Written.{mediaLines}
+use Rattle.sdp_decode.specs.Decode.{mediaConnectionOf, bandwidthOf, attributeOf, decode}
 use borrow.Author.Needs.{needs}
 use Rattle.sdp_write.proofs.put_media.Statement.{statement}
 use Rattle.sdp_write.proofs.put_media.Tie as tie

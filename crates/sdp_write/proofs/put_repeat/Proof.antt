@@ -1,10 +1,10 @@
 -- `sdp_write::put_repeat` meets its contract. Assumes nothing.
-use Rattle.sdp_write.proofs.LineLaws.{in-line}
+use Rattle.sdp_row.proofs.LineLaws.{in-line}
 use Rattle.sdp_write.proofs.RowLaws.{each-rows}
 use Rattle.sdp_put.proofs.OutLaws.{_then_, said}
 use Rattle.sdp_put.specs.Digits.{timeText}
-use Rattle.sdp_write.specs.Written.{spaced, repeatLine}
-use Rattle.sdp_cells.specs.Decode.{offsetOf}
+use Rattle.sdp_row.specs.Written.{spaced, repeatLine}
+use Rattle.sdp_decode.specs.Decode.{offsetOf}
 use mathlib.Core.Path.{ap}
 use Prim.Native.Nat.{ℕ}
 use borrow.Author.Needs.{needs}

@@ -1,8 +1,8 @@
 -- `sdp_write::put_session` meets its contract. Assumes nothing.
 use Rattle.sdp_write.proofs.RowLaws.{each-rows}
 use Rattle.sdp_put.proofs.OutLaws.{_then_, said}
-use Rattle.sdp_write.specs.Written.{written}
-use Rattle.sdp_cells.specs.Decode.{mediaOf, decode}
+use Rattle.sdp_row.specs.Written.{written}
+use Rattle.sdp_decode.specs.Decode.{mediaOf, decode}
 use borrow.Author.Needs.{needs}
 use Rattle.sdp_write.proofs.put_session.Statement.{statement}
 use Rattle.sdp_write.proofs.put_session.Tie as tie

@@ -1,8 +1,8 @@
 -- `sdp_write::put_time_lines` meets its contract. Assumes nothing.
 use Rattle.sdp_write.proofs.RowLaws.{each-rows}
 use Rattle.sdp_put.proofs.OutLaws.{_then_, said}
-use Rattle.sdp_write.specs.Written.{timeLines}
-use Rattle.sdp_cells.specs.Decode.{repeatOf}
+use Rattle.sdp_row.specs.Written.{timeLines}
+use Rattle.sdp_decode.specs.Decode.{repeatOf}
 use borrow.Author.Needs.{needs}
 use Rattle.sdp_write.proofs.put_time_lines.Statement.{statement}
 use Rattle.sdp_write.proofs.put_time_lines.Tie as tie
