@@ -3,15 +3,15 @@
 use Prim.Native.Nat.{ℕ}
 use mathlib.Core.Path.{_≡_, refl, sym, ap, _∙_}
 use mathlib.Core.List.{List}
-use Rattle.sdp_fields.specs.Split.{wordAt}
-use Rattle.sdp_fields.specs.Read.{Read, got, refused, textOf, tokenOf, andThen, afterText, ending}
+use Rattle.sdp_split.specs.Split.{wordAt}
+use Rattle.sdp_judge.specs.Read.{Read, got, refused, textOf, tokenOf, andThen, afterText, ending}
 use Rattle.sdp_fields.specs.Records.{usernameOf, addressOf, connectionOf}
 use Rattle.sdp_fields.specs.Answers.{connectionAnswer}
-use Rattle.sdp_fields.specs.declared.Piece.{Piece}
-use Rattle.sdp_fields.specs.declared.Field.{Field}
-use Rattle.sdp_fields.specs.declared.Field.the-variants as field
-use Rattle.sdp_fields.specs.declared.Text.{Text}
-use Rattle.sdp_fields.specs.declared.Text.the-variants as text
+use Rattle.sdp_split.specs.declared.Piece.{Piece}
+use Rattle.sdp_split.specs.declared.Field.{Field}
+use Rattle.sdp_split.specs.declared.Field.the-variants as field
+use Rattle.sdp_judge.specs.declared.Text.{Text}
+use Rattle.sdp_judge.specs.declared.Text.the-variants as text
 use Rattle.sdp_fields.specs.declared.Origin.{Origin}
 use Rattle.sdp_fields.specs.declared.Connection.{Connection}
 use Rattle.sdp_fields.specs.declared.ConnectionRead.{ConnectionRead}

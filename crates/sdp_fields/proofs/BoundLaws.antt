@@ -9,30 +9,29 @@ use borrow.Author.Tests.{ltb-true}
 use lib.Dec.{ltb, eqb}
 use lib.ListN.{length, getD, take, drop}
 use Rattle.sdp_bytes.specs.Runs.{indexOf}
-use Rattle.sdp_bytes.specs.Utf8.{isUtf8}
-use Rattle.sdp_bytes.specs.Number.{allDigits, value, digitsBelow, dropPlus, numeral, wholeNumber}
-use Rattle.sdp_bytes.specs.declared.number.Number.{Number}
-use Rattle.sdp_bytes.specs.declared.number.Number.the-variants.{Value, Encoding, Format}
+use Rattle.sdp_utf8.specs.Utf8.{isUtf8}
+use Rattle.sdp_number.specs.Number.{allDigits, value, digitsBelow, dropPlus, numeral, wholeNumber}
+use Rattle.sdp_number.specs.declared.Number.{Number}
+use Rattle.sdp_number.specs.declared.Number.the-variants.{Value, Encoding, Format}
 use Rattle.sdp_bytes.proofs.ScanLaws.{and-right}
-use Rattle.sdp_fields.specs.Split.{part, wordAt, firstPiece, pieceAfter, restAfter}
-use Rattle.sdp_fields.specs.Read.{Read, got, refused, andThen, textOf, tokenOf, numberOf, choiceOf, absent, afterText, afterChoice, ending}
-use Rattle.sdp_fields.specs.Records.{wholeOf, usernameOf, originOf, connectionOf, bandwidthOf, pairOf, portNumber, portOf, afterPort, mediaOf}
-use Rattle.sdp_fields.specs.Answers.{Inside, Within}
-use Rattle.sdp_fields.specs.declared.Piece.{Piece}
-use Rattle.sdp_fields.specs.declared.MaybePiece.{MaybePiece}
+use Rattle.sdp_split.specs.Split.{part, wordAt, firstPiece, pieceAfter, restAfter, Inside, Within}
+use Rattle.sdp_judge.specs.Read.{Read, got, refused, andThen, textOf, tokenOf, numberOf, choiceOf, absent, afterText, afterChoice, ending, wholeOf}
+use Rattle.sdp_fields.specs.Records.{usernameOf, originOf, connectionOf, bandwidthOf, pairOf, portNumber, portOf, afterPort, mediaOf}
+use Rattle.sdp_split.specs.declared.Piece.{Piece}
+use Rattle.sdp_judge.specs.declared.MaybePiece.{MaybePiece}
 use Rattle.sdp_fields.specs.declared.Origin.{Origin}
 use Rattle.sdp_fields.specs.declared.Connection.{Connection}
 use Rattle.sdp_fields.specs.declared.Bandwidth.{Bandwidth}
 use Rattle.sdp_fields.specs.declared.Pair.{Pair}
 use Rattle.sdp_fields.specs.declared.Port.{Port}
 use Rattle.sdp_fields.specs.declared.Media.{Media}
-use Rattle.sdp_fields.specs.declared.Field.{Field}
-use Rattle.sdp_fields.specs.declared.Field.the-variants as field
-use Rattle.sdp_fields.specs.declared.Text.{Text}
-use Rattle.sdp_fields.specs.declared.Text.the-variants as text
-use Rattle.sdp_fields.specs.declared.Choice.the-variants as choice
-use Rattle.sdp_fields.proofs.SplitLaws.{word-within, first-within, after-within, rest-within}
-use Rattle.sdp_fields.proofs.ReadLaws.{text-within, token-within, Every, every-got, never, every-amount}
+use Rattle.sdp_split.specs.declared.Field.{Field}
+use Rattle.sdp_split.specs.declared.Field.the-variants as field
+use Rattle.sdp_judge.specs.declared.Text.{Text}
+use Rattle.sdp_judge.specs.declared.Text.the-variants as text
+use Rattle.sdp_judge.specs.declared.Choice.the-variants as choice
+use Rattle.sdp_split.proofs.SplitLaws.{word-within, first-within, after-within, rest-within}
+use Rattle.sdp_judge.proofs.ReadLaws.{text-within, token-within, Every, every-got, never, every-amount}
 
 -- ---- each field on the way to a record
 module _ {A : Type 0} (P : A → Type 0) where

@@ -9,7 +9,7 @@ use Rattle.sdp_lines.specs.Answers.{faultNumber}
 use Rattle.sdp_lines.specs.declared.Span.{Span}
 use Rattle.sdp_lines.specs.declared.Form.{Form}
 use Rattle.sdp_lines.specs.declared.Form.the-variants.{Blank, Good, Bad}
-use Rattle.sdp_fields.specs.declared.Piece.{Piece}
+use Rattle.sdp_split.specs.declared.Piece.{Piece}
 use Rattle.sdp_area.specs.Bytes.{zeros}
 use Rattle.sdp_area.specs.Session.{Session}
 use Rattle.sdp_area.specs.Area.{encode, size}

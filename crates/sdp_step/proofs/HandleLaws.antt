@@ -9,8 +9,8 @@ use lib.ListN.{length, drop, length-append}
 use native.Mathlib.Omega.{arith}
 use borrow.Author.Tests.{ltb-true}
 use Rattle.sdp_lines.specs.declared.Span.{Span}
-use Rattle.sdp_fields.specs.Read.{Read, got, refused}
-use Rattle.sdp_fields.specs.declared.Wrong.{Wrong}
+use Rattle.sdp_judge.specs.Read.{Read, got, refused}
+use Rattle.sdp_judge.specs.declared.Wrong.{Wrong}
 use mathlib.Core.Option.{Option}
 use Rattle.sdp_area.specs.Session.{Session, Within}
 use Rattle.sdp_area.specs.Latest.{given}

@@ -9,15 +9,15 @@ use lib.Dec.{ltb, eqb}
 use lib.ListN.{length, drop, length-append}
 use borrow.Author.Tests.{lt-ltb, le-ltb, le-leb, lt-leb, ltb-true, ltb-false}
 use Rattle.sdp_lines.specs.declared.Span.{Span}
-use Rattle.sdp_fields.specs.Split.{words}
-use Rattle.sdp_fields.specs.Read.{Read, got, refused, andThen}
+use Rattle.sdp_split.specs.Split.{words}
+use Rattle.sdp_judge.specs.Read.{Read, got, refused, andThen}
 use Rattle.sdp_fields.specs.Lists
 use Rattle.sdp_fields.specs.Lists.{offsetsOf, repeatOf}
 use Rattle.sdp_fields.specs.Records.{repeatHead}
 use Rattle.sdp_fields.specs.Answers.{offsetAt}
-use Rattle.sdp_fields.specs.declared.Piece.{Piece}
+use Rattle.sdp_split.specs.declared.Piece.{Piece}
 use Rattle.sdp_fields.specs.declared.RepeatHead.{RepeatHead}
-use Rattle.sdp_fields.specs.declared.Wrong.{Wrong}
+use Rattle.sdp_judge.specs.declared.Wrong.{Wrong}
 use Rattle.sdp_fields.specs.declared.RepeatOffset.the-variants as offsets
 use Rattle.sdp_fields.proofs.WordLaws.{offset-done, offset-next, offset-refused}
 use Rattle.sdp_area.specs.Session.{Repeat, Offset, Session, Within}

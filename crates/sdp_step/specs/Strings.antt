@@ -3,7 +3,7 @@ use Prim.Native.Nat.{ℕ, _+_}
 use mathlib.Core.List.{List}
 use lib.ListN.{take, drop}
 use Rattle.sdp_lines.specs.declared.Span.{Span}
-use Rattle.sdp_fields.specs.declared.Piece.{Piece}
+use Rattle.sdp_split.specs.declared.Piece.{Piece}
 
 -- "Strings are places in the text"
 abbrev pub spanAt : ℕ → List ℕ → Piece → Span

@@ -47,27 +47,27 @@ use sdp_fields::BandwidthRead;
 use sdp_fields::Connection;
 use sdp_fields::ConnectionRead;
 use sdp_fields::MaybeNumber;
-use sdp_fields::MaybePiece;
 use sdp_fields::Media;
 use sdp_fields::MediaRead;
 use sdp_fields::Origin;
 use sdp_fields::OriginRead;
 use sdp_fields::Pair;
 use sdp_fields::PairRead;
-use sdp_fields::Piece;
 use sdp_fields::RepeatHead;
 use sdp_fields::RepeatOffset;
 use sdp_fields::RepeatRead;
 use sdp_fields::Time;
 use sdp_fields::TimeRead;
-use sdp_fields::WholeRead;
-use sdp_fields::Wrong;
 use sdp_fields::Zone;
 use sdp_fields::ZoneRead;
 use sdp_fields::repeat_offset;
-use sdp_fields::whole;
+use sdp_judge::MaybePiece;
+use sdp_judge::WholeRead;
+use sdp_judge::Wrong;
+use sdp_judge::whole;
 use sdp_lines::Place;
 use sdp_lines::Span;
+use sdp_split::Piece;
 
 // What a line's letter is for at its place.
 pub enum Role {

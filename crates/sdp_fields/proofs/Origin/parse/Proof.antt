@@ -2,9 +2,9 @@
 use mathlib.Core.Path.{sym, ap, _∙_}
 use Rattle.sdp_fields.specs.Records.{originOf}
 use Rattle.sdp_fields.specs.Answers.{originAnswer}
-use Rattle.sdp_fields.proofs.ReadLaws.{by-text, by-amount, text-within}
+use Rattle.sdp_judge.proofs.ReadLaws.{by-text, by-amount, text-within}
 use Rattle.sdp_fields.proofs.AddressLaws.{by-address}
-use Rattle.sdp_fields.proofs.SplitLaws.{word-within}
+use Rattle.sdp_split.proofs.SplitLaws.{word-within}
 use borrow.Author.Needs.{needs}
 use Rattle.sdp_fields.proofs.Origin.parse.Statement.{statement}
 use Rattle.sdp_fields.proofs.Origin.parse.Tie as tie
