@@ -13,7 +13,7 @@ use borrow.Author.Tests.{eq-eqb, ne-eqb}
 use Rattle.sdp_lines.specs.Lines.{start}
 use Rattle.sdp_lines.specs.declared.Span.{Span}
 use Rattle.sdp_lines.specs.declared.Cursor.{Cursor}
-use Rattle.sdp_step.specs.Strings.{spanAt, bytesOf}
+use Rattle.sdp_strings.specs.Strings.{spanAt, bytesOf}
 use Rattle.sdp_step.specs.Step.{fresh}
 use Rattle.sdp_read.specs.Run.{Verdict, refused, noVersion, badVersion, isZero, version}
 use Rattle.sdp_read.specs.From.{Reached, runAt, beginAt, versionLine, Begun}

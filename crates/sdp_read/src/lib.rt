@@ -5,7 +5,7 @@ ghost use Prim.Native.Nat.{ℕ, _+_, _≤_};
 ghost use lib.ListN.{length};
 ghost use Rattle.sdp_area.specs.Session.{empty};
 ghost use Rattle.sdp_area.specs.Area.{encode, size};
-ghost use Rattle.sdp_step.specs.Strings.{bytesOf};
+ghost use Rattle.sdp_strings.specs.Strings.{bytesOf};
 ghost use Rattle.sdp_step.specs.Step.{fresh};
 ghost use Rattle.sdp_read.specs.Run.{answer, readText};
 ghost use Rattle.sdp_read.specs.From.{Reached, runAt, versionLine, Begun, Left};

@@ -10,7 +10,7 @@ use lib.ListN.{length, length-append}
 use borrow.Author.Tests.{lt-ltb, ltb-true, ltb-false}
 use Rattle.sdp_judge.specs.Read.{Read, got, refused, andThen}
 use Rattle.sdp_judge.specs.declared.Wrong.{Wrong}
-use Rattle.sdp_area.specs.Tables.{add}
+use Rattle.sdp_cells.specs.Tables.{add}
 
 module _ {A : Type 0} where
   -- nothing so far

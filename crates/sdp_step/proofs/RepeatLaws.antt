@@ -22,10 +22,10 @@ use Rattle.sdp_fields.specs.declared.RepeatOffset.the-variants as offsets
 use Rattle.sdp_fields.proofs.WordLaws.{offset-done, offset-next, offset-refused}
 use Rattle.sdp_area.specs.Session.{Repeat, Offset, Session, Within}
 use Rattle.sdp_area.specs.With.{withRepeats, withOffsets}
-use Rattle.sdp_area.specs.Tables.{add, pushed, told, grown}
+use Rattle.sdp_cells.specs.Tables.{add, pushed, told, grown}
 use Rattle.sdp_area.specs.Area.{encode, size, offsetRow, offsetsAt}
-use Rattle.sdp_area.specs.declared.Pushed.{Pushed}
-use Rattle.sdp_area.specs.declared.Pushed.the-variants.{Stored, Full}
+use Rattle.sdp_cells.specs.declared.Pushed.{Pushed}
+use Rattle.sdp_cells.specs.declared.Pushed.the-variants.{Stored, Full}
 use Rattle.sdp_area.proofs.GrownLaws.{offsets-grown}
 use Rattle.sdp_step.specs.Step.{Reading, stopped, repeated}
 use Rattle.sdp_step.specs.Hold.{Holds, Handled}

@@ -10,7 +10,7 @@ use Rattle.sdp_lines.specs.declared.Span.{Span}
 use Rattle.sdp_area.specs.Session.{Session}
 use Rattle.sdp_area.specs.Area.{encode, size}
 use Rattle.sdp_area.proofs.WidthLaws.{length-encode}
-use Rattle.sdp_step.specs.Strings.{bytesOf}
+use Rattle.sdp_strings.specs.Strings.{bytesOf}
 use Rattle.sdp_step.specs.Step.{Reading}
 use Rattle.sdp_step.specs.Hold.{Holds}
 use Rattle.sdp_step.specs.declared.Marks.{Marks}

@@ -20,7 +20,7 @@ use Rattle.sdp_fields.specs.declared.ZoneRead.the-variants as zones
 use Rattle.sdp_fields.proofs.WordLaws.{zone-done, zone-next, zone-refused}
 use Rattle.sdp_area.specs.Session.{Zone, Session, Within}
 use Rattle.sdp_area.specs.With.{withZones}
-use Rattle.sdp_area.specs.Tables.{add, grown}
+use Rattle.sdp_cells.specs.Tables.{add, grown}
 use Rattle.sdp_area.specs.Area.{encode, size, zoneRow, zonesAt}
 use Rattle.sdp_area.proofs.GrownLaws.{zones-grown}
 use Rattle.sdp_step.specs.Step.{Reading, zoneIn, zonesTaken}

@@ -12,8 +12,8 @@ use Rattle.sdp_fields.specs.Lists.{offsetsOf}
 use Rattle.sdp_area.specs.Session.{Repeat, Offset, Session}
 use Rattle.sdp_area.specs.With.{withRepeats, withOffsets}
 use Rattle.sdp_area.specs.Area.{encode, size}
-use Rattle.sdp_area.specs.declared.Pushed.{Pushed}
-use Rattle.sdp_area.specs.declared.Pushed.the-variants.{Stored, Full}
+use Rattle.sdp_cells.specs.declared.Pushed.{Pushed}
+use Rattle.sdp_cells.specs.declared.Pushed.the-variants.{Stored, Full}
 use Rattle.sdp_step.specs.Step.{Reading, Stepped, goes, stops, stopped}
 use Rattle.sdp_step.specs.Hold.{marksOf, Holds, Handled}
 use Rattle.sdp_step.specs.declared.Marks.{Marks}

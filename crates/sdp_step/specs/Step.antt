@@ -23,9 +23,9 @@ use Rattle.sdp_fields.specs.Lists.{RepeatLine, repeatOf, zonesOf}
 use Rattle.sdp_area.specs.Session.{Origin, Connection, Key, MediaConnection, Bandwidth, Time, Repeat, Offset, Zone, Attribute, Media, Session, empty}
 use Rattle.sdp_area.specs.With.{withOrigin, withName, withDescription, withUri, withConnection, withKey, withEmails, withPhones, withConnections, withBandwidths, withTimes, withRepeats, withOffsets, withZones, withAttributes, withMedias, setLast, titled, keyed}
 use Rattle.sdp_area.specs.Latest.{given, lastTitled, lastKeyed}
-use Rattle.sdp_step.specs.Roles.{roleAt}
-use Rattle.sdp_step.specs.declared.Role.{Role}
-use Rattle.sdp_step.specs.declared.Role.the-variants as role
+use Rattle.sdp_roles.specs.Roles.{roleAt}
+use Rattle.sdp_roles.specs.declared.Role.{Role}
+use Rattle.sdp_roles.specs.declared.Role.the-variants as role
 
 -- a session while it is read. A z line may be empty, so its being there is kept beside the zones
 pub record Reading (S : Type 0) : Type 0 where

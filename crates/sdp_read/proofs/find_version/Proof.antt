@@ -5,7 +5,7 @@ use mathlib.Core.Path.{_≡_, refl, sym, _∙_}
 use lib.ListN.{length}
 use borrow.Author.Needs.{needs}
 use Rattle.sdp_lines.specs.Lines.{start}
-use Rattle.sdp_step.specs.Strings.{bytesOf}
+use Rattle.sdp_strings.specs.Strings.{bytesOf}
 use Rattle.sdp_read.specs.From.{Reached, beginAt}
 use Rattle.sdp_read.proofs.RunLaws.{begin-end, begin-bad, begin-empty, begin-line, empty-moves, line-moves, line-inside}
 use Rattle.sdp_read.proofs.VersionLaws.{begun-line}
