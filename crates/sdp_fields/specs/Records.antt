@@ -32,27 +32,6 @@ usernameOf v p =
     (record { there = false; piece = record { at = 0; len = 0 } })
     (record { there = true; piece = p })
 
--- "o: username, sess-id, version number, nettype, addrtype, address"
-unfoldable pub originOf : List ℕ → Read Origin
-originOf v =
-    afterText (textOf 1 v (wordAt v 0)) (λ user e.
-    afterText (textOf 2 v (wordAt v e)) (λ id e.
-    afterAmount (numberOf 3 v (wordAt v e)) (λ version e.
-    afterText (tokenOf 4 v (wordAt v e)) (λ net e.
-    afterText (tokenOf 5 v (wordAt v e)) (λ kind e.
-    afterText (textOf 6 v (wordAt v e)) (λ address e.
-    ending 7 (wordAt v e)
-    (got (record { username = usernameOf v user; «sess_id» = id; «sess_version» = version; nettype = net; addrtype = kind; «unicast_address» = address }))))))))
-
--- c: nettype, addrtype, connection-address
-unfoldable pub connectionOf : List ℕ → Read Connection
-connectionOf v =
-    afterText (tokenOf 8 v (wordAt v 0)) (λ net e.
-    afterText (tokenOf 9 v (wordAt v e)) (λ kind e.
-    afterText (textOf 10 v (wordAt v e)) (λ address e.
-    ending 11 (wordAt v e)
-    (got (record { nettype = net; addrtype = kind; «connection_address» = address })))))
-
 -- how o and c end: nettype, addrtype and address from place i on and nothing after them, the fields w, w + 1 and w + 2
 unfoldable pub addressOf : ℕ → List ℕ → ℕ → Read Connection
 addressOf w v i =
@@ -61,6 +40,19 @@ addressOf w v i =
     afterText (textOf (w + 2) v (wordAt v e)) (λ address e.
     ending (w + 3) (wordAt v e)
     (got (record { nettype = net; addrtype = kind; «connection_address» = address })))))
+
+-- "o: username, sess-id, version number, nettype, addrtype, address"
+unfoldable pub originOf : List ℕ → Read Origin
+originOf v =
+    afterText (textOf 1 v (wordAt v 0)) (λ user e.
+    afterText (textOf 2 v (wordAt v e)) (λ id e.
+    afterAmount (numberOf 3 v (wordAt v e)) (λ version e.
+    andThen (addressOf 4 v e) (λ place.
+    got (record { username = usernameOf v user; «sess_id» = id; «sess_version» = version; nettype = place .nettype; addrtype = place .addrtype; «unicast_address» = place .«connection_address» })))))
+
+-- c: nettype, addrtype, connection-address
+unfoldable pub connectionOf : List ℕ → Read Connection
+connectionOf v = addressOf 8 v 0
 
 -- b: bwtype and bandwidth, "split at every colon"
 unfoldable pub bandwidthOf : List ℕ → Read Bandwidth
