@@ -1,7 +1,7 @@
 -- How the leaves' answers cross to Rust and C, as numbers.
 use Prim.Native.Nat.{ℕ}
-use Rattle.sdp_bytes.specs.Number.{refusal, valueOf}
-use Rattle.sdp_bytes.specs.declared.number.Number.{Number}
+use Rattle.sdp_number.specs.Number.{refusal, valueOf}
+use Rattle.sdp_number.specs.declared.Number.{Number}
 use Rattle.sdp_lines.specs.Answers.{faultNumber}
 use Rattle.sdp_lines.specs.declared.Cursor.{Cursor}
 use Rattle.sdp_lines.specs.declared.Cut.{Cut}

@@ -1,20 +1,20 @@
 // What Rust and C call: byte slices and numbers in, numbers out. docs/FFI.md has the C declarations.
 ghost use mathlib.Core.Path.{_≡_};
-ghost use Rattle.sdp_bytes.specs.Utf8.{utf8End};
+ghost use Rattle.sdp_utf8.specs.Utf8.{utf8End};
 ghost use Rattle.sdp_bytes.specs.Token.{isToken};
-ghost use Rattle.sdp_bytes.specs.Number.{wholeNumber, typedTime};
+ghost use Rattle.sdp_number.specs.Number.{wholeNumber, typedTime};
 ghost use Rattle.sdp_lines.specs.Lines.{cutAt};
 ghost use Rattle.sdp_area.specs.Area.{size};
 ghost use Rattle.sdp_read.specs.Run.{readText};
 ghost use Rattle.sdp_write.specs.Write.{writeText};
 ghost use Rattle.sdp_order.specs.Order.{orderOf, verdictOf};
 ghost use Rattle.sdp.specs.Boundary.{numeralOf, cursorAt, pieceOf};
-use sdp_bytes::number::Number;
 use sdp_lines::Answer;
 use sdp_lines::Cursor;
 use sdp_lines::Cut;
 use sdp_lines::LineNumber;
 use sdp_lines::Place;
+use sdp_number::Number;
 use sdp_order::Verdict;
 
 // A number that was read: refusal number 0 and the value, or 8 or 9 and 0.
@@ -118,7 +118,7 @@ fn piece_of(line: usize, c: Cut) -> Piece
 pub extern "C" fn sdp_utf8_end(s: &[u8]) -> usize
     ensures { λ r. ⌜ r ≡ utf8End (now (s .entry)) ⌝ }
 {
-    sdp_bytes::utf8::utf8_end(s)
+    sdp_utf8::utf8_end(s)
 }
 
 // Whether s is a token.
@@ -134,7 +134,7 @@ pub extern "C" fn sdp_is_token(s: &[u8]) -> bool
 pub extern "C" fn sdp_number16(s: &[u8]) -> Numeral
     ensures { λ r. ⌜ r ≡ numeralOf (wholeNumber 16 (now (s .entry))) ⌝ }
 {
-    numeral_of(sdp_bytes::number::number16(s))
+    numeral_of(sdp_number::number16(s))
 }
 
 // A whole number of 64 bits.
@@ -142,7 +142,7 @@ pub extern "C" fn sdp_number16(s: &[u8]) -> Numeral
 pub extern "C" fn sdp_number64(s: &[u8]) -> Numeral
     ensures { λ r. ⌜ r ≡ numeralOf (wholeNumber 64 (now (s .entry))) ⌝ }
 {
-    numeral_of(sdp_bytes::number::number64(s))
+    numeral_of(sdp_number::number64(s))
 }
 
 // A typed time in seconds.
@@ -150,7 +150,7 @@ pub extern "C" fn sdp_number64(s: &[u8]) -> Numeral
 pub extern "C" fn sdp_typed_time(s: &[u8]) -> Numeral
     ensures { λ r. ⌜ r ≡ numeralOf (typedTime (now (s .entry))) ⌝ }
 {
-    numeral_of(sdp_bytes::number::typed_time(s))
+    numeral_of(sdp_number::typed_time(s))
 }
 
 // What stands at a place of the text, where the line of that number is due.

@@ -8,12 +8,12 @@ use lib.Dec.{lit<}
 use lib.ListN.{length, getD, set}
 use lib.Seq.{set-getD}
 use Rattle.sdp_lines.specs.declared.Span.{Span}
-use Rattle.sdp_area.specs.Bytes.{num}
-use Rattle.sdp_area.specs.Tables.{tab, add, pushed, grown, told}
+use Rattle.sdp_cells.specs.Bytes.{num}
+use Rattle.sdp_cells.specs.Tables.{tab, add, pushed, grown, told}
 use Rattle.sdp_area.specs.Session.{MediaConnection, Bandwidth, Time, Repeat, Offset, Zone, Attribute, Media, Session, Within}
 use Rattle.sdp_area.specs.With.{withEmails, withPhones, withConnections, withBandwidths, withTimes, withRepeats, withOffsets, withZones, withAttributes, withMedias}
 use Rattle.sdp_area.specs.Area.{span, mediaConnectionRow, bandwidthRow, timeRow, repeatRow, offsetRow, zoneRow, attributeRow, mediaRow, cat, segments, encode, emailsAt, phonesAt, connectionsAt, bandwidthsAt, timesAt, repeatsAt, offsetsAt, zonesAt, attributesAt, mediasAt}
-use Rattle.sdp_area.proofs.TableLaws.{tab-count, grown-is}
+use Rattle.sdp_cells.proofs.TableLaws.{tab-count, grown-is}
 use Rattle.sdp_area.proofs.SegmentLaws.{set-view, cat-view}
 use Rattle.sdp_area.proofs.WidthLaws.{start, before, behind, begins, length-span, length-media-connection, length-bandwidth, length-time, length-repeat, length-offset, length-zone, length-attribute, length-media}
 

@@ -7,12 +7,12 @@ use Prim.Native.Nat.{ℕ, _<_}
 use lib.Dec.{eqb, lit<}
 use lib.ListN.{length, getD, set, List·getD-map}
 use Rattle.sdp_lines.specs.declared.Span.{Span}
-use Rattle.sdp_area.specs.Bytes.{le, num, over}
+use Rattle.sdp_cells.specs.Bytes.{le, num, over}
 use Rattle.sdp_area.specs.Session.{Origin, Connection, Key, Session, Within}
 use Rattle.sdp_area.specs.With.{withOrigin, withName, withDescription, withUri, withConnection, withKey}
 use Rattle.sdp_area.specs.Area.{span, opt, originBytes, nameBytes, connectionBytes, keyBytes, cat, segments, encode, originAt, nameAt, descriptionAt, uriAt, connectionAt, keyAt}
 use Rattle.sdp_area.specs.Latest.{given}
-use Rattle.sdp_area.proofs.ByteLaws.{over-at, num-at, zeros-add, le-zero}
+use Rattle.sdp_cells.proofs.ByteLaws.{over-at, num-at, zeros-add, le-zero}
 use Rattle.sdp_area.proofs.SegmentLaws.{set-view, cat-view}
 use Rattle.sdp_area.proofs.WidthLaws.{widths, segment-widths, start, before, behind, begins, length-opt, length-origin, length-span, length-connection, length-key}
 

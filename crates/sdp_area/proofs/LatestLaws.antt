@@ -10,14 +10,14 @@ use borrow.Author.Tests.{lt-ltb, le-ltb, le-leb, lt-leb}
 use lib.Dec.{lit<}
 use lib.ListN.{length, length-append}
 use Rattle.sdp_lines.specs.declared.Span.{Span}
-use Rattle.sdp_area.specs.Bytes.{le, num}
-use Rattle.sdp_area.specs.Tables.{tab}
+use Rattle.sdp_cells.specs.Bytes.{le, num}
+use Rattle.sdp_cells.specs.Tables.{tab}
 use Rattle.sdp_area.specs.Session.{Key, Media, Session, Within}
 use Rattle.sdp_area.specs.With.{setLast, withMedias, titled, keyed}
 use Rattle.sdp_area.specs.Area.{span, opt, keyBytes, mediaRow, cat, segments, encode, mediasAt}
 use Rattle.sdp_area.specs.Latest.{anyMedia, latestAt, overLast, markLast, given, lastTitled, lastKeyed}
-use Rattle.sdp_area.proofs.ByteLaws.{over-at, length-le}
-use Rattle.sdp_area.proofs.TableLaws.{front, back, tab-count, length-front, last-view}
+use Rattle.sdp_cells.proofs.ByteLaws.{over-at, length-le}
+use Rattle.sdp_cells.proofs.TableLaws.{front, back, tab-count, length-front, last-view}
 use Rattle.sdp_area.proofs.SegmentLaws.{cat-view}
 use Rattle.sdp_area.proofs.WidthLaws.{length-span, length-opt, length-maybe, length-key, length-media, begins}
 use Rattle.sdp_area.proofs.WidthLaws as area

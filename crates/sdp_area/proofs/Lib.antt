@@ -1,5 +1,3 @@
-pub mod ByteLaws
-pub mod TableLaws
 pub mod WordLaws
 pub mod SegmentLaws
 pub mod WidthLaws

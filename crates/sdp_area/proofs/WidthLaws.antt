@@ -6,11 +6,11 @@ use mathlib.Core.Option.{Option, none, some}
 use Prim.Native.Nat.{ℕ, suc, _+_}
 use lib.ListN.{length, take, drop, length-append}
 use Rattle.sdp_lines.specs.declared.Span.{Span}
-use Rattle.sdp_area.specs.Bytes.{le, zeros}
+use Rattle.sdp_cells.specs.Bytes.{le, zeros}
 use Rattle.sdp_area.specs.Session.{Origin, Connection, Key, MediaConnection, Bandwidth, Time, Repeat, Offset, Zone, Attribute, Media, Session, empty}
 use Rattle.sdp_area.specs.Area.{span, opt, originBytes, nameBytes, connectionBytes, keyBytes, mediaConnectionRow, bandwidthRow, timeRow, repeatRow, offsetRow, zoneRow, attributeRow, mediaRow, cat, segments, encode, size}
-use Rattle.sdp_area.proofs.ByteLaws.{length-le, length-zeros, zeros-add}
-use Rattle.sdp_area.proofs.TableLaws.{length-tab, tab-none}
+use Rattle.sdp_cells.proofs.ByteLaws.{length-le, length-zeros, zeros-add}
+use Rattle.sdp_cells.proofs.TableLaws.{length-tab, tab-none}
 use Rattle.sdp_area.proofs.SegmentLaws.{total, length-cat}
 
 pub length-span : (x : Span) → length (span x) ≡ 4

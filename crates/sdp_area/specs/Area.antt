@@ -4,8 +4,8 @@ use mathlib.Core.List.{List, [], _∷_, _++_}
 use mathlib.Core.Option.{Option, none, some}
 use Prim.Native.Nat.{ℕ, _+_}
 use Rattle.sdp_lines.specs.declared.Span.{Span}
-use Rattle.sdp_area.specs.Bytes.{le, zeros}
-use Rattle.sdp_area.specs.Tables.{tab}
+use Rattle.sdp_cells.specs.Bytes.{le, zeros}
+use Rattle.sdp_cells.specs.Tables.{tab}
 use Rattle.sdp_area.specs.Session.{Origin, Connection, Key, MediaConnection, Bandwidth, Time, Repeat, Offset, Zone, Attribute, Media, Session}
 
 -- a string: its place and its length

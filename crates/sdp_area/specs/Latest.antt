@@ -4,7 +4,7 @@ use mathlib.Core.List.{List, [], _∷_}
 use mathlib.Core.Option.{Option, none, some}
 use Prim.Native.Nat.{ℕ, _+_, _*_, _-_}
 use lib.Dec.{ltb, leb, eqb}
-use Rattle.sdp_area.specs.Bytes.{num, over}
+use Rattle.sdp_cells.specs.Bytes.{num, over}
 use Rattle.sdp_area.specs.Area.{mediasAt}
 use Rattle.sdp_area.specs.Session.{Media}
 

@@ -1,5 +1,3 @@
-pub mod Bytes
-pub mod Tables
 pub mod Session
 pub mod With
 pub mod Area

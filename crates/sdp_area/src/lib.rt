@@ -6,11 +6,16 @@ ghost use mathlib.Core.List.{_++_};
 ghost use Prim.Native.Nat.{_+_, _*_, _≤_, _<_};
 ghost use lib.ListN.{length, drop};
 ghost use lib.Dec.{eqb};
-ghost use Rattle.sdp_area.specs.Bytes.{le, num, over, zeros};
-ghost use Rattle.sdp_area.specs.Tables.{pairs, grown, told};
+ghost use Rattle.sdp_cells.specs.Bytes.{le, num, over, zeros};
+ghost use Rattle.sdp_cells.specs.Tables.{pairs, grown, told};
 ghost use Rattle.sdp_area.specs.Area.{size, span, originBytes, connectionBytes, keyBytes, mediaConnectionRow, bandwidthRow, timeRow, repeatRow, offsetRow, zoneRow, attributeRow, mediaRow, originAt, nameAt, descriptionAt, uriAt, connectionAt, keyAt, emailsAt, phonesAt, connectionsAt, bandwidthsAt, timesAt, repeatsAt, offsetsAt, zonesAt, attributesAt, mediasAt};
 ghost use Rattle.sdp_area.specs.Latest.{overLast, markLast};
 ghost use Rattle.sdp_area.specs.Maybe.{maybe, maybePorts};
+use sdp_cells::Pushed;
+use sdp_cells::get2;
+use sdp_cells::marked;
+use sdp_cells::push_words;
+use sdp_cells::put_words;
 use sdp_lines::Span;
 
 // Bytes of the area.
@@ -48,12 +53,6 @@ pub const ATTRIBUTES: usize = 7258;
 
 pub const MEDIAS: usize = 13404;
 
-// Whether a row was stored.
-pub enum Pushed {
-    Stored,
-    Full,
-}
-
 // A string that may be absent.
 pub struct MaybeSpan {
     pub there: bool,
@@ -66,51 +65,6 @@ pub struct MaybePorts {
     pub value: usize,
 }
 
-fn put2(a: &mut [u8], at: usize, v: usize)
-    requires { ⌜ at + 2 ≤ length (now a) ⌝ }
-    ensures { λ _. ⌜ now (a .exit) ≡ over (now (a .entry)) at (le 2 v) ⌝ }
-{
-    a[at] = (v % 256) as u8;
-    a[at + 1] = (v / 256 % 256) as u8;
-}
-
-fn get2(a: &[u8], at: usize) -> usize
-    requires { ⌜ at + 2 ≤ length (now a) ⌝ }
-    ensures { λ r. ⌜ (r ≡ num 2 (now (a .entry)) at) × (r < 65536) ⌝ }
-{
-    (a[at] as usize) + 256 * (a[at + 1] as usize)
-}
-
-// Numbers of two bytes each, one after the other.
-fn put_words(a: &mut [u8], at: usize, ws: &[usize])
-    requires { ⌜ at + length (now ws) * 2 ≤ length (now a) ⌝ }
-    ensures { λ _. ⌜ now (a .exit) ≡ over (now (a .entry)) at (pairs (now (ws .entry))) ⌝ }
-{
-    let mut i: usize = 0;
-    let mut p = at;
-    while i < ws.len() {
-        put2(a, p, ws[i]);
-        p += 2;
-        i += 1;
-    }
-}
-
-// One row more in the table at base.
-fn push_words(area: &mut [u8], base: usize, cap: usize, ws: &[usize]) -> Pushed
-    requires { ⌜ base + (2 + cap * (length (now ws) * 2)) ≤ length (now area) ⌝ }
-    ensures { λ r. ⌜ r ≡ told (now (area .entry)) base cap ⌝ }
-    ensures { λ r. ⌜ now (area .exit) ≡ grown (now (area .entry)) base cap (pairs (now (ws .entry))) ⌝ }
-{
-    let n = get2(area, base);
-    if cap <= n {
-        return Pushed::Full;
-    }
-    let at = base + (2 + n * (ws.len() * 2));
-    put_words(area, at, ws);
-    put2(area, base, n + 1);
-    Pushed::Stored
-}
-
 // All of the area zero; what stands behind it stays.
 pub fn clear(area: &mut [u8])
     requires { ⌜ size ≤ length (now area) ⌝ }
@@ -121,14 +75,6 @@ pub fn clear(area: &mut [u8])
         area[i] = 0;
         i += 1;
     }
-}
-
-// Whether the mark at a place says present.
-fn marked(area: &[u8], at: usize) -> bool
-    requires { ⌜ at + 2 ≤ length (now area) ⌝ }
-    ensures { λ r. ⌜ r ≡ eqb (num 2 (now (area .entry)) at) 1 ⌝ }
-{
-    get2(area, at) == 1
 }
 
 // Numbers of two bytes each, over the latest media's row from byte off on; nothing where there is no media.

@@ -14,9 +14,9 @@ use Rattle.sdp_lines.specs.declared.Form.{Form}
 use Rattle.sdp_lines.specs.declared.Form.the-variants.{Blank, Good, Bad}
 use Rattle.sdp_lines.proofs.LineLaws.{good-form}
 use Rattle.sdp_area.specs.Session.{Session, empty}
-use Rattle.sdp_step.specs.Roles.{roleAt}
+use Rattle.sdp_roles.specs.Roles.{roleAt}
 use Rattle.sdp_step.specs.Step.{Reading, Stepped, goes, stops, fresh}
-use Rattle.sdp_step.specs.declared.Role.{Role}
+use Rattle.sdp_roles.specs.declared.Role.{Role}
 use Rattle.sdp_read.specs.Run
 use Rattle.sdp_read.specs.Run.{Verdict, accepted, refused, after, stepForm, run, isZero, beginForm, begin, lines}
 use Rattle.sdp_row.specs.Written

@@ -8,25 +8,25 @@ use lib.ListN.{length, take, drop, length-take, length-drop, length-append}
 use lib.Dec.{eqb}
 use Rattle.sdp_bytes.specs.Runs
 use Rattle.sdp_bytes.specs.Runs.{indexOf}
-use Rattle.sdp_bytes.specs.Utf8.{isUtf8}
+use Rattle.sdp_utf8.specs.Utf8.{isUtf8}
 use Rattle.sdp_bytes.specs.Token.{isToken}
-use Rattle.sdp_bytes.specs.Number.{wholeNumber, typedTime}
-use Rattle.sdp_bytes.specs.declared.number.Number.{Number}
-use Rattle.sdp_bytes.specs.declared.number.Number.the-variants.{Value, Encoding, Format}
+use Rattle.sdp_number.specs.Number.{wholeNumber, typedTime}
+use Rattle.sdp_number.specs.declared.Number.{Number}
+use Rattle.sdp_number.specs.declared.Number.the-variants.{Value, Encoding, Format}
 use Rattle.sdp_bytes.proofs.ScanLaws.{index-le}
-use Rattle.sdp_fields.specs.Split
-use Rattle.sdp_fields.specs.Split.{part, pieceFrom, wordAt, firstPiece, pieceAfter, restAfter, wordsFrom, words}
-use Rattle.sdp_fields.specs.Read.{Read, encoding, format, textOf, tokenOf, amountOf, numberOf, timeOf, choiceOf, absent, afterText, afterAmount, afterChoice, ending}
-use Rattle.sdp_fields.specs.declared.Piece.{Piece}
-use Rattle.sdp_fields.specs.declared.MaybePiece.{MaybePiece}
-use Rattle.sdp_fields.specs.declared.Wrong.{Wrong}
-use Rattle.sdp_fields.specs.declared.Field.{Field}
-use Rattle.sdp_fields.specs.declared.Field.the-variants as field
-use Rattle.sdp_fields.specs.declared.Text.the-variants as text
-use Rattle.sdp_fields.specs.declared.Choice.the-variants as choice
-use Rattle.sdp_fields.proofs.SplitLaws.{chosen}
+use Rattle.sdp_split.specs.Split
+use Rattle.sdp_split.specs.Split.{part, pieceFrom, wordAt, firstPiece, pieceAfter, restAfter, wordsFrom, words}
+use Rattle.sdp_judge.specs.Read.{Read, encoding, format, textOf, tokenOf, amountOf, numberOf, timeOf, choiceOf, absent, afterText, afterAmount, afterChoice, ending}
+use Rattle.sdp_split.specs.declared.Piece.{Piece}
+use Rattle.sdp_judge.specs.declared.MaybePiece.{MaybePiece}
+use Rattle.sdp_judge.specs.declared.Wrong.{Wrong}
+use Rattle.sdp_split.specs.declared.Field.{Field}
+use Rattle.sdp_split.specs.declared.Field.the-variants as field
+use Rattle.sdp_judge.specs.declared.Text.the-variants as text
+use Rattle.sdp_judge.specs.declared.Choice.the-variants as choice
+use Rattle.sdp_split.proofs.SplitLaws.{chosen}
 use Rattle.sdp_fields.proofs.WordLaws.{word-next}
-use Rattle.sdp_fields.proofs.ReadLaws.{Every, never}
+use Rattle.sdp_judge.proofs.ReadLaws.{Every, never}
 use Rattle.sdp_put.specs.Digits.{digits, timeText}
 use Rattle.sdp_put.specs.Strings
 use Rattle.sdp_put.specs.Strings.{kept, clean}

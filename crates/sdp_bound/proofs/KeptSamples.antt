@@ -6,7 +6,7 @@ use lib.ListN.{length}
 use Rattle.sdp_bytes.specs.Runs
 use Rattle.sdp_lines.specs.Lines
 use Rattle.sdp_area.specs.Session.{empty}
-use Rattle.sdp_step.specs.Roles
+use Rattle.sdp_roles.specs.Roles
 use Rattle.sdp_read.specs.Run
 use Rattle.sdp_read.specs.Run.{accepted, lines}
 use Rattle.sdp_row.specs.Written

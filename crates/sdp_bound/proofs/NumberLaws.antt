@@ -9,15 +9,15 @@ use lib.ListN.{length, getD, take, drop, length-append, length-take, length-drop
 use lib.Dec.{ltb, leb, eqb, lit<}
 use borrow.Author.Tests.{ltb-true, ltb-false, leb-true, eqb-true, eqb-false, le-leb, lt-leb}
 use Rattle.sdp_bytes.specs.Token.{digit}
-use Rattle.sdp_bytes.specs.Utf8.{isUtf8}
-use Rattle.sdp_bytes.specs.Number
-use Rattle.sdp_bytes.specs.Number.{allDigits, value, digitsBelow, dropPlus, wholeNumber, scaled, typedTime}
-use Rattle.sdp_bytes.specs.declared.number.Number.{Number}
-use Rattle.sdp_bytes.specs.declared.number.Number.the-variants.{Value, Encoding, Format}
+use Rattle.sdp_utf8.specs.Utf8.{isUtf8}
+use Rattle.sdp_number.specs.Number
+use Rattle.sdp_number.specs.Number.{allDigits, value, digitsBelow, dropPlus, wholeNumber, scaled, typedTime}
+use Rattle.sdp_number.specs.declared.Number.{Number}
+use Rattle.sdp_number.specs.declared.Number.the-variants.{Value, Encoding, Format}
 use Rattle.sdp_bytes.proofs.ScanLaws.{and-left, and-right}
 use Rattle.sdp_fields.specs.Records
-use Rattle.sdp_fields.specs.Records.{negated, signedOf, offsetOf}
-use Rattle.sdp_fields.specs.Read.{got, refused}
+use Rattle.sdp_judge.specs.Offset.{negated, signedOf, offsetOf}
+use Rattle.sdp_judge.specs.Read.{got, refused}
 use Rattle.sdp_put.specs.Digits.{digits, timeText}
 use Rattle.sdp_put.proofs.DigitLaws.{digits-one, digits-more, time-zero, time-day, time-hour, time-minute, time-plain, offset-minus, offset-plain}
 use Rattle.sdp_row.specs.Written.{signedText}

@@ -9,17 +9,18 @@ use lib.ListN.{length, getD, take, drop, length-take, length-drop, length-append
 use lib.Dec.{ltb, eqb}
 use borrow.Author.Tests.{ltb-true, ne-eqb}
 use Rattle.sdp_bytes.specs.Runs.{indexOf}
-use Rattle.sdp_bytes.specs.Utf8.{isUtf8}
-use Rattle.sdp_bytes.specs.Number.{wholeNumber, typedTime}
-use Rattle.sdp_bytes.specs.declared.number.Number.{Number}
-use Rattle.sdp_bytes.specs.declared.number.Number.the-variants.{Value, Encoding, Format}
-use Rattle.sdp_fields.specs.Split.{part, wordAt, firstPiece, pieceAfter, restAfter, words}
-use Rattle.sdp_fields.specs.Read.{Read, got, refused, andThen}
+use Rattle.sdp_utf8.specs.Utf8.{isUtf8}
+use Rattle.sdp_number.specs.Number.{wholeNumber, typedTime}
+use Rattle.sdp_number.specs.declared.Number.{Number}
+use Rattle.sdp_number.specs.declared.Number.the-variants.{Value, Encoding, Format}
+use Rattle.sdp_split.specs.Split.{part, wordAt, firstPiece, pieceAfter, restAfter, words}
+use Rattle.sdp_judge.specs.Read.{Read, got, refused, andThen, wholeOf}
 use Rattle.sdp_fields.specs.Records
-use Rattle.sdp_fields.specs.Records.{wholeOf, usernameOf, originOf, connectionOf, bandwidthOf, timesOf, pairOf, portNumber, portOf, afterPort, mediaOf, repeatHead, offsetOf}
+use Rattle.sdp_fields.specs.Records.{usernameOf, originOf, connectionOf, bandwidthOf, timesOf, pairOf, portNumber, portOf, afterPort, mediaOf, repeatHead}
+use Rattle.sdp_judge.specs.Offset.{offsetOf}
 use Rattle.sdp_fields.specs.Lists
 use Rattle.sdp_fields.specs.Lists.{numbered, RepeatLine, offsetsOf, repeatOf, pairsOf, zonesOf}
-use Rattle.sdp_fields.specs.declared.Piece.{Piece}
+use Rattle.sdp_split.specs.declared.Piece.{Piece}
 use Rattle.sdp_fields.specs.declared.Origin.{Origin}
 use Rattle.sdp_fields.specs.declared.Connection.{Connection}
 use Rattle.sdp_fields.specs.declared.Bandwidth.{Bandwidth}
@@ -29,9 +30,9 @@ use Rattle.sdp_fields.specs.declared.Port.{Port}
 use Rattle.sdp_fields.specs.declared.Media.{Media}
 use Rattle.sdp_fields.specs.declared.RepeatHead.{RepeatHead}
 use Rattle.sdp_fields.specs.declared.Zone.{Zone}
-use Rattle.sdp_fields.specs.declared.Field.{Field}
-use Rattle.sdp_fields.specs.declared.Field.the-variants as field
-use Rattle.sdp_fields.proofs.ReadLaws.{Every, every-got, never}
+use Rattle.sdp_split.specs.declared.Field.{Field}
+use Rattle.sdp_split.specs.declared.Field.the-variants as field
+use Rattle.sdp_judge.proofs.ReadLaws.{Every, every-got, never}
 use Rattle.sdp_step.specs.Step.{maybeIn, originIn, connectionIn, bandwidthIn, mediaIn, timeIn, zoneIn}
 use Rattle.sdp_put.specs.Digits.{digits, timeText}
 use Rattle.sdp_put.specs.Strings.{clean}

@@ -6,17 +6,17 @@ use Prim.Native.Nat.{ℕ, _+_, _≤_}
 use native.Mathlib.Omega.{arith}
 use lib.ListN.{length, length-append}
 use lib.Dec.{ltb, leb, eqb}
-use Rattle.sdp_fields.specs.Split.{part}
-use Rattle.sdp_fields.specs.Read.{Read, got, refused}
-use Rattle.sdp_fields.specs.Records.{wholeOf, originOf, connectionOf, bandwidthOf, timesOf, pairOf, mediaOf}
+use Rattle.sdp_split.specs.Split.{part}
+use Rattle.sdp_judge.specs.Read.{Read, got, refused, wholeOf}
+use Rattle.sdp_fields.specs.Records.{originOf, connectionOf, bandwidthOf, timesOf, pairOf, mediaOf}
 use Rattle.sdp_fields.specs.Lists.{RepeatLine, repeatOf, zonesOf}
 use Rattle.sdp_area.specs.Session.{Key, Time, Media, Offset}
 use Rattle.sdp_area.specs.With.{titled, keyed}
 use Rattle.sdp_area.specs.Latest.{given, lastTitled, lastKeyed}
 use Rattle.sdp_step.specs.Step
 use Rattle.sdp_step.specs.Step.{Reading, Stepped, goes, stops, once, row, bandwidthIn, attributeIn, mediaConnectionIn, mediaIn, keyIn, timeIn, repeated, stepRole}
-use Rattle.sdp_step.specs.declared.Role.{Role}
-use Rattle.sdp_step.specs.declared.Role.the-variants as role
+use Rattle.sdp_roles.specs.declared.Role.{Role}
+use Rattle.sdp_roles.specs.declared.Role.the-variants as role
 use Rattle.sdp_step.proofs.OnceLaws.{length-last}
 use Rattle.sdp_row.specs.Written
 use Rattle.sdp_row.specs.Written.{stringLine, keyLine, mediaLine}

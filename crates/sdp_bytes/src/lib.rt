@@ -1,5 +1,3 @@
-// Document 01, module 1: the UTF-8 test, the token test, whole numbers and typed times.
-pub mod number;
+// Document 01, module 1: the token test, and the index of a byte. sdp_utf8 and sdp_number have the rest of the module.
 pub mod search;
 pub mod token;
-pub mod utf8;

@@ -7,8 +7,8 @@ use native.Mathlib.Omega.{arith}
 use lib.ListN.{length, getD, List·getD-eq-default}
 use mathlib.Core.Option.{Option, none, some}
 use borrow.Author.Tests.{ne-eqb}
-use Rattle.sdp_area.specs.Bytes as bytes
-use Rattle.sdp_area.specs.Bytes.{num}
+use Rattle.sdp_cells.specs.Bytes as bytes
+use Rattle.sdp_cells.specs.Bytes.{num}
 use Rattle.sdp_decode.specs.Rows.{marked}
 
 num-cong : (k : ℕ) (a : List ℕ) {i j : ℕ} → i ≡ j → num k a i ≡ num k a j

@@ -4,7 +4,7 @@ use mathlib.Core.Bool.{cond}
 use mathlib.Core.Option.{Option, none, some}
 use Prim.Native.Nat.{ℕ, zero, suc, _+_}
 use lib.Dec.{eqb}
-use Rattle.sdp_area.specs.Bytes.{num}
+use Rattle.sdp_cells.specs.Bytes.{num}
 
 -- n rows of w bytes each, from place p on
 unfoldable pub rowsAt : {X : Type 0} → (List ℕ → ℕ → X) → ℕ → ℕ → List ℕ → ℕ → List X

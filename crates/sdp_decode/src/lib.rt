@@ -2,7 +2,7 @@
 ghost use mathlib.Core.Path.{_≡_};
 ghost use Prim.Native.Nat.{_<_};
 ghost use lib.ListN.{getD};
-ghost use Rattle.sdp_area.specs.Bytes.{num};
+ghost use Rattle.sdp_cells.specs.Bytes.{num};
 
 fn byte_at(a: &[u8], at: usize) -> usize
     ensures { λ r. ⌜ (r ≡ getD (now (a .entry)) at 0) × (r < 256) ⌝ }

@@ -9,30 +9,29 @@ use borrow.Author.Tests.{ltb-true}
 use lib.Dec.{ltb, eqb}
 use lib.ListN.{length, getD, take, drop}
 use Rattle.sdp_bytes.specs.Runs.{indexOf}
-use Rattle.sdp_bytes.specs.Utf8.{isUtf8}
-use Rattle.sdp_bytes.specs.Number.{allDigits, value, digitsBelow, dropPlus, numeral, wholeNumber}
-use Rattle.sdp_bytes.specs.declared.number.Number.{Number}
-use Rattle.sdp_bytes.specs.declared.number.Number.the-variants.{Value, Encoding, Format}
+use Rattle.sdp_utf8.specs.Utf8.{isUtf8}
+use Rattle.sdp_number.specs.Number.{allDigits, value, digitsBelow, dropPlus, numeral, wholeNumber}
+use Rattle.sdp_number.specs.declared.Number.{Number}
+use Rattle.sdp_number.specs.declared.Number.the-variants.{Value, Encoding, Format}
 use Rattle.sdp_bytes.proofs.ScanLaws.{and-right}
-use Rattle.sdp_fields.specs.Split.{part, wordAt, firstPiece, pieceAfter, restAfter}
-use Rattle.sdp_fields.specs.Read.{Read, got, refused, andThen, textOf, tokenOf, numberOf, choiceOf, absent, afterText, afterChoice, ending}
-use Rattle.sdp_fields.specs.Records.{wholeOf, usernameOf, originOf, connectionOf, bandwidthOf, pairOf, portNumber, portOf, afterPort, mediaOf}
-use Rattle.sdp_fields.specs.Answers.{Inside, Within}
-use Rattle.sdp_fields.specs.declared.Piece.{Piece}
-use Rattle.sdp_fields.specs.declared.MaybePiece.{MaybePiece}
+use Rattle.sdp_split.specs.Split.{part, wordAt, firstPiece, pieceAfter, restAfter, Inside, Within}
+use Rattle.sdp_judge.specs.Read.{Read, got, refused, andThen, textOf, tokenOf, numberOf, choiceOf, absent, afterText, afterChoice, ending, wholeOf}
+use Rattle.sdp_fields.specs.Records.{usernameOf, addressOf, originOf, connectionOf, bandwidthOf, pairOf, portNumber, portOf, afterPort, mediaOf}
+use Rattle.sdp_split.specs.declared.Piece.{Piece}
+use Rattle.sdp_judge.specs.declared.MaybePiece.{MaybePiece}
 use Rattle.sdp_fields.specs.declared.Origin.{Origin}
 use Rattle.sdp_fields.specs.declared.Connection.{Connection}
 use Rattle.sdp_fields.specs.declared.Bandwidth.{Bandwidth}
 use Rattle.sdp_fields.specs.declared.Pair.{Pair}
 use Rattle.sdp_fields.specs.declared.Port.{Port}
 use Rattle.sdp_fields.specs.declared.Media.{Media}
-use Rattle.sdp_fields.specs.declared.Field.{Field}
-use Rattle.sdp_fields.specs.declared.Field.the-variants as field
-use Rattle.sdp_fields.specs.declared.Text.{Text}
-use Rattle.sdp_fields.specs.declared.Text.the-variants as text
-use Rattle.sdp_fields.specs.declared.Choice.the-variants as choice
-use Rattle.sdp_fields.proofs.SplitLaws.{word-within, first-within, after-within, rest-within}
-use Rattle.sdp_fields.proofs.ReadLaws.{text-within, token-within, Every, every-got, never, every-amount}
+use Rattle.sdp_split.specs.declared.Field.{Field}
+use Rattle.sdp_split.specs.declared.Field.the-variants as field
+use Rattle.sdp_judge.specs.declared.Text.{Text}
+use Rattle.sdp_judge.specs.declared.Text.the-variants as text
+use Rattle.sdp_judge.specs.declared.Choice.the-variants as choice
+use Rattle.sdp_split.proofs.SplitLaws.{word-within, first-within, after-within, rest-within}
+use Rattle.sdp_judge.proofs.ReadLaws.{text-within, token-within, Every, every-got, never, every-amount}
 
 -- ---- each field on the way to a record
 module _ {A : Type 0} (P : A → Type 0) where
@@ -59,6 +58,10 @@ module _ {A : Type 0} (P : A → Type 0) where
   every-end w (field.Got p e) r h = never _ _
   every-end w field.Nothing r h = h
 
+  every-then : {B : Type 0} (r : Read B) (k : B → Read A) → ((b : B) → r ≡ got b → Every P (k b)) → Every P (andThen r k)
+  every-then (got b) k h = h b refl
+  every-then (refused x) k h = never P x
+
   every-cond : (b : Bool) (r s : Read A) → Every P r → Every P s → Every P (cond b r s)
   every-cond true r s h k = h
   every-cond false r s h k = k
@@ -69,13 +72,17 @@ pub record ConnectionInside (v : List ℕ) (c : Connection) : Type 0 where
   pub addrtype : Inside v (c .addrtype)
   pub address : Inside v (c .«connection_address»)
 
+address-within : (w : ℕ) (v : List ℕ) (i : ℕ) (c : Connection) → addressOf w v i ≡ got c → ConnectionInside v c
+unfolding addressOf
+address-within w v i =
+    every-token _ w v (wordAt v i) (word-within v i) _ (λ net i n.
+    every-token _ (w + 1) v (wordAt v i) (word-within v i) _ (λ kind j k.
+    every-text _ (w + 2) v (wordAt v j) (word-within v j) _ (λ address e a.
+    every-end _ (w + 3) (wordAt v e) _ (every-got _ _ (record { nettype = n; addrtype = k; address = a })))))
+
 pub connection-within : (v : List ℕ) (c : Connection) → connectionOf v ≡ got c → ConnectionInside v c
 unfolding connectionOf
-connection-within v =
-    every-token _ 8 v (wordAt v 0) (word-within v 0) _ (λ net i n.
-    every-token _ 9 v (wordAt v i) (word-within v i) _ (λ kind j k.
-    every-text _ 10 v (wordAt v j) (word-within v j) _ (λ address e a.
-    every-end _ 11 (wordAt v e) _ (every-got _ _ (record { nettype = n; addrtype = k; address = a })))))
+connection-within v = address-within 8 v 0
 
 pub record OriginInside (v : List ℕ) (o : Origin) : Type 0 where
   pub username : Inside v (o .username .piece)
@@ -97,11 +104,9 @@ origin-within v =
     every-text _ 1 v (wordAt v 0) (word-within v 0) _ (λ user i u.
     every-text _ 2 v (wordAt v i) (word-within v i) _ (λ id j d.
     every-amount _ (numberOf 3 v (wordAt v j)) _ (λ version l q.
-    every-token _ 4 v (wordAt v l) (word-within v l) _ (λ net m n.
-    every-token _ 5 v (wordAt v m) (word-within v m) _ (λ kind o k.
-    every-text _ 6 v (wordAt v o) (word-within v o) _ (λ address e a.
-    every-end _ 7 (wordAt v e) _
-    (every-got _ _ (record { username = username-inside v user u; id = d; nettype = n; addrtype = k; address = a }))))))))
+    every-then _ (addressOf 4 v l) _ (λ c q.
+    let h = address-within 4 v l c q in
+    every-got _ _ (record { username = username-inside v user u; id = d; nettype = h .nettype; addrtype = h .addrtype; address = h .address })))))
 
 -- ---- the records of pieces
 pub whole-within : (w : ℕ) (v : List ℕ) (p : Piece) → wholeOf w v ≡ got p → Inside v p

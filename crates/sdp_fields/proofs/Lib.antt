@@ -1,5 +1,3 @@
-pub mod SplitLaws
-pub mod ReadLaws
 pub mod PortLaws
 pub mod OffsetLaws
 pub mod AddressLaws

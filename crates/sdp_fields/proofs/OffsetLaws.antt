@@ -1,42 +1,23 @@
 -- Laws of offsetOf and zoneAt: sign and magnitude, and a pair of the zone line, by what the code tests.
 -- Assumes nothing.
-use Prim.Native.Nat.{ℕ, _+_, _-_, _<_}
+use Prim.Native.Nat.{ℕ, _+_, _-_}
 use mathlib.Core.Path.{_≡_, sym, ap, _∙_}
-use mathlib.Core.Bool.{true, false, and-false}
 use mathlib.Core.List.{List}
-use borrow.Author.Tests.{lt-ltb, le-ltb, eq-eqb, ne-eqb}
-use native.Mathlib.Omega.{arith}
-use lib.ListN.{length, getD, take, drop}
-use Rattle.sdp_bytes.specs.Number.{typedTime}
-use Rattle.sdp_bytes.specs.declared.number.Number.{Number}
-use Rattle.sdp_bytes.proofs.ScanLaws.{rest-from}
-use Rattle.sdp_fields.specs.Split.{part, wordAt}
-use Rattle.sdp_fields.specs.Read.{Read, got, refused, numberOf, timeOf}
-use Rattle.sdp_fields.specs.Records.{signedOf, offsetOf}
-use Rattle.sdp_fields.specs.Answers.{offsetAnswer, zoneDone, zoneSecond, zoneFirst, zoneAt, offsetTaken, offsetAt}
-use Rattle.sdp_fields.proofs.ReadLaws.{judged}
-use Rattle.sdp_fields.specs.declared.Piece.{Piece}
-use Rattle.sdp_fields.specs.declared.Field.{Field}
-use Rattle.sdp_fields.specs.declared.Field.the-variants as field
-use Rattle.sdp_fields.specs.declared.Amount.{Amount}
+use lib.ListN.{take, drop}
+use Rattle.sdp_split.specs.Split.{part, wordAt}
+use Rattle.sdp_judge.specs.Read.{Read, got, refused, numberOf, timeOf}
+use Rattle.sdp_judge.specs.Offset.{offsetOf, offsetAnswer}
+use Rattle.sdp_fields.specs.Answers.{zoneDone, zoneSecond, zoneFirst, zoneAt, offsetTaken, offsetAt}
+use Rattle.sdp_judge.proofs.ReadLaws.{judged}
+use Rattle.sdp_split.specs.declared.Piece.{Piece}
+use Rattle.sdp_split.specs.declared.Field.{Field}
+use Rattle.sdp_split.specs.declared.Field.the-variants as field
+use Rattle.sdp_judge.specs.declared.Amount.{Amount}
 use Rattle.sdp_fields.specs.declared.RepeatOffset.the-variants as offsets
-use Rattle.sdp_fields.specs.declared.OffsetRead.{OffsetRead}
-use Rattle.sdp_fields.specs.declared.OffsetRead.the-variants as offset
+use Rattle.sdp_judge.specs.declared.OffsetRead.{OffsetRead}
+use Rattle.sdp_judge.specs.declared.OffsetRead.the-variants as offset
 use Rattle.sdp_fields.specs.declared.ZoneRead.{ZoneRead}
 use Rattle.sdp_fields.specs.declared.ZoneRead.the-variants.{Got, Done, Refused}
-
-module _ (s : List ℕ) (n : Number) where
-  pub offset-none : n ≡ typedTime s → length s ≡ 0 → signedOf false n ≡ offsetOf s
-  unfolding offsetOf
-  offset-none e h = rw (e, le-ltb 0 (length s) (omega arith))
-
-  pub offset-plain : n ≡ typedTime s → (getD s 0 0 ≡ 0x2d → ⊥) → signedOf false n ≡ offsetOf s
-  unfolding offsetOf
-  offset-plain e h = rw (e, ne-eqb (getD s 0 0) 0x2d h, and-false)
-
-  pub offset-minus : n ≡ typedTime (take (length s - 1) (drop 1 s)) → 0 < length s → getD s 0 0 ≡ 0x2d → signedOf true n ≡ offsetOf s
-  unfolding offsetOf
-  offset-minus e l h = rw (e, rest-from s 1, lt-ltb 0 (length s) l, eq-eqb (getD s 0 0) 0x2d h)
 
 -- the code's answer with the adjustment time and the field's end
 abbrev ended : ℕ → ℕ → OffsetRead → ZoneRead

@@ -7,18 +7,18 @@ use mathlib.Core.List.{List}
 use borrow.Author.Tests.{lt-ltb}
 use lib.ListN.{length, take, drop}
 use Rattle.sdp_bytes.specs.Runs.{indexOf}
-use Rattle.sdp_bytes.specs.Utf8.{isUtf8}
-use Rattle.sdp_bytes.specs.Number.{wholeNumber}
-use Rattle.sdp_bytes.specs.declared.number.Number.{Number}
+use Rattle.sdp_utf8.specs.Utf8.{isUtf8}
+use Rattle.sdp_number.specs.Number.{wholeNumber}
+use Rattle.sdp_number.specs.declared.Number.{Number}
 use Rattle.sdp_bytes.proofs.ScanLaws.{rest-from}
-use Rattle.sdp_fields.specs.Split.{part, pieceAfter}
-use Rattle.sdp_fields.specs.Read.{Read, got, refused, andThen}
+use Rattle.sdp_split.specs.Split.{part, pieceAfter}
+use Rattle.sdp_judge.specs.Read.{Read, got, refused, andThen}
 use Rattle.sdp_fields.specs.Records.{portNumber, numPorts, portOf, afterPort}
 use Rattle.sdp_fields.specs.Answers.{portAnswer, withEnd, portField}
-use Rattle.sdp_fields.proofs.ReadLaws.{judged}
-use Rattle.sdp_fields.specs.declared.Piece.{Piece}
-use Rattle.sdp_fields.specs.declared.Field.{Field}
-use Rattle.sdp_fields.specs.declared.Field.the-variants as field
+use Rattle.sdp_judge.proofs.ReadLaws.{judged}
+use Rattle.sdp_split.specs.declared.Piece.{Piece}
+use Rattle.sdp_split.specs.declared.Field.{Field}
+use Rattle.sdp_split.specs.declared.Field.the-variants as field
 use Rattle.sdp_fields.specs.declared.Port.{Port}
 use Rattle.sdp_fields.specs.declared.PortRead.{PortRead}
 use Rattle.sdp_fields.specs.declared.PortRead.the-variants as port

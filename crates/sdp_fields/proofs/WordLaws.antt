@@ -10,27 +10,28 @@ use lib.Dec.{ltb, eqb}
 use lib.ListN.{length, take, drop, length-drop}
 use lib.Seq.{drop-drop}
 use Rattle.sdp_bytes.specs.Runs.{indexOf}
-use Rattle.sdp_bytes.specs.Number.{wholeNumber, typedTime}
-use Rattle.sdp_bytes.specs.declared.number.Number.{Number}
-use Rattle.sdp_bytes.specs.declared.number.Number.the-variants.{Value, Encoding, Format}
+use Rattle.sdp_number.specs.Number.{wholeNumber, typedTime}
+use Rattle.sdp_number.specs.declared.Number.{Number}
+use Rattle.sdp_number.specs.declared.Number.the-variants.{Value, Encoding, Format}
 use Rattle.sdp_bytes.proofs.ScanLaws.{index-le}
-use Rattle.sdp_fields.specs.Split.{part, spaces, pieceFrom, wordAt, wordsFrom, words}
-use Rattle.sdp_fields.specs.Read.{Read, got, refused, andThen, missing, amountOf, timeOf}
-use Rattle.sdp_fields.specs.Records.{repeatHead, offsetOf}
+use Rattle.sdp_split.specs.Split.{part, spaces, pieceFrom, wordAt, wordsFrom, words}
+use Rattle.sdp_judge.specs.Read.{Read, got, refused, andThen, missing, amountOf, timeOf}
+use Rattle.sdp_fields.specs.Records.{repeatHead}
+use Rattle.sdp_judge.specs.Offset.{offsetOf}
 use Rattle.sdp_fields.specs.Lists.{numbered, offsetsOf, pairsOf}
 use Rattle.sdp_fields.specs.Answers.{offsetTaken, offsetField, offsetAt, zoneDone, zoneSecond, zoneFirst, zoneField, zoneAt}
-use Rattle.sdp_fields.specs.declared.Piece.{Piece}
-use Rattle.sdp_fields.specs.declared.Wrong.{Wrong}
+use Rattle.sdp_split.specs.declared.Piece.{Piece}
+use Rattle.sdp_judge.specs.declared.Wrong.{Wrong}
 use Rattle.sdp_fields.specs.declared.Zone.{Zone}
 use Rattle.sdp_fields.specs.declared.RepeatHead.{RepeatHead}
-use Rattle.sdp_fields.specs.declared.Field.{Field}
-use Rattle.sdp_fields.specs.declared.Field.the-variants as field
+use Rattle.sdp_split.specs.declared.Field.{Field}
+use Rattle.sdp_split.specs.declared.Field.the-variants as field
 use Rattle.sdp_fields.specs.declared.RepeatOffset.{RepeatOffset}
 use Rattle.sdp_fields.specs.declared.RepeatOffset.the-variants as offsets
 use Rattle.sdp_fields.specs.declared.ZoneRead.{ZoneRead}
 use Rattle.sdp_fields.specs.declared.ZoneRead.the-variants as zones
-use Rattle.sdp_fields.proofs.SplitLaws.{chosen, word-within}
-use Rattle.sdp_fields.proofs.ReadLaws.{time-within, every-got, every-amount}
+use Rattle.sdp_split.proofs.SplitLaws.{chosen, word-within}
+use Rattle.sdp_judge.proofs.ReadLaws.{time-within, every-got, every-amount}
 
 -- ---- the words of a list
 -- the bytes of a word that was read already

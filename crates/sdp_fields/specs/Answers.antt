@@ -1,13 +1,11 @@
 -- The answers of the code as the enums that it hands out: a record or the refusal, in the paper's numbers (Wrong).
-use Prim.Native.Nat.{ℕ, _+_, _≤_}
-use mathlib.Core.Path.{_≡_}
+use Prim.Native.Nat.{ℕ}
 use mathlib.Core.List.{List}
-use lib.ListN.{length}
-use Rattle.sdp_bytes.specs.Number.{wholeNumber, typedTime}
-use Rattle.sdp_fields.specs.Split.{part, wordAt}
-use Rattle.sdp_fields.specs.Read.{Read, got, refused, missing, amountOf}
-use Rattle.sdp_fields.specs.Records.{portOf, offsetOf}
-use Rattle.sdp_fields.specs.declared.Piece.{Piece}
+use Rattle.sdp_number.specs.Number.{wholeNumber, typedTime}
+use Rattle.sdp_split.specs.Split.{part, wordAt}
+use Rattle.sdp_judge.specs.Read.{Read, got, refused, missing, amountOf}
+use Rattle.sdp_fields.specs.Records.{portOf}
+use Rattle.sdp_judge.specs.Offset.{offsetOf}
 use Rattle.sdp_fields.specs.declared.Origin.{Origin}
 use Rattle.sdp_fields.specs.declared.Connection.{Connection}
 use Rattle.sdp_fields.specs.declared.Bandwidth.{Bandwidth}
@@ -16,10 +14,8 @@ use Rattle.sdp_fields.specs.declared.Pair.{Pair}
 use Rattle.sdp_fields.specs.declared.Port.{Port}
 use Rattle.sdp_fields.specs.declared.Media.{Media}
 use Rattle.sdp_fields.specs.declared.RepeatHead.{RepeatHead}
-use Rattle.sdp_fields.specs.declared.Field.{Field}
-use Rattle.sdp_fields.specs.declared.Amount.{Amount}
-use Rattle.sdp_fields.specs.declared.WholeRead.{WholeRead}
-use Rattle.sdp_fields.specs.declared.WholeRead.the-variants as whole
+use Rattle.sdp_split.specs.declared.Field.{Field}
+use Rattle.sdp_judge.specs.declared.Amount.{Amount}
 use Rattle.sdp_fields.specs.declared.OriginRead.{OriginRead}
 use Rattle.sdp_fields.specs.declared.OriginRead.the-variants as origin
 use Rattle.sdp_fields.specs.declared.ConnectionRead.{ConnectionRead}
@@ -36,21 +32,14 @@ use Rattle.sdp_fields.specs.declared.MediaRead.{MediaRead}
 use Rattle.sdp_fields.specs.declared.MediaRead.the-variants as media
 use Rattle.sdp_fields.specs.declared.RepeatRead.{RepeatRead}
 use Rattle.sdp_fields.specs.declared.RepeatRead.the-variants as repeat
-use Rattle.sdp_fields.specs.declared.OffsetRead.{OffsetRead}
-use Rattle.sdp_fields.specs.declared.OffsetRead.the-variants as offset
 use Rattle.sdp_fields.specs.declared.PortField.{PortField}
 use Rattle.sdp_fields.specs.declared.PortField.the-variants as portfield
 use Rattle.sdp_fields.specs.declared.RepeatOffset.{RepeatOffset}
 use Rattle.sdp_fields.specs.declared.RepeatOffset.the-variants as offsets
 use Rattle.sdp_fields.specs.declared.ZoneRead.{ZoneRead}
 use Rattle.sdp_fields.specs.declared.ZoneRead.the-variants.{Got, Done, Refused}
-use Rattle.sdp_fields.specs.declared.Field.the-variants as field
-use Rattle.sdp_fields.specs.declared.Amount.the-variants as amount
-
--- whole
-abbrev pub wholeAnswer : Read Piece → WholeRead
-wholeAnswer (got x) = whole.Got x
-wholeAnswer (refused w) = whole.Refused w
+use Rattle.sdp_split.specs.declared.Field.the-variants as field
+use Rattle.sdp_judge.specs.declared.Amount.the-variants as amount
 
 -- origin
 abbrev pub originAnswer : Read Origin → OriginRead
@@ -91,11 +80,6 @@ mediaAnswer (refused w) = media.Refused w
 abbrev pub repeatAnswer : Read RepeatHead → RepeatRead
 repeatAnswer (got x) = repeat.Got x
 repeatAnswer (refused w) = repeat.Refused w
-
--- offset
-abbrev pub offsetAnswer : Read ℕ → OffsetRead
-offsetAnswer (got x) = offset.Got x
-offsetAnswer (refused w) = offset.Refused w
 
 -- a pair of the z line whose offset was judged
 abbrev pub zoneDone : ℕ → ℕ → Read ℕ → ZoneRead
@@ -144,12 +128,3 @@ withEnd e (refused w) = portfield.Refused w
 abbrev pub portField : List ℕ → Field → PortField
 portField v field.Nothing = portfield.Refused (missing 28)
 portField v (field.Got p e) = withEnd e (portOf (part v p))
-
--- ---- what the private readers ask
--- a piece lies within the value
-abbrev pub Inside : List ℕ → Piece → Type 0
-Inside v p = p .at + p .len ≤ length v
-
--- a field, if there is one, lies within the value: its piece and its end
-abbrev pub Within : List ℕ → Field → Type 0
-Within v f = (p : Piece) (e : ℕ) → f ≡ field.Got p e → Inside v p × (e ≤ length v)

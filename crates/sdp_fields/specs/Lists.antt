@@ -2,12 +2,13 @@
 use Prim.Native.Nat.{ℕ}
 use mathlib.Core.List.{List, [], _∷_}
 use lib.ListN.{drop}
-use Rattle.sdp_bytes.specs.Number.{wholeNumber, typedTime}
-use Rattle.sdp_bytes.specs.declared.number.Number.{Number}
-use Rattle.sdp_bytes.specs.declared.number.Number.the-variants.{Value, Encoding, Format}
-use Rattle.sdp_fields.specs.Split.{words}
-use Rattle.sdp_fields.specs.Read.{Read, got, refused, andThen, encoding, format, missing}
-use Rattle.sdp_fields.specs.Records.{repeatHead, offsetOf}
+use Rattle.sdp_number.specs.Number.{wholeNumber, typedTime}
+use Rattle.sdp_number.specs.declared.Number.{Number}
+use Rattle.sdp_number.specs.declared.Number.the-variants.{Value, Encoding, Format}
+use Rattle.sdp_split.specs.Split.{words}
+use Rattle.sdp_judge.specs.Read.{Read, got, refused, andThen, encoding, format, missing}
+use Rattle.sdp_fields.specs.Records.{repeatHead}
+use Rattle.sdp_judge.specs.Offset.{offsetOf}
 use Rattle.sdp_fields.specs.declared.Zone.{Zone}
 
 -- a number of field w

@@ -1,21 +1,21 @@
 -- Document 01, "Fields": one reader for each record. "Fields are judged left to right".
-use Prim.Native.Nat.{ℕ, _+_, _-_, _^_}
-use mathlib.Core.Bool.{Bool, true, false, _&&_, cond}
+use Prim.Native.Nat.{ℕ, _+_, _-_}
+use mathlib.Core.Bool.{true, false, _&&_, cond}
 use mathlib.Core.List.{List}
 use lib.ListN.{length, getD, take, drop}
-use lib.Dec.{ltb, leb, eqb}
+use lib.Dec.{ltb, eqb}
 use Rattle.sdp_bytes.specs.Runs.{indexOf}
-use Rattle.sdp_bytes.specs.Utf8.{isUtf8}
-use Rattle.sdp_bytes.specs.Number.{wholeNumber, typedTime}
-use Rattle.sdp_bytes.specs.declared.number.Number.{Number}
-use Rattle.sdp_bytes.specs.declared.number.Number.the-variants.{Value, Encoding, Format}
-use Rattle.sdp_fields.specs.Split.{part, wordAt, firstPiece, pieceAfter, restAfter}
-use Rattle.sdp_fields.specs.Read.{Read, got, refused, encoding, format, missing, textOf, tokenOf, numberOf, timeOf, choiceOf, afterText, afterAmount, afterChoice, ending, andThen}
-use Rattle.sdp_fields.specs.declared.Piece.{Piece}
-use Rattle.sdp_fields.specs.declared.MaybePiece.{MaybePiece}
+use Rattle.sdp_utf8.specs.Utf8.{isUtf8}
+use Rattle.sdp_number.specs.Number.{wholeNumber}
+use Rattle.sdp_number.specs.declared.Number.{Number}
+use Rattle.sdp_number.specs.declared.Number.the-variants.{Value, Encoding, Format}
+use Rattle.sdp_split.specs.Split.{part, wordAt, firstPiece, pieceAfter, restAfter}
+use Rattle.sdp_judge.specs.Read.{Read, got, refused, encoding, format, missing, textOf, tokenOf, numberOf, timeOf, choiceOf, afterText, afterAmount, afterChoice, ending, andThen}
+use Rattle.sdp_split.specs.declared.Piece.{Piece}
+use Rattle.sdp_judge.specs.declared.MaybePiece.{MaybePiece}
 use Rattle.sdp_fields.specs.declared.MaybeNumber.{MaybeNumber}
-use Rattle.sdp_fields.specs.declared.Field.{Field}
-use Rattle.sdp_fields.specs.declared.Field.the-variants as field
+use Rattle.sdp_split.specs.declared.Field.{Field}
+use Rattle.sdp_split.specs.declared.Field.the-variants as field
 use Rattle.sdp_fields.specs.declared.Origin.{Origin}
 use Rattle.sdp_fields.specs.declared.Connection.{Connection}
 use Rattle.sdp_fields.specs.declared.Bandwidth.{Bandwidth}
@@ -25,37 +25,12 @@ use Rattle.sdp_fields.specs.declared.Port.{Port}
 use Rattle.sdp_fields.specs.declared.Media.{Media}
 use Rattle.sdp_fields.specs.declared.RepeatHead.{RepeatHead}
 
--- the whole value as one string of field w: s, i, u, e, p
-unfoldable pub wholeOf : ℕ → List ℕ → Read Piece
-wholeOf w v = cond (isUtf8 v) (got (record { at = 0; len = length v })) (refused (encoding w))
-
 -- "Username `-` means absent"
 abbrev pub usernameOf : List ℕ → Piece → MaybePiece
 usernameOf v p =
     cond (eqb (p .len) 1 && eqb (getD v (p .at) 0) 0x2d)
     (record { there = false; piece = record { at = 0; len = 0 } })
     (record { there = true; piece = p })
-
--- "o: username, sess-id, version number, nettype, addrtype, address"
-unfoldable pub originOf : List ℕ → Read Origin
-originOf v =
-    afterText (textOf 1 v (wordAt v 0)) (λ user e.
-    afterText (textOf 2 v (wordAt v e)) (λ id e.
-    afterAmount (numberOf 3 v (wordAt v e)) (λ version e.
-    afterText (tokenOf 4 v (wordAt v e)) (λ net e.
-    afterText (tokenOf 5 v (wordAt v e)) (λ kind e.
-    afterText (textOf 6 v (wordAt v e)) (λ address e.
-    ending 7 (wordAt v e)
-    (got (record { username = usernameOf v user; «sess_id» = id; «sess_version» = version; nettype = net; addrtype = kind; «unicast_address» = address }))))))))
-
--- c: nettype, addrtype, connection-address
-unfoldable pub connectionOf : List ℕ → Read Connection
-connectionOf v =
-    afterText (tokenOf 8 v (wordAt v 0)) (λ net e.
-    afterText (tokenOf 9 v (wordAt v e)) (λ kind e.
-    afterText (textOf 10 v (wordAt v e)) (λ address e.
-    ending 11 (wordAt v e)
-    (got (record { nettype = net; addrtype = kind; «connection_address» = address })))))
 
 -- how o and c end: nettype, addrtype and address from place i on and nothing after them, the fields w, w + 1 and w + 2
 unfoldable pub addressOf : ℕ → List ℕ → ℕ → Read Connection
@@ -65,6 +40,19 @@ addressOf w v i =
     afterText (textOf (w + 2) v (wordAt v e)) (λ address e.
     ending (w + 3) (wordAt v e)
     (got (record { nettype = net; addrtype = kind; «connection_address» = address })))))
+
+-- "o: username, sess-id, version number, nettype, addrtype, address"
+unfoldable pub originOf : List ℕ → Read Origin
+originOf v =
+    afterText (textOf 1 v (wordAt v 0)) (λ user e.
+    afterText (textOf 2 v (wordAt v e)) (λ id e.
+    afterAmount (numberOf 3 v (wordAt v e)) (λ version e.
+    andThen (addressOf 4 v e) (λ place.
+    got (record { username = usernameOf v user; «sess_id» = id; «sess_version» = version; nettype = place .nettype; addrtype = place .addrtype; «unicast_address» = place .«connection_address» })))))
+
+-- c: nettype, addrtype, connection-address
+unfoldable pub connectionOf : List ℕ → Read Connection
+connectionOf v = addressOf 8 v 0
 
 -- b: bwtype and bandwidth, "split at every colon"
 unfoldable pub bandwidthOf : List ℕ → Read Bandwidth
@@ -132,26 +120,3 @@ repeatHead v =
     afterAmount (timeOf 18 v (wordAt v 0)) (λ interval e.
     afterAmount (timeOf 19 v (wordAt v e)) (λ duration e.
     got (record { «repeat_interval» = interval; «active_duration» = duration; next = e })))
-
--- ---- z: "sign and 64-bit magnitude judged apart"
--- the offset in the 64 bits of an i64, two's complement: -m is 2^64 - m
-abbrev pub negated : ℕ → ℕ
-negated m = cond (eqb m 0) 0 (2 ^ 64 - m)
-
--- "the result lies in -2^63 to 2^63-1"
-abbrev pub signed : Bool → ℕ → Read ℕ
-signed true m = cond (leb m (2 ^ 63)) (got (negated m)) (refused (format 22))
-signed false m = cond (ltb m (2 ^ 63)) (got m) (refused (format 22))
-
--- sign and the magnitude that was read
-abbrev pub signedOf : Bool → Number → Read ℕ
-signedOf neg (Value m) = signed neg m
-signedOf neg Encoding = refused (encoding 22)
-signedOf neg Format = refused (format 22)
-
--- "An offset may start with one `-`; the rest is a typed time"
-unfoldable pub offsetOf : List ℕ → Read ℕ
-offsetOf s =
-    cond (ltb 0 (length s) && eqb (getD s 0 0) 0x2d)
-    (signedOf true (typedTime (drop 1 s)))
-    (signedOf false (typedTime s))

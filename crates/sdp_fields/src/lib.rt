@@ -1,65 +1,40 @@
-// Document 01, module 3: fields, and one reader for each record of fixed shape. parser.rs has the same names.
+// Document 01, module 3: one reader for each record of fixed shape. parser.rs has the same names.
 ghost use mathlib.Core.Path.{_≡_};
 ghost use Prim.Native.Nat.{_≤_};
-ghost use lib.ListN.{length, drop};
-ghost use Rattle.sdp_fields.specs.Split.{spaces, pieceFrom, wordAt, firstPiece, pieceAfter, restAfter};
-ghost use Rattle.sdp_fields.specs.Read.{got, encoding, format, missing, trailing, amountOf, textOf, tokenOf, numberOf, timeOf, choiceOf};
-ghost use Rattle.sdp_fields.specs.Records.{usernameOf, negated, signed, signedOf, numPorts, wholeOf, originOf, addressOf, connectionOf, bandwidthOf, timesOf, pairOf, portOf, mediaOf, repeatHead, offsetOf};
-ghost use Rattle.sdp_fields.specs.Answers.{Inside, Within, portField, zoneSecond, wholeAnswer, originAnswer, connectionAnswer, bandwidthAnswer, timeAnswer, pairAnswer, portAnswer, mediaAnswer, repeatAnswer, offsetAnswer, offsetAt, zoneAt};
-use sdp_bytes::number::Number;
-use sdp_bytes::number::number16;
-use sdp_bytes::number::number64;
-use sdp_bytes::number::typed_time;
+ghost use Rattle.sdp_split.specs.Split.{Inside, Within, pieceAfter};
+ghost use Rattle.sdp_judge.specs.Read.{got, encoding, format, missing, trailing};
+ghost use Rattle.sdp_fields.specs.Records.{usernameOf, numPorts, originOf, addressOf, connectionOf, bandwidthOf, timesOf, pairOf, portOf, mediaOf, repeatHead};
+ghost use Rattle.sdp_fields.specs.Answers.{portField, zoneSecond, originAnswer, connectionAnswer, bandwidthAnswer, timeAnswer, pairAnswer, portAnswer, mediaAnswer, repeatAnswer, offsetAt, zoneAt};
 use sdp_bytes::search::index_of;
-use sdp_bytes::token::is_token;
-use sdp_bytes::utf8::is_utf8;
-
-// A string within a line's value.
-pub struct Piece {
-    pub at: usize,
-    pub len: usize,
-}
-
-// A string that may be absent.
-pub struct MaybePiece {
-    pub there: bool,
-    pub piece: Piece,
-}
+use sdp_judge::Amount;
+use sdp_judge::Choice;
+use sdp_judge::MaybePiece;
+use sdp_judge::OffsetRead;
+use sdp_judge::Text;
+use sdp_judge::Wrong;
+use sdp_judge::choice_of;
+use sdp_judge::number_of;
+use sdp_judge::offset;
+use sdp_judge::text_of;
+use sdp_judge::time_of;
+use sdp_judge::word_number;
+use sdp_judge::word_text;
+use sdp_judge::word_time;
+use sdp_judge::word_token;
+use sdp_number::Number;
+use sdp_number::number16;
+use sdp_split::Field;
+use sdp_split::Piece;
+use sdp_split::first_piece;
+use sdp_split::piece_after;
+use sdp_split::rest_after;
+use sdp_split::word_at;
+use sdp_utf8::is_utf8;
 
 // A number that may be absent.
 pub struct MaybeNumber {
     pub there: bool,
     pub value: u64,
-}
-
-// A refusal: 8 encoding, 9 format, 10 missing field, 11 trailing data, and the field's number.
-pub struct Wrong {
-    pub number: u64,
-    pub field: u64,
-}
-
-// A field and its end, or that there is none.
-pub enum Field {
-    Got { piece: Piece, next: usize },
-    Nothing,
-}
-
-// A string that was read, and its field's end.
-pub enum Text {
-    Got { piece: Piece, next: usize },
-    Refused(Wrong),
-}
-
-// A number that was read, and its field's end.
-pub enum Amount {
-    Got { value: u64, next: usize },
-    Refused(Wrong),
-}
-
-// A string that may be absent, read.
-pub enum Choice {
-    Got(MaybePiece),
-    Refused(Wrong),
 }
 
 pub struct Origin {
@@ -130,11 +105,6 @@ struct Ported {
     next: usize,
 }
 
-pub enum WholeRead {
-    Got(Piece),
-    Refused(Wrong),
-}
-
 pub enum OriginRead {
     Got(Origin),
     Refused(Wrong),
@@ -175,11 +145,6 @@ pub enum RepeatRead {
     Refused(Wrong),
 }
 
-pub enum OffsetRead {
-    Got(u64),
-    Refused(Wrong),
-}
-
 // An offset of the repeat line and its end, or that the line ends here.
 pub enum RepeatOffset {
     Got { value: u64, next: usize },
@@ -192,81 +157,6 @@ pub enum ZoneRead {
     Got { zone: Zone, next: usize },
     Done,
     Refused(Wrong),
-}
-
-// How many spaces stand from place i on.
-fn spaces_at(v: &[u8], i: usize) -> usize
-    requires { ⌜ i ≤ length (now v) ⌝ }
-    ensures { λ r. ⌜ r ≡ spaces (drop i (now (v .entry))) ⌝ }
-{
-    let mut j = i;
-    while j < v.len() {
-        if v[j] != b' ' {
-            return j - i;
-        }
-        j += 1;
-    }
-    j - i
-}
-
-// The field that starts at i and ends before the next separator.
-fn piece_from(v: &[u8], i: usize, sep: u8) -> Field
-    requires { ⌜ i ≤ length (now v) ⌝ }
-    ensures { λ r. ⌜ r ≡ pieceFrom sep (now (v .entry)) i ⌝ }
-{
-    let len = index_of(&v[i..], sep);
-    Field::Got {
-        piece: Piece { at: i, len },
-        next: i + len,
-    }
-}
-
-// The next word from place i on; runs of spaces are one separator.
-fn word_at(v: &[u8], i: usize) -> Field
-    ensures { λ r. ⌜ r ≡ wordAt (now (v .entry)) i ⌝ }
-{
-    if v.len() < i {
-        return Field::Nothing;
-    }
-    let at = i + spaces_at(v, i);
-    if at < v.len() {
-        return piece_from(v, at, b' ');
-    }
-    Field::Nothing
-}
-
-// The first field of a value that is split at every separator.
-fn first_piece(v: &[u8], sep: u8) -> Field
-    ensures { λ r. ⌜ r ≡ firstPiece sep (now (v .entry)) ⌝ }
-{
-    piece_from(v, 0, sep)
-}
-
-// The field after the one that ended at e.
-fn piece_after(v: &[u8], e: usize, sep: u8) -> Field
-    ensures { λ r. ⌜ r ≡ pieceAfter sep (now (v .entry)) e ⌝ }
-{
-    if e < v.len() {
-        return piece_from(v, e + 1, sep);
-    }
-    Field::Nothing
-}
-
-// All that stands after the separator at e.
-fn rest_after(v: &[u8], e: usize) -> Field
-    ensures { λ r. ⌜ r ≡ restAfter (now (v .entry)) e ⌝ }
-{
-    if e < v.len() {
-        let at = e + 1;
-        return Field::Got {
-            piece: Piece {
-                at,
-                len: v.len() - at,
-            },
-            next: v.len(),
-        };
-    }
-    Field::Nothing
 }
 
 fn encoding(field: u64) -> Wrong
@@ -291,148 +181,6 @@ fn trailing(field: u64) -> Wrong
     ensures { λ r. ⌜ r ≡ trailing field ⌝ }
 {
     Wrong { number: 11, field }
-}
-
-// A number that was read, as the answer for field w.
-fn amount_of(w: u64, next: usize, n: Number) -> Amount
-    ensures { λ r. ⌜ r ≡ amountOf w next n ⌝ }
-{
-    match n {
-        Number::Value(value) => Amount::Got { value, next },
-        Number::Encoding => Amount::Refused(encoding(w)),
-        Number::Format => Amount::Refused(format(w)),
-    }
-}
-
-// A string. The piece is one of v's.
-fn text_of(v: &[u8], w: u64, f: Field) -> Text
-    requires { ⌜ Within (now v) f ⌝ }
-    ensures { λ r. ⌜ r ≡ textOf w (now (v .entry)) f ⌝ }
-{
-    match f {
-        Field::Nothing => Text::Refused(missing(w)),
-        Field::Got { piece, next } => {
-            let at = piece.at;
-            let end = at + piece.len;
-            if is_utf8(&v[at..end]) {
-                Text::Got { piece, next }
-            } else {
-                Text::Refused(encoding(w))
-            }
-        }
-    }
-}
-
-// A token.
-fn token_of(v: &[u8], w: u64, f: Field) -> Text
-    requires { ⌜ Within (now v) f ⌝ }
-    ensures { λ r. ⌜ r ≡ tokenOf w (now (v .entry)) f ⌝ }
-{
-    match f {
-        Field::Nothing => Text::Refused(missing(w)),
-        Field::Got { piece, next } => {
-            let at = piece.at;
-            let end = at + piece.len;
-            if is_token(&v[at..end]) {
-                Text::Got { piece, next }
-            } else {
-                Text::Refused(format(w))
-            }
-        }
-    }
-}
-
-// A whole number of 64 bits.
-fn number_of(v: &[u8], w: u64, f: Field) -> Amount
-    requires { ⌜ Within (now v) f ⌝ }
-    ensures { λ r. ⌜ r ≡ numberOf w (now (v .entry)) f ⌝ }
-{
-    match f {
-        Field::Nothing => Amount::Refused(missing(w)),
-        Field::Got { piece, next } => {
-            let at = piece.at;
-            let end = at + piece.len;
-            amount_of(w, next, number64(&v[at..end]))
-        }
-    }
-}
-
-// A typed time.
-fn time_of(v: &[u8], w: u64, f: Field) -> Amount
-    requires { ⌜ Within (now v) f ⌝ }
-    ensures { λ r. ⌜ r ≡ timeOf w (now (v .entry)) f ⌝ }
-{
-    match f {
-        Field::Nothing => Amount::Refused(missing(w)),
-        Field::Got { piece, next } => {
-            let at = piece.at;
-            let end = at + piece.len;
-            amount_of(w, next, typed_time(&v[at..end]))
-        }
-    }
-}
-
-// A string that may be absent.
-fn choice_of(v: &[u8], w: u64, f: Field) -> Choice
-    requires { ⌜ Within (now v) f ⌝ }
-    ensures { λ r. ⌜ r ≡ choiceOf w (now (v .entry)) f ⌝ }
-{
-    match f {
-        Field::Nothing => Choice::Got(MaybePiece {
-            there: false,
-            piece: Piece { at: 0, len: 0 },
-        }),
-        Field::Got { piece, next: _ } => {
-            let at = piece.at;
-            let end = at + piece.len;
-            if is_utf8(&v[at..end]) {
-                Choice::Got(MaybePiece { there: true, piece })
-            } else {
-                Choice::Refused(encoding(w))
-            }
-        }
-    }
-}
-
-// The next word as a string of field w.
-fn word_text(v: &[u8], i: usize, w: u64) -> Text
-    ensures { λ r. ⌜ r ≡ textOf w (now (v .entry)) (wordAt (now (v .entry)) i) ⌝ }
-{
-    text_of(v, w, word_at(v, i))
-}
-
-// The next word as a token of field w.
-fn word_token(v: &[u8], i: usize, w: u64) -> Text
-    ensures { λ r. ⌜ r ≡ tokenOf w (now (v .entry)) (wordAt (now (v .entry)) i) ⌝ }
-{
-    token_of(v, w, word_at(v, i))
-}
-
-// The next word as a whole number of field w.
-fn word_number(v: &[u8], i: usize, w: u64) -> Amount
-    ensures { λ r. ⌜ r ≡ numberOf w (now (v .entry)) (wordAt (now (v .entry)) i) ⌝ }
-{
-    number_of(v, w, word_at(v, i))
-}
-
-// The next word as a typed time of field w.
-fn word_time(v: &[u8], i: usize, w: u64) -> Amount
-    ensures { λ r. ⌜ r ≡ timeOf w (now (v .entry)) (wordAt (now (v .entry)) i) ⌝ }
-{
-    time_of(v, w, word_at(v, i))
-}
-
-// The whole value as one string of field w.
-pub fn whole(v: &[u8], w: u64) -> WholeRead
-    ensures { λ r. ⌜ r ≡ wholeAnswer (wholeOf w (now (v .entry))) ⌝ }
-{
-    if is_utf8(v) {
-        return WholeRead::Got(Piece {
-            at: 0,
-            len: v.len(),
-        });
-    }
-    WholeRead::Refused(encoding(w))
 }
 
 // A username `-` means absent.
@@ -744,55 +492,6 @@ pub fn repeat_offset(v: &[u8], i: usize) -> RepeatOffset
         Amount::Got { value, next } => RepeatOffset::Got { value, next },
         Amount::Refused(x) => RepeatOffset::Refused(x),
     }
-}
-
-// Minus m in the 64 bits of an i64.
-fn negated(m: u64) -> u64
-    ensures { λ r. ⌜ r ≡ negated m ⌝ }
-{
-    if m == 0 {
-        return 0;
-    }
-    0xffff_ffff_ffff_ffff - m + 1
-}
-
-// Sign and magnitude, judged apart: -2^63 to 2^63 - 1.
-fn signed(negative: bool, m: u64) -> OffsetRead
-    ensures { λ r. ⌜ r ≡ offsetAnswer (signed negative m) ⌝ }
-{
-    if negative {
-        if m <= 0x8000_0000_0000_0000 {
-            return OffsetRead::Got(negated(m));
-        }
-        return OffsetRead::Refused(format(22));
-    }
-    if m < 0x8000_0000_0000_0000 {
-        return OffsetRead::Got(m);
-    }
-    OffsetRead::Refused(format(22))
-}
-
-fn signed_of(negative: bool, n: Number) -> OffsetRead
-    ensures { λ r. ⌜ r ≡ offsetAnswer (signedOf negative n) ⌝ }
-{
-    match n {
-        Number::Value(m) => signed(negative, m),
-        Number::Encoding => OffsetRead::Refused(encoding(22)),
-        Number::Format => OffsetRead::Refused(format(22)),
-    }
-}
-
-// A zone offset: perhaps one `-`, then a typed time.
-fn offset(s: &[u8]) -> OffsetRead
-    ensures { λ r. ⌜ r ≡ offsetAnswer (offsetOf (now (s .entry))) ⌝ }
-{
-    if s.len() == 0 {
-        return signed_of(false, typed_time(s));
-    }
-    if s[0] == b'-' {
-        return signed_of(true, typed_time(&s[1..]));
-    }
-    signed_of(false, typed_time(s))
 }
 
 // The offset of a pair whose adjustment time is n.

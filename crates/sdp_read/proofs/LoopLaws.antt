@@ -17,7 +17,7 @@ use Rattle.sdp_area.specs.Session.{Session, Within, empty}
 use Rattle.sdp_area.specs.Area.{encode, size}
 use Rattle.sdp_step.proofs.TailLaws.{tail-of}
 use Rattle.sdp_lines.specs.Strings.{bytesOf}
-use Rattle.sdp_step.specs.Strings.{spanAt}
+use Rattle.sdp_strings.specs.Strings.{spanAt}
 use Rattle.sdp_step.specs.Step.{Reading, Stepped, goes, stops, step, fresh}
 use Rattle.sdp_read.specs.Run.{Verdict, answer, after}
 use Rattle.sdp_read.specs.From.{Reached, runAt, Left}

@@ -27,7 +27,7 @@ use Rattle.sdp_lines.specs.declared.Cut.{Cut}
 use Rattle.sdp_lines.specs.declared.Cut.the-variants.{Line, Empty, Refused, End}
 use Rattle.sdp_lines.proofs.LineLaws.{split-at-place, content-front, content-le, width-le, width-pos, good-form}
 use Rattle.sdp_lines.specs.Strings.{bytesOf}
-use Rattle.sdp_step.specs.Strings.{spanAt}
+use Rattle.sdp_strings.specs.Strings.{spanAt}
 use Rattle.sdp_step.specs.Step.{Reading, Stepped, goes, stops, step, fresh}
 use Rattle.sdp_read.specs.From.{Reached, runAt, beginAt}
 use Rattle.sdp_read.specs.Run.{Verdict, accepted, refused, answer, noVersion, after, stepForm, run, version, beginForm, begin}

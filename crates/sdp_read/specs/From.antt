@@ -9,7 +9,7 @@ use Rattle.sdp_area.specs.Area.{encode, size}
 use Rattle.sdp_lines.specs.Lines.{split, start}
 use Rattle.sdp_lines.specs.declared.Span.{Span}
 use Rattle.sdp_lines.specs.declared.Cursor.{Cursor}
-use Rattle.sdp_step.specs.Strings.{spanAt}
+use Rattle.sdp_strings.specs.Strings.{spanAt}
 use Rattle.sdp_step.specs.Step.{Reading, fresh}
 use Rattle.sdp_read.specs.Run.{Verdict, accepted, refused, noVersion, badVersion, isZero, run, begin}
 use Rattle.sdp_read.specs.declared.Ended.{Ended}

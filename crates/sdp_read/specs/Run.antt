@@ -9,11 +9,11 @@ use Rattle.sdp_lines.specs.Answers.{faultNumber}
 use Rattle.sdp_lines.specs.declared.Span.{Span}
 use Rattle.sdp_lines.specs.declared.Form.{Form}
 use Rattle.sdp_lines.specs.declared.Form.the-variants.{Blank, Good, Bad}
-use Rattle.sdp_fields.specs.declared.Piece.{Piece}
-use Rattle.sdp_area.specs.Bytes.{zeros}
+use Rattle.sdp_split.specs.declared.Piece.{Piece}
+use Rattle.sdp_cells.specs.Bytes.{zeros}
 use Rattle.sdp_area.specs.Session.{Session}
 use Rattle.sdp_area.specs.Area.{encode, size}
-use Rattle.sdp_step.specs.Strings.{spanAt}
+use Rattle.sdp_strings.specs.Strings.{spanAt}
 use Rattle.sdp_step.specs.Step.{Reading, Stepped, goes, stops, step, fresh}
 use Rattle.sdp_lines.specs.declared.Answer.{Answer}
 

@@ -8,7 +8,7 @@ use native.Mathlib.Omega.{arith}
 use lib.ListN.{length, take, drop, length-take, length-drop}
 use lib.Dec.{leb, eqb}
 use borrow.Author.Tests.{eq-eqb, ne-eqb, le-leb, lt-leb}
-use Rattle.sdp_area.specs.Bytes.{num}
+use Rattle.sdp_cells.specs.Bytes.{num}
 use Rattle.sdp_put.specs.Out.{Put}
 use Rattle.sdp_put.specs.Digits.{offsetText}
 use Rattle.sdp_put.specs.Strings.{part, clean}

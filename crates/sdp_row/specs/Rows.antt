@@ -2,7 +2,7 @@
 use Prim.Native.Nat.{ℕ, _+_}
 use mathlib.Core.List.{List}
 use Rattle.sdp_lines.specs.Strings.{bytesOf}
-use Rattle.sdp_area.specs.Bytes.{num}
+use Rattle.sdp_cells.specs.Bytes.{num}
 use Rattle.sdp_put.specs.Digits.{timeText}
 use Rattle.sdp_decode.specs.Decode.{spanOf, connectionOf, bandwidthOf, offsetOf, zoneOf, attributeOf}
 use Rattle.sdp_row.specs.Written.{spaced, mine, stringLine, connectionLine, bandwidthLine, pairLine, zoneText}

@@ -11,31 +11,31 @@ use lib.Dec.{ltb, leb, eqb, lit<}
 use lib.ListN.{length, getD, take, drop}
 use lib.Seq.{take-length}
 use Rattle.sdp_bytes.specs.Runs.{indexOf}
-use Rattle.sdp_bytes.specs.Utf8.{isUtf8}
+use Rattle.sdp_utf8.specs.Utf8.{isUtf8}
 use Rattle.sdp_bytes.specs.Token.{isToken}
-use Rattle.sdp_bytes.specs.Number as number
-use Rattle.sdp_bytes.specs.Number.{unitOf, scaled, wholeNumber, typedTime}
-use Rattle.sdp_bytes.specs.declared.number.Number.{Number}
-use Rattle.sdp_bytes.specs.declared.number.Number.the-variants.{Value, Encoding, Format}
+use Rattle.sdp_number.specs.Number as number
+use Rattle.sdp_number.specs.Number.{unitOf, scaled, wholeNumber, typedTime}
+use Rattle.sdp_number.specs.declared.Number.{Number}
+use Rattle.sdp_number.specs.declared.Number.the-variants.{Value, Encoding, Format}
 use Rattle.sdp_lines.specs.declared.Span.{Span}
-use Rattle.sdp_fields.specs.Split.{part, wordAt, firstPiece, pieceAfter, restAfter, words}
-use Rattle.sdp_fields.specs.Read.{Read, got, refused, andThen, encoding, format, textOf, tokenOf, amountOf, numberOf, timeOf, choiceOf, absent, afterText, afterAmount, afterChoice, ending}
+use Rattle.sdp_split.specs.Split.{part, wordAt, firstPiece, pieceAfter, restAfter, words, Inside, Within}
+use Rattle.sdp_judge.specs.Read.{Read, got, refused, andThen, encoding, format, textOf, tokenOf, amountOf, numberOf, timeOf, choiceOf, absent, afterText, afterAmount, afterChoice, ending, wholeOf}
 use Rattle.sdp_fields.specs.Records as records
-use Rattle.sdp_fields.specs.Records.{wholeOf, usernameOf, originOf, connectionOf, bandwidthOf, timesOf, pairOf, portNumber, portOf, afterPort, mediaOf, repeatHead, negated, signed, signedOf, offsetOf}
+use Rattle.sdp_fields.specs.Records.{usernameOf, originOf, connectionOf, bandwidthOf, timesOf, pairOf, portNumber, portOf, afterPort, mediaOf, repeatHead}
+use Rattle.sdp_judge.specs.Offset.{negated, signed, signedOf, offsetOf}
 use Rattle.sdp_fields.specs.Lists as lists
 use Rattle.sdp_fields.specs.Lists.{RepeatLine, numbered, offsetsOf, repeatOf, pairsOf, zonesOf}
-use Rattle.sdp_fields.specs.Answers.{Inside, Within}
-use Rattle.sdp_fields.specs.declared.Piece.{Piece}
-use Rattle.sdp_fields.specs.declared.MaybePiece.{MaybePiece}
+use Rattle.sdp_split.specs.declared.Piece.{Piece}
+use Rattle.sdp_judge.specs.declared.MaybePiece.{MaybePiece}
 use Rattle.sdp_fields.specs.declared.MaybeNumber.{MaybeNumber}
 use Rattle.sdp_fields.specs.declared.Pair.{Pair}
 use Rattle.sdp_fields.specs.declared.Port.{Port}
-use Rattle.sdp_fields.specs.declared.Wrong.{Wrong}
-use Rattle.sdp_fields.specs.declared.Field.{Field}
-use Rattle.sdp_fields.specs.declared.Field.the-variants as field
-use Rattle.sdp_fields.specs.declared.Text.the-variants as text
-use Rattle.sdp_fields.specs.declared.Choice.the-variants as choice
-use Rattle.sdp_fields.proofs.SplitLaws.{word-within, first-within, after-within, rest-within}
+use Rattle.sdp_judge.specs.declared.Wrong.{Wrong}
+use Rattle.sdp_split.specs.declared.Field.{Field}
+use Rattle.sdp_split.specs.declared.Field.the-variants as field
+use Rattle.sdp_judge.specs.declared.Text.the-variants as text
+use Rattle.sdp_judge.specs.declared.Choice.the-variants as choice
+use Rattle.sdp_split.proofs.SplitLaws.{word-within, first-within, after-within, rest-within}
 use Rattle.sdp_fields.proofs.BoundLaws.{number-below}
 use Rattle.sdp_step.specs.Step.{maybeIn, originIn, connectionIn, keyIn, attributeIn, bandwidthIn, portsIn, mediaIn, timeIn, zoneIn}
 use Rattle.sdp_same.specs.Fits.{IfGiven, Each, FitOrigin, FitConnection, FitKey, FitBandwidth, FitAttribute, FitMedia, FitTime, FitZone}

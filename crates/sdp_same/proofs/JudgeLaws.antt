@@ -9,11 +9,11 @@ use mathlib.Core.Option.{Option, none, some}
 use borrow.Author.Tests.{le-leb}
 use lib.Dec.{leb, lit<}
 use lib.ListN.{length}
-use Rattle.sdp_bytes.specs.Utf8 as utf8
+use Rattle.sdp_utf8.specs.Utf8 as utf8
 use Rattle.sdp_lines.specs.declared.Span.{Span}
-use Rattle.sdp_area.specs.Bytes as bytes
-use Rattle.sdp_area.specs.Bytes.{le, num}
-use Rattle.sdp_area.specs.Tables.{flat}
+use Rattle.sdp_cells.specs.Bytes as bytes
+use Rattle.sdp_cells.specs.Bytes.{le, num}
+use Rattle.sdp_cells.specs.Tables.{flat}
 use Rattle.sdp_area.specs.Session.{Session}
 use Rattle.sdp_area.specs.Area as area
 use Rattle.sdp_area.specs.Area.{span, opt, originBytes, nameBytes, connectionBytes, keyBytes, attributeRow, mediaRow, encode, originAt, nameAt, descriptionAt, uriAt, connectionAt, keyAt, timesAt, repeatsAt, mediasAt}

@@ -8,20 +8,20 @@ use borrow.Author.Tests.{ltb-true, leb-true, eqb-false}
 use lib.Dec.{ltb, leb, eqb, lit<}
 use lib.ListN.{length, length-append, length-map}
 use Rattle.sdp_lines.specs.declared.Span.{Span}
-use Rattle.sdp_fields.specs.Read.{Read, got, refused}
-use Rattle.sdp_fields.specs.Records.{wholeOf, originOf, connectionOf, bandwidthOf, timesOf, pairOf, mediaOf}
+use Rattle.sdp_judge.specs.Read.{Read, got, refused, wholeOf}
+use Rattle.sdp_fields.specs.Records.{originOf, connectionOf, bandwidthOf, timesOf, pairOf, mediaOf}
 use Rattle.sdp_fields.specs.Lists.{RepeatLine, repeatOf, zonesOf}
-use Rattle.sdp_fields.specs.declared.Piece.{Piece}
+use Rattle.sdp_split.specs.declared.Piece.{Piece}
 use Rattle.sdp_area.specs.Session.{MediaConnection, Bandwidth, Repeat, Offset, Attribute, Media, Head, Tables, Session}
 use Rattle.sdp_area.specs.With.{withMedias, setLast, titled, keyed}
 use Rattle.sdp_area.specs.Latest.{given, lastTitled, lastKeyed}
 use Rattle.sdp_step.proofs.OnceLaws.{length-last}
-use Rattle.sdp_step.specs.Roles as roles
-use Rattle.sdp_step.specs.Roles.{beforeMedia, fromMedia}
+use Rattle.sdp_roles.specs.Roles as roles
+use Rattle.sdp_roles.specs.Roles.{beforeMedia, fromMedia}
 use Rattle.sdp_step.specs.Step as steps
 use Rattle.sdp_step.specs.Step.{Reading, Stepped, goes, stops, once, row, keyIn, mediaIn, zoneIn, repeated, zonesTaken, stepRole, step}
-use Rattle.sdp_step.specs.declared.Role.{Role}
-use Rattle.sdp_step.specs.declared.Role.the-variants as role
+use Rattle.sdp_roles.specs.declared.Role.{Role}
+use Rattle.sdp_roles.specs.declared.Role.the-variants as role
 use Rattle.sdp_same.specs.Fits.{Rows, FitMedia, FitOffset, FitHead, FitTables}
 use Rattle.sdp_same.specs.Sound.{Owned, Sound}
 use Rattle.sdp_same.proofs.FineLaws.{Fine, Gives, FitLine, time-fit, repeat-fit, zones-fit, whole-fine, origin-fit, connection-fit, bandwidth-fit, key-fit, attribute-fit, media-fit}

@@ -4,11 +4,11 @@ use mathlib.Core.List.{List}
 use Prim.Native.Nat.{ℕ, _+_}
 use native.Mathlib.Omega.{arith}
 use Rattle.sdp_lines.specs.declared.Span.{Span}
-use Rattle.sdp_area.specs.Bytes.{le}
+use Rattle.sdp_cells.specs.Bytes.{le}
 use Rattle.sdp_area.specs.Session.{Origin, Connection, Key, MediaConnection, Bandwidth, Time, Repeat, Offset, Zone, Attribute, Media}
 use Rattle.sdp_area.specs.Area as area
 use Rattle.sdp_area.specs.Area.{span, opt, originBytes, connectionBytes, keyBytes, mediaConnectionRow, bandwidthRow, timeRow, repeatRow, offsetRow, zoneRow, attributeRow, mediaRow}
-use Rattle.sdp_area.proofs.ByteLaws.{length-le}
+use Rattle.sdp_cells.proofs.ByteLaws.{length-le}
 use Rattle.sdp_area.proofs.WidthLaws.{length-span, length-maybe, length-opt}
 use Rattle.sdp_same.proofs.StandsLaws.{Stands, front, past}
 

@@ -15,7 +15,7 @@ use Rattle.sdp_lines.specs.declared.Span.{Span}
 use Rattle.sdp_area.specs.Session.{Session}
 use Rattle.sdp_area.specs.Area.{encode, size}
 use Rattle.sdp_area.proofs.WidthLaws.{length-encode}
-use Rattle.sdp_step.specs.Strings.{spanAt}
+use Rattle.sdp_strings.specs.Strings.{spanAt}
 use Rattle.sdp_read.specs.Run as reader
 use Rattle.sdp_read.specs.Run.{Verdict, accepted, refused, answer, outcomeOf, lines, readText}
 use Rattle.sdp_row.specs.Written as form

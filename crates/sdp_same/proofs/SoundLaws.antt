@@ -6,7 +6,7 @@ use mathlib.Core.Bool.{Bool, true, false, cond}
 use mathlib.Core.List.{List, [], _∷_}
 use lib.Dec.{eqb, lit<}
 use lib.ListN.{length, drop, length-drop, length-append}
-use Rattle.sdp_bytes.specs.Utf8.{isUtf8}
+use Rattle.sdp_utf8.specs.Utf8.{isUtf8}
 use Rattle.sdp_lines.specs.Lines.{Raw, split, content, width, formOf}
 use Rattle.sdp_lines.specs.declared.Span.{Span}
 use Rattle.sdp_lines.specs.Answers.{faultNumber}
@@ -16,9 +16,9 @@ use Rattle.sdp_lines.specs.declared.Fault.the-variants as fault
 use Rattle.sdp_lines.specs.declared.Form.{Form}
 use Rattle.sdp_lines.specs.declared.Form.the-variants.{Blank, Good, Bad}
 use Rattle.sdp_lines.proofs.LineLaws.{good-form}
-use Rattle.sdp_fields.specs.declared.Piece.{Piece}
+use Rattle.sdp_split.specs.declared.Piece.{Piece}
 use Rattle.sdp_area.specs.Session.{Session, empty}
-use Rattle.sdp_step.specs.Strings.{spanAt}
+use Rattle.sdp_strings.specs.Strings.{spanAt}
 use Rattle.sdp_step.specs.Step.{Reading, Stepped, goes, stops, fresh}
 use Rattle.sdp_read.specs.Run as reader
 use Rattle.sdp_read.specs.Run.{Verdict, accepted, refused, noVersion, badVersion, isZero, after, stepForm, run, version, beginForm, begin, lines}

@@ -9,14 +9,14 @@ use lib.Dec.{lit<}
 use lib.ListN.{length, drop, getD}
 use lib.Seq.{drop-drop, drop-at, getD-drop}
 use Rattle.sdp_lines.specs.declared.Span.{Span}
-use Rattle.sdp_area.specs.Bytes as bytes
-use Rattle.sdp_area.specs.Bytes.{le, num, zeros}
-use Rattle.sdp_area.specs.Tables as tables
-use Rattle.sdp_area.specs.Tables.{flat}
+use Rattle.sdp_cells.specs.Bytes as bytes
+use Rattle.sdp_cells.specs.Bytes.{le, num, zeros}
+use Rattle.sdp_cells.specs.Tables as tables
+use Rattle.sdp_cells.specs.Tables.{flat}
 use Rattle.sdp_area.specs.Area as area
 use Rattle.sdp_area.specs.Area.{opt, segments, encode}
 use Rattle.sdp_area.specs.Session.{Session}
-use Rattle.sdp_area.proofs.ByteLaws.{length-le, num-at, zeros-add, le-zero}
+use Rattle.sdp_cells.proofs.ByteLaws.{length-le, num-at, zeros-add, le-zero}
 use Rattle.sdp_area.proofs.SegmentLaws.{cat-view}
 use Rattle.sdp_area.proofs.WidthLaws.{start, before, behind, begins}
 

@@ -6,17 +6,17 @@ use mathlib.Core.List.{List, [], _∷_, _++_, map, map-append}
 use mathlib.Core.Option.{Option, none, some, Option·map}
 use lib.Dec.{ltb, leb, eqb}
 use lib.ListN.{length, length-map}
-use Rattle.sdp_fields.specs.Read.{Read, got, refused}
-use Rattle.sdp_fields.specs.Records.{wholeOf, originOf, connectionOf, bandwidthOf, timesOf, pairOf, mediaOf}
+use Rattle.sdp_judge.specs.Read.{Read, got, refused, wholeOf}
+use Rattle.sdp_fields.specs.Records.{originOf, connectionOf, bandwidthOf, timesOf, pairOf, mediaOf}
 use Rattle.sdp_fields.specs.Lists.{RepeatLine, repeatOf, zonesOf}
-use Rattle.sdp_fields.specs.Answers.{Inside}
-use Rattle.sdp_fields.specs.declared.Piece.{Piece}
-use Rattle.sdp_fields.specs.declared.MaybePiece.{MaybePiece}
+use Rattle.sdp_split.specs.Split.{Inside}
+use Rattle.sdp_split.specs.declared.Piece.{Piece}
+use Rattle.sdp_judge.specs.declared.MaybePiece.{MaybePiece}
 use Rattle.sdp_fields.specs.declared.Origin as origin
 use Rattle.sdp_fields.specs.declared.Connection as connection
 use Rattle.sdp_fields.specs.declared.Pair.{Pair}
 use Rattle.sdp_fields.specs.declared.Media as media
-use Rattle.sdp_fields.proofs.ReadLaws.{Every}
+use Rattle.sdp_judge.proofs.ReadLaws.{Every}
 use Rattle.sdp_fields.proofs.BoundLaws.{OriginInside, origin-within, ConnectionInside, connection-within, PairInside, pair-within, MediaInside, media-within, whole-within, bandwidth-within}
 use Rattle.sdp_area.specs.Session.{Media, Session}
 use Rattle.sdp_area.specs.With as change
@@ -25,9 +25,9 @@ use Rattle.sdp_area.specs.Latest as latest
 use Rattle.sdp_area.specs.Latest.{given, lastTitled, lastKeyed}
 use Rattle.sdp_step.specs.Step as steps
 use Rattle.sdp_step.specs.Step.{Reading, Stepped, goes, stops, once, row, maybeIn, originIn, connectionIn, keyIn, mediaIn, zoneIn, repeated, zonesTaken, stepRole, step}
-use Rattle.sdp_step.specs.Roles.{roleAt}
-use Rattle.sdp_step.specs.declared.Role.{Role}
-use Rattle.sdp_step.specs.declared.Role.the-variants as role
+use Rattle.sdp_roles.specs.Roles.{roleAt}
+use Rattle.sdp_roles.specs.declared.Role.{Role}
+use Rattle.sdp_roles.specs.declared.Role.the-variants as role
 use Rattle.sdp_same.specs.Said.{saidOrigin, saidConnection, saidKey, saidMediaConnection, saidBandwidth, saidAttribute, saidMedia, saidReading, saidStep}
 
 -- ---- lists and what may be absent

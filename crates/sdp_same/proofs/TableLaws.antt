@@ -8,13 +8,13 @@ use lib.Dec.{lit<}
 use lib.ListN.{length, take}
 use lib.Seq.{take-append-add}
 use Rattle.sdp_lines.specs.declared.Span.{Span}
-use Rattle.sdp_area.specs.Bytes.{le, num, zeros}
-use Rattle.sdp_area.specs.Tables as tables
-use Rattle.sdp_area.specs.Tables.{flat, fit, tab}
+use Rattle.sdp_cells.specs.Bytes.{le, num, zeros}
+use Rattle.sdp_cells.specs.Tables as tables
+use Rattle.sdp_cells.specs.Tables.{flat, fit, tab}
 use Rattle.sdp_area.specs.Session.{Session}
 use Rattle.sdp_area.specs.Area.{span, mediaConnectionRow, bandwidthRow, timeRow, repeatRow, offsetRow, zoneRow, attributeRow, mediaRow, encode, emailsAt, phonesAt, connectionsAt, bandwidthsAt, timesAt, repeatsAt, offsetsAt, zonesAt, attributesAt, mediasAt}
-use Rattle.sdp_area.proofs.ByteLaws.{length-le}
-use Rattle.sdp_area.proofs.TableLaws.{length-flat}
+use Rattle.sdp_cells.proofs.ByteLaws.{length-le}
+use Rattle.sdp_cells.proofs.TableLaws.{length-flat}
 use Rattle.sdp_area.proofs.WidthLaws.{length-span, length-media-connection, length-bandwidth, length-time, length-repeat, length-offset, length-zone, length-attribute, length-media}
 use Rattle.sdp_same.specs.Fits.{Rows, FitMediaConnection, FitBandwidth, FitTime, FitRepeat, FitOffset, FitZone, FitAttribute, FitMedia, Fits}
 use Rattle.sdp_same.proofs.StandsLaws.{Stands, front, past, num-back, segment}

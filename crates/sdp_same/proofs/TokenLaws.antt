@@ -11,10 +11,10 @@ use lib.ListN.{length}
 use Rattle.sdp_bytes.specs.Ranges.{_to_, within}
 use Rattle.sdp_bytes.specs.Token as token
 use Rattle.sdp_bytes.specs.Token.{tokenChar, allToken, isToken}
-use Rattle.sdp_bytes.specs.Utf8 as utf8
-use Rattle.sdp_bytes.specs.Utf8.{utf8End, isUtf8}
+use Rattle.sdp_utf8.specs.Utf8 as utf8
+use Rattle.sdp_utf8.specs.Utf8.{utf8End, isUtf8}
 use Rattle.sdp_bytes.proofs.ScanLaws.{and-left, and-right}
-use Rattle.sdp_bytes.proofs.Utf8Laws.{utf8-plain}
+use Rattle.sdp_utf8.proofs.Utf8Laws.{utf8-plain}
 
 module _ (b : ℕ) (h : 0x80 ≤ b) where
   other : (c : ℕ) → c < 0x80 → eqb b c ≡ false

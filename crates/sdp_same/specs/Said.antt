@@ -3,8 +3,8 @@
 use Prim.Native.Nat.{ℕ}
 use mathlib.Core.List.{List, map}
 use mathlib.Core.Option.{Option·map}
-use Rattle.sdp_fields.specs.Split.{part}
-use Rattle.sdp_fields.specs.declared.Piece.{Piece}
+use Rattle.sdp_split.specs.Split.{part}
+use Rattle.sdp_split.specs.declared.Piece.{Piece}
 use Rattle.sdp_area.specs.Session.{Origin, Connection, Key, MediaConnection, Bandwidth, Attribute, Media, Head, Tables, Session}
 use Rattle.sdp_step.specs.Step.{Reading, Stepped, goes, stops}
 use Rattle.sdp_read.specs.Run.{Verdict, accepted, refused}

@@ -6,7 +6,7 @@ use Prim.Native.Nat.{ℕ}
 use Rattle.sdp_lines.specs.Strings.{bytesOf}
 use Rattle.sdp_lines.specs.declared.Span.{Span}
 use Rattle.sdp_area.specs.Session.{Session}
-use Rattle.sdp_step.specs.Strings.{spanAt}
+use Rattle.sdp_strings.specs.Strings.{spanAt}
 use Rattle.sdp_read.specs.Run.{accepted, lines, readText}
 use Rattle.sdp_row.specs.Written.{written}
 use Rattle.sdp_write.specs.Write.{textOf, fill, writeText}

@@ -4,7 +4,7 @@ use mathlib.Core.Path.{_≡_}
 use mathlib.Core.Bool.{true}
 use mathlib.Core.List.{List, [], _∷_}
 use lib.ListN.{length}
-use Rattle.sdp_bytes.specs.Utf8.{isUtf8}
+use Rattle.sdp_utf8.specs.Utf8.{isUtf8}
 use Rattle.sdp_lines.specs.Strings.{bytesOf}
 use Rattle.sdp_lines.specs.declared.Span.{Span}
 use Rattle.sdp_area.specs.Session.{MediaConnection, Bandwidth, Repeat, Offset, Attribute, Tables, Session}

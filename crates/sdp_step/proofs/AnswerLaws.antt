@@ -3,10 +3,10 @@
 use Prim.Native.Nat.{ℕ}
 use native.Mathlib.Omega.{arith}
 use mathlib.Core.Path.{_≡_}
-use Rattle.sdp_fields.specs.Read.{Read, got, refused}
-use Rattle.sdp_fields.specs.declared.Wrong.{Wrong}
-use Rattle.sdp_fields.specs.declared.Piece.{Piece}
-use Rattle.sdp_fields.specs.declared.WholeRead.the-variants as whole
+use Rattle.sdp_judge.specs.Read.{Read, got, refused, wholeAnswer}
+use Rattle.sdp_judge.specs.declared.Wrong.{Wrong}
+use Rattle.sdp_split.specs.declared.Piece.{Piece}
+use Rattle.sdp_judge.specs.declared.WholeRead.the-variants as whole
 use Rattle.sdp_fields.specs.declared.Origin.{Origin}
 use Rattle.sdp_fields.specs.declared.OriginRead.the-variants as origin
 use Rattle.sdp_fields.specs.declared.Connection.{Connection}
@@ -21,7 +21,7 @@ use Rattle.sdp_fields.specs.declared.Media.{Media}
 use Rattle.sdp_fields.specs.declared.MediaRead.the-variants as media
 use Rattle.sdp_fields.specs.declared.RepeatHead.{RepeatHead}
 use Rattle.sdp_fields.specs.declared.RepeatRead.the-variants as repeat
-use Rattle.sdp_fields.specs.Answers.{wholeAnswer, originAnswer, connectionAnswer, bandwidthAnswer, timeAnswer, pairAnswer, mediaAnswer, repeatAnswer}
+use Rattle.sdp_fields.specs.Answers.{originAnswer, connectionAnswer, bandwidthAnswer, timeAnswer, pairAnswer, mediaAnswer, repeatAnswer}
 
 pub whole-got : (r : Read Piece) (x : Piece) → wholeAnswer r ≡ whole.Got x → r ≡ got x
 whole-got (got y) x e = cc

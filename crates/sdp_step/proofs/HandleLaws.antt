@@ -9,15 +9,15 @@ use lib.ListN.{length, drop, length-append}
 use native.Mathlib.Omega.{arith}
 use borrow.Author.Tests.{ltb-true}
 use Rattle.sdp_lines.specs.declared.Span.{Span}
-use Rattle.sdp_fields.specs.Read.{Read, got, refused}
-use Rattle.sdp_fields.specs.declared.Wrong.{Wrong}
+use Rattle.sdp_judge.specs.Read.{Read, got, refused}
+use Rattle.sdp_judge.specs.declared.Wrong.{Wrong}
 use mathlib.Core.Option.{Option}
 use Rattle.sdp_area.specs.Session.{Session, Within}
 use Rattle.sdp_area.specs.Latest.{given}
 use Rattle.sdp_area.specs.Area.{encode, size}
-use Rattle.sdp_area.specs.Tables.{add, pushed}
-use Rattle.sdp_area.specs.declared.Pushed.{Pushed}
-use Rattle.sdp_area.specs.declared.Pushed.the-variants.{Stored, Full}
+use Rattle.sdp_cells.specs.Tables.{add, pushed}
+use Rattle.sdp_cells.specs.declared.Pushed.{Pushed}
+use Rattle.sdp_cells.specs.declared.Pushed.the-variants.{Stored, Full}
 use Rattle.sdp_step.specs.Step.{Reading, Stepped, goes, stops, once, row}
 use Rattle.sdp_step.specs.Hold.{Holds, Handled, storedOf}
 use Rattle.sdp_step.specs.declared.Marks.{Marks}

@@ -9,23 +9,23 @@ use lib.Dec.{ltb, eqb}
 use lib.ListN.{length, drop, length-append}
 use borrow.Author.Tests.{lt-ltb, le-ltb, le-leb, lt-leb, ltb-true, ltb-false}
 use Rattle.sdp_lines.specs.declared.Span.{Span}
-use Rattle.sdp_fields.specs.Split.{words}
-use Rattle.sdp_fields.specs.Read.{Read, got, refused, andThen}
+use Rattle.sdp_split.specs.Split.{words}
+use Rattle.sdp_judge.specs.Read.{Read, got, refused, andThen}
 use Rattle.sdp_fields.specs.Lists
 use Rattle.sdp_fields.specs.Lists.{offsetsOf, repeatOf}
 use Rattle.sdp_fields.specs.Records.{repeatHead}
 use Rattle.sdp_fields.specs.Answers.{offsetAt}
-use Rattle.sdp_fields.specs.declared.Piece.{Piece}
+use Rattle.sdp_split.specs.declared.Piece.{Piece}
 use Rattle.sdp_fields.specs.declared.RepeatHead.{RepeatHead}
-use Rattle.sdp_fields.specs.declared.Wrong.{Wrong}
+use Rattle.sdp_judge.specs.declared.Wrong.{Wrong}
 use Rattle.sdp_fields.specs.declared.RepeatOffset.the-variants as offsets
 use Rattle.sdp_fields.proofs.WordLaws.{offset-done, offset-next, offset-refused}
 use Rattle.sdp_area.specs.Session.{Repeat, Offset, Session, Within}
 use Rattle.sdp_area.specs.With.{withRepeats, withOffsets}
-use Rattle.sdp_area.specs.Tables.{add, pushed, told, grown}
+use Rattle.sdp_cells.specs.Tables.{add, pushed, told, grown}
 use Rattle.sdp_area.specs.Area.{encode, size, offsetRow, offsetsAt}
-use Rattle.sdp_area.specs.declared.Pushed.{Pushed}
-use Rattle.sdp_area.specs.declared.Pushed.the-variants.{Stored, Full}
+use Rattle.sdp_cells.specs.declared.Pushed.{Pushed}
+use Rattle.sdp_cells.specs.declared.Pushed.the-variants.{Stored, Full}
 use Rattle.sdp_area.proofs.GrownLaws.{offsets-grown}
 use Rattle.sdp_step.specs.Step.{Reading, stopped, repeated}
 use Rattle.sdp_step.specs.Hold.{Holds, Handled}

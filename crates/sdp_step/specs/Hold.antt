@@ -8,11 +8,11 @@ use Rattle.sdp_lines.specs.declared.Span.{Span}
 use Rattle.sdp_area.specs.Session.{Session, Within}
 use Rattle.sdp_area.specs.Area.{encode, size}
 use Rattle.sdp_area.specs.Latest.{given}
-use Rattle.sdp_area.specs.declared.Pushed.{Pushed}
-use Rattle.sdp_area.specs.declared.Pushed.the-variants.{Stored, Full}
+use Rattle.sdp_cells.specs.declared.Pushed.{Pushed}
+use Rattle.sdp_cells.specs.declared.Pushed.the-variants.{Stored, Full}
 use Rattle.sdp_step.specs.Step.{Reading, Stepped, goes, stops, stepRole}
-use Rattle.sdp_step.specs.Strings.{spanAt}
-use Rattle.sdp_step.specs.declared.Role.{Role}
+use Rattle.sdp_strings.specs.Strings.{spanAt}
+use Rattle.sdp_roles.specs.declared.Role.{Role}
 use Rattle.sdp_step.specs.declared.Marks.{Marks}
 use Rattle.sdp_step.specs.declared.Taken.{Taken}
 use Rattle.sdp_step.specs.declared.Taken.the-variants.{Kept, Refused}

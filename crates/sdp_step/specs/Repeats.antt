@@ -6,14 +6,14 @@ use mathlib.Core.List.{List, [], _∷_, _++_, map}
 use lib.Dec.{ltb, leb, eqb}
 use lib.ListN.{length, drop}
 use Rattle.sdp_lines.specs.declared.Span.{Span}
-use Rattle.sdp_fields.specs.Split.{words}
-use Rattle.sdp_fields.specs.Read.{Read, got, refused}
+use Rattle.sdp_split.specs.Split.{words}
+use Rattle.sdp_judge.specs.Read.{Read, got, refused}
 use Rattle.sdp_fields.specs.Lists.{offsetsOf}
 use Rattle.sdp_area.specs.Session.{Repeat, Offset, Session}
 use Rattle.sdp_area.specs.With.{withRepeats, withOffsets}
 use Rattle.sdp_area.specs.Area.{encode, size}
-use Rattle.sdp_area.specs.declared.Pushed.{Pushed}
-use Rattle.sdp_area.specs.declared.Pushed.the-variants.{Stored, Full}
+use Rattle.sdp_cells.specs.declared.Pushed.{Pushed}
+use Rattle.sdp_cells.specs.declared.Pushed.the-variants.{Stored, Full}
 use Rattle.sdp_step.specs.Step.{Reading, Stepped, goes, stops, stopped}
 use Rattle.sdp_step.specs.Hold.{marksOf, Holds, Handled}
 use Rattle.sdp_step.specs.declared.Marks.{Marks}

@@ -1,20 +1,16 @@
 // Document 01, module 4: what one line does to the session in the area.
 ghost use mathlib.Core.Path.{_≡_};
-ghost use mathlib.Core.List.{[]};
 ghost use Prim.Native.Nat.{_+_, _≤_};
 ghost use lib.ListN.{length};
-ghost use Rattle.sdp_area.specs.Bytes.{num};
-ghost use Rattle.sdp_area.specs.Tables.{told, grown};
+ghost use Rattle.sdp_cells.specs.Bytes.{num};
+ghost use Rattle.sdp_cells.specs.Tables.{told, grown};
 ghost use Rattle.sdp_area.specs.Area.{size, offsetRow, timesAt, offsetsAt};
-ghost use Rattle.sdp_step.specs.Roles.{beforeMedia, fromMedia, roleAt};
 ghost use Rattle.sdp_step.specs.Step.{step};
 ghost use Rattle.sdp_lines.specs.Strings.{bytesOf};
-ghost use Rattle.sdp_step.specs.Strings.{spanAt};
+ghost use Rattle.sdp_strings.specs.Strings.{spanAt};
 ghost use Rattle.sdp_step.specs.Hold.{Takes, Reads, storedOf};
 ghost use Rattle.sdp_step.specs.Repeats.{latestOf, repeatRoom, offsetRoom, roomAfter, areaAfter, Offsets};
 use sdp_area::MaybePorts;
-use sdp_area::MaybeSpan;
-use sdp_area::Pushed;
 use sdp_area::has_connection;
 use sdp_area::has_description;
 use sdp_area::has_key;
@@ -43,54 +39,34 @@ use sdp_area::set_name;
 use sdp_area::set_origin;
 use sdp_area::set_uri;
 use sdp_area::times;
+use sdp_cells::Pushed;
 use sdp_fields::Bandwidth;
 use sdp_fields::BandwidthRead;
 use sdp_fields::Connection;
 use sdp_fields::ConnectionRead;
 use sdp_fields::MaybeNumber;
-use sdp_fields::MaybePiece;
 use sdp_fields::Media;
 use sdp_fields::MediaRead;
 use sdp_fields::Origin;
 use sdp_fields::OriginRead;
 use sdp_fields::Pair;
 use sdp_fields::PairRead;
-use sdp_fields::Piece;
 use sdp_fields::RepeatHead;
 use sdp_fields::RepeatOffset;
 use sdp_fields::RepeatRead;
 use sdp_fields::Time;
 use sdp_fields::TimeRead;
-use sdp_fields::WholeRead;
-use sdp_fields::Wrong;
 use sdp_fields::Zone;
 use sdp_fields::ZoneRead;
 use sdp_fields::repeat_offset;
-use sdp_fields::whole;
-use sdp_lines::Place;
+use sdp_judge::WholeRead;
+use sdp_judge::Wrong;
+use sdp_judge::whole;
 use sdp_lines::Span;
-
-// What a line's letter is for at its place.
-pub enum Role {
-    Origin,
-    Name,
-    Description,
-    Uri,
-    Email,
-    Phone,
-    Connection,
-    Bandwidth,
-    Time,
-    Repeat,
-    Zone,
-    Key,
-    Attribute,
-    Media,
-    MediaTitle,
-    MediaConnection,
-    MediaKey,
-    Nothing,
-}
+use sdp_roles::Role;
+use sdp_roles::role_at;
+use sdp_strings::maybe_of;
+use sdp_strings::span_of;
 
 // What the area does not keep: whether there was an s line, and a z line.
 pub struct Marks {
@@ -102,29 +78,6 @@ pub struct Marks {
 pub enum Taken {
     Kept(Marks),
     Refused { number: u64, field: u64 },
-}
-
-// A piece of the value at place `at` as a place in the text.
-fn span_of(at: usize, p: Piece) -> Span
-    requires { ⌜ at + p .at ≤ 32768 ⌝ }
-    ensures { λ r. ⌜ r ≡ spanAt at [] p ⌝ }
-{
-    Span {
-        at: Place(at + p.at),
-        len: p.len,
-    }
-}
-
-// The same where it may be absent.
-fn maybe_of(at: usize, m: MaybePiece) -> MaybeSpan
-    requires { ⌜ at + m .piece .at ≤ 32768 ⌝ }
-    ensures { λ r. ⌜ r ≡ record { there = m .there; span = spanAt at [] (m .piece) } ⌝ }
-{
-    let p = m.piece;
-    MaybeSpan {
-        there: m.there,
-        span: span_of(at, p),
-    }
 }
 
 // A refused field.
@@ -638,54 +591,6 @@ fn take_zone(area: &mut [u8], v: &[u8], at: usize, marks: Marks) -> Taken
         named: marks.named,
         zoned: true,
     })
-}
-
-// What a letter is for before the first m line.
-fn before_media(letter: u8) -> Role
-    ensures { λ r. ⌜ r ≡ beforeMedia letter ⌝ }
-{
-    match letter {
-        b'o' => Role::Origin,
-        b's' => Role::Name,
-        b'i' => Role::Description,
-        b'u' => Role::Uri,
-        b'e' => Role::Email,
-        b'p' => Role::Phone,
-        b'c' => Role::Connection,
-        b'b' => Role::Bandwidth,
-        b't' => Role::Time,
-        b'r' => Role::Repeat,
-        b'z' => Role::Zone,
-        b'k' => Role::Key,
-        b'a' => Role::Attribute,
-        b'm' => Role::Media,
-        _ => Role::Nothing,
-    }
-}
-
-// What a letter is for from an m line on.
-fn from_media(letter: u8) -> Role
-    ensures { λ r. ⌜ r ≡ fromMedia letter ⌝ }
-{
-    match letter {
-        b'm' => Role::Media,
-        b'i' => Role::MediaTitle,
-        b'c' => Role::MediaConnection,
-        b'b' => Role::Bandwidth,
-        b'k' => Role::MediaKey,
-        b'a' => Role::Attribute,
-        _ => Role::Nothing,
-    }
-}
-
-// What a letter is for, by the number of medias so far.
-fn role_at(count: usize, letter: u8) -> Role
-    ensures { λ r. ⌜ r ≡ roleAt count letter ⌝ }
-{
-    if count == 0 {
-        return before_media(letter);
-    }
-    from_media(letter)
 }
 
 // A line by its role.

@@ -6,8 +6,8 @@ use Prim.Native.Nat.{ℕ, zero, suc, _+_, _-_, _≤_, _<_}
 use native.Mathlib.Omega.{arith}
 use lib.ListN.{length, take, drop}
 use borrow.Author.Tests.{le-leb, lt-leb}
-use Rattle.sdp_bytes.specs.Utf8.{isUtf8}
-use Rattle.sdp_area.specs.Bytes.{num}
+use Rattle.sdp_utf8.specs.Utf8.{isUtf8}
+use Rattle.sdp_cells.specs.Bytes.{num}
 use Rattle.sdp_valid.specs.Judge.{everyAt, judged, rising, smallCounts, largeCounts, owners, fineString, fineHead, fineTables, wellFormed}
 
 -- ---- a string

@@ -4,8 +4,8 @@ use mathlib.Core.Bool.{Bool, true, false, _&&_, _||_, cond}
 use mathlib.Core.List.{List}
 use lib.ListN.{length, take, drop}
 use lib.Dec.{leb, eqb}
-use Rattle.sdp_bytes.specs.Utf8.{isUtf8}
-use Rattle.sdp_area.specs.Bytes.{num}
+use Rattle.sdp_utf8.specs.Utf8.{isUtf8}
+use Rattle.sdp_cells.specs.Bytes.{num}
 use Rattle.sdp_area.specs.Area.{originAt, nameAt, descriptionAt, uriAt, connectionAt, keyAt, emailsAt, phonesAt, connectionsAt, bandwidthsAt, timesAt, repeatsAt, offsetsAt, zonesAt, attributesAt, mediasAt}
 use Rattle.sdp_valid.specs.declared.Row.{Row}
 use Rattle.sdp_valid.specs.declared.Row.the-variants.{Plain, Connection, Bandwidth, Attribute, Media}

@@ -1,7 +1,7 @@
 // Whether the session that a record area holds can be written, judged on any bytes: refusal 23.
 ghost use mathlib.Core.Path.{_≡_};
 ghost use Prim.Native.Nat.{_+_, _<_};
-ghost use Rattle.sdp_area.specs.Bytes.{num};
+ghost use Rattle.sdp_cells.specs.Bytes.{num};
 ghost use Rattle.sdp_valid.specs.Judge.{judged, fineIf, rising, owned, rows, smallCounts, largeCounts, owners, fineString, fineOrigin, fineConnection, finePair, fineMedia, fineRow, fineHead, fineTables, wellFormed};
 use sdp_area::ATTRIBUTES;
 use sdp_area::BANDWIDTHS;
@@ -19,8 +19,8 @@ use sdp_area::REPEATS;
 use sdp_area::TIMES;
 use sdp_area::URI;
 use sdp_area::ZONES;
-use sdp_bytes::utf8::is_utf8;
 use sdp_decode::num2;
+use sdp_utf8::is_utf8;
 
 // The kinds of rows with strings.
 pub enum Row {

@@ -16,8 +16,8 @@ use Rattle.sdp_put.specs.Strings.{dropped, kept, clean}
 use Rattle.sdp_put.proofs.DigitLaws.{digits-one, digits-more}
 use Rattle.sdp_lines.specs.Strings.{bytesOf}
 use Rattle.sdp_lines.specs.declared.Span.{Span}
-use Rattle.sdp_area.specs.Bytes as bytes
-use Rattle.sdp_area.specs.Bytes.{num}
+use Rattle.sdp_cells.specs.Bytes as bytes
+use Rattle.sdp_cells.specs.Bytes.{num}
 use Rattle.sdp_area.specs.Session.{Key}
 use Rattle.sdp_area.specs.Area.{originAt, nameAt, descriptionAt, uriAt, connectionAt, keyAt, emailsAt, phonesAt, connectionsAt, bandwidthsAt, timesAt, repeatsAt, offsetsAt, zonesAt, attributesAt, mediasAt}
 use Rattle.sdp_decode.specs.Rows as rows

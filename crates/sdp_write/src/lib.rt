@@ -3,7 +3,7 @@
 ghost use mathlib.Core.Path.{_≡_};
 ghost use Prim.Native.Nat.{_+_, _<_};
 ghost use Rattle.sdp_lines.specs.Strings.{bytesOf};
-ghost use Rattle.sdp_area.specs.Bytes.{num};
+ghost use Rattle.sdp_cells.specs.Bytes.{num};
 ghost use Rattle.sdp_area.specs.Area.{timesAt, repeatsAt, zonesAt, mediasAt};
 ghost use Rattle.sdp_put.specs.Out.{Put};
 ghost use Rattle.sdp_decode.specs.Rows.{table};

@@ -7,7 +7,7 @@ use Prim.Native.Nat.{ℕ, _≤_, _-_}
 use lib.ListN.{length, drop, set, length-set}
 use denote.Ref.{now}
 use borrow.Author.Fill.{fill-more}
-use Rattle.sdp_area.specs.Bytes.{zeros}
+use Rattle.sdp_cells.specs.Bytes.{zeros}
 use Rattle.sdp_area.specs.Area.{size}
 use Rattle.sdp_area.proofs.clear.Statement.{statement}
 use Rattle.sdp_area.proofs.clear.Tie as tie

@@ -2,8 +2,8 @@
 -- Assumes nothing.
 use mathlib.Core.Path.{ap, _∙_}
 use borrow.Author.Needs.{needs}
-use Rattle.sdp_area.specs.Tables.{grown}
-use Rattle.sdp_area.specs.Bytes.{zeros}
+use Rattle.sdp_cells.specs.Tables.{grown}
+use Rattle.sdp_cells.specs.Bytes.{zeros}
 use Rattle.sdp_area.specs.Area.{opt, mediaRow}
 use Rattle.sdp_area.proofs.WordLaws.{_and_, word-is, span-is, none-is, ports-is}
 use Rattle.sdp_area.proofs.push_media.Statement.{statement}

@@ -2,7 +2,7 @@
 -- Assumes nothing.
 use mathlib.Core.Path.{ap, _∙_}
 use borrow.Author.Needs.{needs}
-use Rattle.sdp_area.specs.Tables.{grown}
+use Rattle.sdp_cells.specs.Tables.{grown}
 use Rattle.sdp_area.specs.Area.{offsetRow}
 use Rattle.sdp_area.proofs.WordLaws.{_and_, word-is, eight-is}
 use Rattle.sdp_area.proofs.push_offset.Statement.{statement}

@@ -2,7 +2,7 @@
 -- Assumes nothing.
 use mathlib.Core.Path.{ap, _∙_}
 use borrow.Author.Needs.{needs}
-use Rattle.sdp_area.specs.Bytes.{over}
+use Rattle.sdp_cells.specs.Bytes.{over}
 use Rattle.sdp_area.proofs.WordLaws.{_and_, word-is, span-is}
 use Rattle.sdp_area.proofs.set_uri.Statement.{statement}
 use Rattle.sdp_area.proofs.set_uri.Tie as tie

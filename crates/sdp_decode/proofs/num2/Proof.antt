@@ -1,5 +1,5 @@
 -- `sdp_decode::num2` meets its contract. Assumes nothing.
-use Rattle.sdp_area.specs.Bytes as bytes
+use Rattle.sdp_cells.specs.Bytes as bytes
 use Rattle.sdp_decode.proofs.CellLaws.{num-past}
 use mathlib.Core.Path.{sym}
 use native.Mathlib.Omega.{arith}

@@ -1,5 +1,5 @@
 -- `sdp_fields::repeat_offset` meets its contract. Assumes nothing.
-use Rattle.sdp_fields.proofs.SplitLaws.{word-within}
+use Rattle.sdp_split.proofs.SplitLaws.{word-within}
 use Rattle.sdp_fields.proofs.OffsetLaws.{offset-end, offset-at}
 use borrow.Author.Needs.{needs}
 use Rattle.sdp_fields.proofs.repeat_offset.Statement.{statement}

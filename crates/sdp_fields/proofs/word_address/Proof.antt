@@ -2,7 +2,7 @@
 use mathlib.Core.Path.{sym, ap, _∙_}
 use Rattle.sdp_fields.specs.Records.{addressOf}
 use Rattle.sdp_fields.specs.Answers.{connectionAnswer}
-use Rattle.sdp_fields.proofs.ReadLaws.{by-text, by-end}
+use Rattle.sdp_judge.proofs.ReadLaws.{by-text, by-end}
 use borrow.Author.Needs.{needs}
 use Rattle.sdp_fields.proofs.word_address.Statement.{statement}
 use Rattle.sdp_fields.proofs.word_address.Tie as tie

@@ -1,4 +1,4 @@
--- `sdp_bytes::utf8_end` meets its contract. The invariant: the whole list's end is i and the end of the rest from i.
+-- `sdp_lines::stop_index` meets its contract. The invariant: the whole list's stop is i and the stop of the rest from i.
 -- Assumes nothing.
 use Prim.Native.Nat.{_+_, _-_, _≤_}
 use mathlib.Core.Path.{_≡_, refl, sym, ap, _∙_}

@@ -1,6 +1,6 @@
 -- `sdp_step::stored` meets its contract. Assumes nothing.
 use mathlib.Core.Path.{sym, ap}
-use Rattle.sdp_area.specs.declared.Pushed.{Pushed}
+use Rattle.sdp_cells.specs.declared.Pushed.{Pushed}
 use Rattle.sdp_step.specs.Hold.{storedOf}
 use borrow.Author.Needs.{needs}
 use Rattle.sdp_step.proofs.stored.Statement.{statement}

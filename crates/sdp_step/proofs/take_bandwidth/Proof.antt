@@ -10,7 +10,7 @@ use Rattle.sdp_step.proofs.HandleLaws.{row-wrong, row-pushed}
 use Rattle.sdp_step.proofs.TailLaws.{tail-of}
 use Rattle.sdp_step.proofs.WithinLaws.{within-bandwidths}
 use mathlib.Core.List.{[]}
-use Rattle.sdp_step.specs.Strings.{spanAt}
+use Rattle.sdp_strings.specs.Strings.{spanAt}
 use lib.ListN.{length}
 use Rattle.sdp_step.specs.Step.{bandwidthIn}
 use borrow.Author.Needs.{needs}

@@ -10,7 +10,7 @@ use Rattle.sdp_step.proofs.HandleLaws.{row-wrong, row-pushed}
 use Rattle.sdp_step.proofs.TailLaws.{tail-of}
 use Rattle.sdp_step.proofs.WithinLaws.{within-emails}
 use mathlib.Core.List.{[]}
-use Rattle.sdp_step.specs.Strings.{spanAt}
+use Rattle.sdp_strings.specs.Strings.{spanAt}
 use borrow.Author.Needs.{needs}
 use Rattle.sdp_step.proofs.take_email.Statement.{statement}
 use Rattle.sdp_step.proofs.take_email.Tie as tie

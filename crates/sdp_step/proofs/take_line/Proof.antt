@@ -2,7 +2,7 @@
 use Prim.Native.Nat.{ℕ}
 use mathlib.Core.Path.{sym, ap, _∙_}
 use Rattle.sdp_area.proofs.GrownLaws.{medias-count}
-use Rattle.sdp_step.specs.Roles.{roleAt}
+use Rattle.sdp_roles.specs.Roles.{roleAt}
 use Rattle.sdp_step.proofs.TailLaws.{part-is}
 use borrow.Author.Needs.{needs}
 use Rattle.sdp_step.proofs.take_line.Statement.{statement}

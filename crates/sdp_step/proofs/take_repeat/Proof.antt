@@ -1,5 +1,5 @@
 -- `sdp_step::take_repeat` meets its contract. Assumes nothing.
-use Rattle.sdp_area.specs.Bytes.{num}
+use Rattle.sdp_cells.specs.Bytes.{num}
 use Rattle.sdp_area.specs.Area.{timesAt}
 use Prim.Native.Nat.{ℕ, _+_}
 use native.Mathlib.Omega.{arith}
@@ -7,7 +7,7 @@ use mathlib.Core.Path.{refl, sym, ap, _∙_}
 use mathlib.Core.List.{[]}
 use Rattle.sdp_fields.proofs.WordLaws.{head-next}
 use Rattle.sdp_area.proofs.GrownLaws.{times-count, repeats-count, repeats-grown}
-use Rattle.sdp_step.specs.Strings.{spanAt}
+use Rattle.sdp_strings.specs.Strings.{spanAt}
 use Rattle.sdp_step.specs.Step.{stepRole}
 use Rattle.sdp_step.proofs.AnswerLaws.{repeat-got, repeat-refused}
 use Rattle.sdp_step.proofs.RepeatLaws.{none-latest, some-latest, room-begin, head-wrong, head-got}

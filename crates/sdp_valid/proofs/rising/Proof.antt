@@ -1,7 +1,7 @@
 -- `sdp_valid::rising` meets its contract. Assumes nothing.
 use Rattle.sdp_valid.proofs.JudgeLaws.{rising-all, rising-more, rising-falls, rising-past, rising-none}
 use Rattle.sdp_valid.specs.Judge.{rising}
-use Rattle.sdp_area.specs.Bytes.{num}
+use Rattle.sdp_cells.specs.Bytes.{num}
 use mathlib.Core.Path.{_≡_, sym, _∙_}
 use native.Mathlib.Omega.{arith}
 use Prim.Native.Nat.{ℕ, _+_, _*_, _-_, _≤_, _<_}

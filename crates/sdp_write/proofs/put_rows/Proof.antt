@@ -3,7 +3,7 @@ use Rattle.sdp_write.proofs.RowLaws.{Left, left-begin, left-turn, left-
 use Rattle.sdp_row.specs.Rows.{rowText}
 use Rattle.sdp_decode.specs.Rows.{table}
 use Rattle.sdp_decode.specs.Decode.{num2}
-use Rattle.sdp_area.specs.Bytes.{num}
+use Rattle.sdp_cells.specs.Bytes.{num}
 use mathlib.Core.Path.{_≡_, refl}
 use Prim.Native.Nat.{_-_}
 use native.Mathlib.Omega.{arith}

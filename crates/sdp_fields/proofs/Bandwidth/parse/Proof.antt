@@ -1,10 +1,10 @@
 -- `sdp_fields::Bandwidth::parse` meets its contract: each field is taken out of the definition by its answer. Assumes nothing.
 use mathlib.Core.Path.{sym, ap, _∙_}
-use Rattle.sdp_fields.specs.Read.{textOf, numberOf}
+use Rattle.sdp_judge.specs.Read.{textOf, numberOf}
 use Rattle.sdp_fields.specs.Records.{bandwidthOf}
 use Rattle.sdp_fields.specs.Answers.{bandwidthAnswer}
-use Rattle.sdp_fields.proofs.ReadLaws.{by-text, by-amount, by-end}
-use Rattle.sdp_fields.proofs.SplitLaws.{first-within, after-within}
+use Rattle.sdp_judge.proofs.ReadLaws.{by-text, by-amount, by-end}
+use Rattle.sdp_split.proofs.SplitLaws.{first-within, after-within}
 use borrow.Author.Needs.{needs}
 use Rattle.sdp_fields.proofs.Bandwidth.parse.Statement.{statement}
 use Rattle.sdp_fields.proofs.Bandwidth.parse.Tie as tie

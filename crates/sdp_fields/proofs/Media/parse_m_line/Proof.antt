@@ -1,11 +1,11 @@
 -- `sdp_fields::Media::parse_m_line` meets its contract: each field is taken out of the definition by its answer. Assumes nothing.
 use mathlib.Core.Path.{sym, ap, _∙_}
-use Rattle.sdp_fields.specs.Read.{textOf}
+use Rattle.sdp_judge.specs.Read.{textOf}
 use Rattle.sdp_fields.specs.Records.{mediaOf}
 use Rattle.sdp_fields.specs.Answers.{portField, mediaAnswer}
-use Rattle.sdp_fields.proofs.ReadLaws.{by-text}
+use Rattle.sdp_judge.proofs.ReadLaws.{by-text}
 use Rattle.sdp_fields.proofs.PortLaws.{by-port}
-use Rattle.sdp_fields.proofs.SplitLaws.{first-within, after-within, rest-within}
+use Rattle.sdp_split.proofs.SplitLaws.{first-within, after-within, rest-within}
 use borrow.Author.Needs.{needs}
 use Rattle.sdp_fields.proofs.Media.parse_m_line.Statement.{statement}
 use Rattle.sdp_fields.proofs.Media.parse_m_line.Tie as tie

@@ -2,9 +2,9 @@
 use mathlib.Core.Path.{sym, ap, _∙_}
 use Rattle.sdp_fields.specs.Records.{originOf}
 use Rattle.sdp_fields.specs.Answers.{originAnswer}
-use Rattle.sdp_fields.proofs.ReadLaws.{by-text, by-amount, text-within}
+use Rattle.sdp_judge.proofs.ReadLaws.{by-text, by-amount, text-within}
 use Rattle.sdp_fields.proofs.AddressLaws.{by-address}
-use Rattle.sdp_fields.proofs.SplitLaws.{word-within}
+use Rattle.sdp_split.proofs.SplitLaws.{word-within}
 use borrow.Author.Needs.{needs}
 use Rattle.sdp_fields.proofs.Origin.parse.Statement.{statement}
 use Rattle.sdp_fields.proofs.Origin.parse.Tie as tie
@@ -45,7 +45,7 @@ returns-4 c =
     (by-text _ (g1 .before .before .before .word-text .ensures) (g1 .before .piece .given .1)
     ∙ by-text _ (g2 .before .before .before .word-text2 .ensures) (g2 .before .piece2 .given .1)
     ∙ by-amount _ (g3 .before .before .before .word-number .ensures) (g3 .before .value .given .1)
-    ∙ by-address _ (g1 .before .piece .given .0 .0) (g2 .before .piece2 .given .0 .0) (g3 .before .value .given .0 .0) _ (c .before .before .before .word-address .ensures) (c .before .x4 .given .1)))
+    ∙ by-address 4 _ _ _ (c .before .before .before .word-address .ensures) (c .before .x4 .given .1)))
 
 returns-5 : tie.Need-returns-5
 unfolding originOf
@@ -57,7 +57,7 @@ returns-5 c =
     (by-text _ (g1 .before .before .before .word-text .ensures) (g1 .before .piece .given .1)
     ∙ by-text _ (g2 .before .before .before .word-text2 .ensures) (g2 .before .piece2 .given .1)
     ∙ by-amount _ (g3 .before .before .before .word-number .ensures) (g3 .before .value .given .1)
-    ∙ by-address _ (g1 .before .piece .given .0 .0) (g2 .before .piece2 .given .0 .0) (g3 .before .value .given .0 .0) _ (c .before .before .before .before .before .before .before .before .before .word-address .ensures) (c .before .before .before .before .before .before .before .place .given .1))))
+    ∙ by-address 4 _ _ _ (c .before .before .before .before .before .before .before .before .before .word-address .ensures) (c .before .before .before .before .before .before .before .place .given .1))))
 
 pub parse-spec : {M : Type 1} → statement M
 parse-spec =

@@ -1,10 +1,10 @@
 -- `sdp_fields::Pair::parse` meets its contract: each field is taken out of the definition by its answer. Assumes nothing.
 use mathlib.Core.Path.{sym, ap, _∙_}
-use Rattle.sdp_fields.specs.Read.{textOf, choiceOf}
+use Rattle.sdp_judge.specs.Read.{textOf, choiceOf}
 use Rattle.sdp_fields.specs.Records.{pairOf}
 use Rattle.sdp_fields.specs.Answers.{pairAnswer}
-use Rattle.sdp_fields.proofs.ReadLaws.{by-text, by-choice}
-use Rattle.sdp_fields.proofs.SplitLaws.{first-within, rest-within}
+use Rattle.sdp_judge.proofs.ReadLaws.{by-text, by-choice}
+use Rattle.sdp_split.proofs.SplitLaws.{first-within, rest-within}
 use borrow.Author.Needs.{needs}
 use Rattle.sdp_fields.proofs.Pair.parse.Statement.{statement}
 use Rattle.sdp_fields.proofs.Pair.parse.Tie as tie

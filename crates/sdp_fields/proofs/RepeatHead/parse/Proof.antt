@@ -2,7 +2,7 @@
 use mathlib.Core.Path.{sym, ap, _∙_}
 use Rattle.sdp_fields.specs.Records.{repeatHead}
 use Rattle.sdp_fields.specs.Answers.{repeatAnswer}
-use Rattle.sdp_fields.proofs.ReadLaws.{by-amount}
+use Rattle.sdp_judge.proofs.ReadLaws.{by-amount}
 use borrow.Author.Needs.{needs}
 use Rattle.sdp_fields.proofs.RepeatHead.parse.Statement.{statement}
 use Rattle.sdp_fields.proofs.RepeatHead.parse.Tie as tie

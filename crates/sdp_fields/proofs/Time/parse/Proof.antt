@@ -2,7 +2,7 @@
 use mathlib.Core.Path.{sym, ap, _∙_}
 use Rattle.sdp_fields.specs.Records.{timesOf}
 use Rattle.sdp_fields.specs.Answers.{timeAnswer}
-use Rattle.sdp_fields.proofs.ReadLaws.{by-amount, by-end}
+use Rattle.sdp_judge.proofs.ReadLaws.{by-amount, by-end}
 use borrow.Author.Needs.{needs}
 use Rattle.sdp_fields.proofs.Time.parse.Statement.{statement}
 use Rattle.sdp_fields.proofs.Time.parse.Tie as tie

@@ -1,7 +1,7 @@
 -- `sdp_fields::Zone::parse` meets its contract. Assumes nothing.
 use mathlib.Core.Path.{ap, _∙_}
 use Rattle.sdp_fields.specs.Answers.{zoneSecond}
-use Rattle.sdp_fields.proofs.SplitLaws.{word-within}
+use Rattle.sdp_split.proofs.SplitLaws.{word-within}
 use Rattle.sdp_fields.proofs.OffsetLaws.{zone-end, zone-at}
 use borrow.Author.Needs.{needs}
 use Rattle.sdp_fields.proofs.Zone.parse.Statement.{statement}

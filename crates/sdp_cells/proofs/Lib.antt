@@ -1,0 +1,3 @@
+pub mod ByteLaws
+pub mod TableLaws
+pub mod StoreLaws

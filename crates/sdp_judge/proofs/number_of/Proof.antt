@@ -1,0 +1,36 @@
+-- `sdp_judge::number_of` meets its contract. Assumes nothing.
+use mathlib.Core.Path.{refl, _∙_}
+use native.Mathlib.Omega.{arith}
+use Rattle.sdp_number.specs.Number.{wholeNumber}
+use Rattle.sdp_judge.proofs.ReadLaws.{judged}
+use borrow.Author.Needs.{needs}
+use Rattle.sdp_judge.proofs.number_of.Statement.{statement}
+use Rattle.sdp_judge.proofs.number_of.Tie as tie
+
+add-end : tie.Need-add-end
+add-end c = let h = c .before .before .before .before .before .pre _ _ (c .before .before .f .given .1) in omega arith
+
+part-number64-end : tie.Need-part-number64-end
+part-number64-end c = let h = c .before .before .before .before .before .pre _ _ (c .before .before .f .given .1) in omega arith
+
+returns : tie.Need-returns
+returns c = rw (c .missing .ensures, c .before .enum-told .given .1)
+
+returns-2 : tie.Need-returns-2
+returns-2 c = c .amount-of .ensures ∙ rw (c .before .before .before .before .before .f .given .1, judged (wholeNumber 64) _ _ _ _ (c .before .number64 .ensures) refl)
+
+pub number-of-spec : {M : Type 1} → statement M
+number-of-spec =
+    tie.close
+    (tie.spec
+    (λ c. search needs)
+    (λ c κs. search needs)
+    (λ c. search needs)
+    add-end
+    (λ c. search needs)
+    (λ c. search needs)
+    part-number64-end
+    (λ c κs. search needs)
+    (λ c κs. search needs)
+    returns
+    returns-2)

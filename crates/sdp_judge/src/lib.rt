@@ -1,0 +1,262 @@
+// Document 01, module 3: one field judged, a string, a token, a number or a time. parser.rs has the same names.
+ghost use mathlib.Core.Path.{_≡_};
+ghost use Rattle.sdp_split.specs.Split.{Within, wordAt};
+ghost use Rattle.sdp_judge.specs.Read.{encoding, format, missing, amountOf, textOf, tokenOf, numberOf, timeOf, choiceOf, wholeOf, wholeAnswer};
+ghost use Rattle.sdp_judge.specs.Offset.{negated, signed, signedOf, offsetOf, offsetAnswer};
+use sdp_bytes::token::is_token;
+use sdp_number::Number;
+use sdp_number::number64;
+use sdp_number::typed_time;
+use sdp_split::Field;
+use sdp_split::Piece;
+use sdp_split::word_at;
+use sdp_utf8::is_utf8;
+
+// A string that may be absent.
+pub struct MaybePiece {
+    pub there: bool,
+    pub piece: Piece,
+}
+
+// A refusal: 8 encoding, 9 format, 10 missing field, 11 trailing data, and the field's number.
+pub struct Wrong {
+    pub number: u64,
+    pub field: u64,
+}
+
+// A string that was read, and its field's end.
+pub enum Text {
+    Got { piece: Piece, next: usize },
+    Refused(Wrong),
+}
+
+// A number that was read, and its field's end.
+pub enum Amount {
+    Got { value: u64, next: usize },
+    Refused(Wrong),
+}
+
+// A string that may be absent, read.
+pub enum Choice {
+    Got(MaybePiece),
+    Refused(Wrong),
+}
+
+pub enum WholeRead {
+    Got(Piece),
+    Refused(Wrong),
+}
+
+pub enum OffsetRead {
+    Got(u64),
+    Refused(Wrong),
+}
+
+fn encoding(field: u64) -> Wrong
+    ensures { λ r. ⌜ r ≡ encoding field ⌝ }
+{
+    Wrong { number: 8, field }
+}
+
+fn format(field: u64) -> Wrong
+    ensures { λ r. ⌜ r ≡ format field ⌝ }
+{
+    Wrong { number: 9, field }
+}
+
+fn missing(field: u64) -> Wrong
+    ensures { λ r. ⌜ r ≡ missing field ⌝ }
+{
+    Wrong { number: 10, field }
+}
+
+// A number that was read, as the answer for field w.
+fn amount_of(w: u64, next: usize, n: Number) -> Amount
+    ensures { λ r. ⌜ r ≡ amountOf w next n ⌝ }
+{
+    match n {
+        Number::Value(value) => Amount::Got { value, next },
+        Number::Encoding => Amount::Refused(encoding(w)),
+        Number::Format => Amount::Refused(format(w)),
+    }
+}
+
+// A string. The piece is one of v's.
+pub fn text_of(v: &[u8], w: u64, f: Field) -> Text
+    requires { ⌜ Within (now v) f ⌝ }
+    ensures { λ r. ⌜ r ≡ textOf w (now (v .entry)) f ⌝ }
+{
+    match f {
+        Field::Nothing => Text::Refused(missing(w)),
+        Field::Got { piece, next } => {
+            let at = piece.at;
+            let end = at + piece.len;
+            if is_utf8(&v[at..end]) {
+                Text::Got { piece, next }
+            } else {
+                Text::Refused(encoding(w))
+            }
+        }
+    }
+}
+
+// A token.
+fn token_of(v: &[u8], w: u64, f: Field) -> Text
+    requires { ⌜ Within (now v) f ⌝ }
+    ensures { λ r. ⌜ r ≡ tokenOf w (now (v .entry)) f ⌝ }
+{
+    match f {
+        Field::Nothing => Text::Refused(missing(w)),
+        Field::Got { piece, next } => {
+            let at = piece.at;
+            let end = at + piece.len;
+            if is_token(&v[at..end]) {
+                Text::Got { piece, next }
+            } else {
+                Text::Refused(format(w))
+            }
+        }
+    }
+}
+
+// A whole number of 64 bits.
+pub fn number_of(v: &[u8], w: u64, f: Field) -> Amount
+    requires { ⌜ Within (now v) f ⌝ }
+    ensures { λ r. ⌜ r ≡ numberOf w (now (v .entry)) f ⌝ }
+{
+    match f {
+        Field::Nothing => Amount::Refused(missing(w)),
+        Field::Got { piece, next } => {
+            let at = piece.at;
+            let end = at + piece.len;
+            amount_of(w, next, number64(&v[at..end]))
+        }
+    }
+}
+
+// A typed time.
+pub fn time_of(v: &[u8], w: u64, f: Field) -> Amount
+    requires { ⌜ Within (now v) f ⌝ }
+    ensures { λ r. ⌜ r ≡ timeOf w (now (v .entry)) f ⌝ }
+{
+    match f {
+        Field::Nothing => Amount::Refused(missing(w)),
+        Field::Got { piece, next } => {
+            let at = piece.at;
+            let end = at + piece.len;
+            amount_of(w, next, typed_time(&v[at..end]))
+        }
+    }
+}
+
+// A string that may be absent.
+pub fn choice_of(v: &[u8], w: u64, f: Field) -> Choice
+    requires { ⌜ Within (now v) f ⌝ }
+    ensures { λ r. ⌜ r ≡ choiceOf w (now (v .entry)) f ⌝ }
+{
+    match f {
+        Field::Nothing => Choice::Got(MaybePiece {
+            there: false,
+            piece: Piece { at: 0, len: 0 },
+        }),
+        Field::Got { piece, next: _ } => {
+            let at = piece.at;
+            let end = at + piece.len;
+            if is_utf8(&v[at..end]) {
+                Choice::Got(MaybePiece { there: true, piece })
+            } else {
+                Choice::Refused(encoding(w))
+            }
+        }
+    }
+}
+
+// The next word as a string of field w.
+pub fn word_text(v: &[u8], i: usize, w: u64) -> Text
+    ensures { λ r. ⌜ r ≡ textOf w (now (v .entry)) (wordAt (now (v .entry)) i) ⌝ }
+{
+    text_of(v, w, word_at(v, i))
+}
+
+// The next word as a token of field w.
+pub fn word_token(v: &[u8], i: usize, w: u64) -> Text
+    ensures { λ r. ⌜ r ≡ tokenOf w (now (v .entry)) (wordAt (now (v .entry)) i) ⌝ }
+{
+    token_of(v, w, word_at(v, i))
+}
+
+// The next word as a whole number of field w.
+pub fn word_number(v: &[u8], i: usize, w: u64) -> Amount
+    ensures { λ r. ⌜ r ≡ numberOf w (now (v .entry)) (wordAt (now (v .entry)) i) ⌝ }
+{
+    number_of(v, w, word_at(v, i))
+}
+
+// The next word as a typed time of field w.
+pub fn word_time(v: &[u8], i: usize, w: u64) -> Amount
+    ensures { λ r. ⌜ r ≡ timeOf w (now (v .entry)) (wordAt (now (v .entry)) i) ⌝ }
+{
+    time_of(v, w, word_at(v, i))
+}
+
+// The whole value as one string of field w.
+pub fn whole(v: &[u8], w: u64) -> WholeRead
+    ensures { λ r. ⌜ r ≡ wholeAnswer (wholeOf w (now (v .entry))) ⌝ }
+{
+    if is_utf8(v) {
+        return WholeRead::Got(Piece {
+            at: 0,
+            len: v.len(),
+        });
+    }
+    WholeRead::Refused(encoding(w))
+}
+
+// Minus m in the 64 bits of an i64.
+fn negated(m: u64) -> u64
+    ensures { λ r. ⌜ r ≡ negated m ⌝ }
+{
+    if m == 0 {
+        return 0;
+    }
+    0xffff_ffff_ffff_ffff - m + 1
+}
+
+// Sign and magnitude, judged apart: -2^63 to 2^63 - 1.
+fn signed(negative: bool, m: u64) -> OffsetRead
+    ensures { λ r. ⌜ r ≡ offsetAnswer (signed negative m) ⌝ }
+{
+    if negative {
+        if m <= 0x8000_0000_0000_0000 {
+            return OffsetRead::Got(negated(m));
+        }
+        return OffsetRead::Refused(format(22));
+    }
+    if m < 0x8000_0000_0000_0000 {
+        return OffsetRead::Got(m);
+    }
+    OffsetRead::Refused(format(22))
+}
+
+fn signed_of(negative: bool, n: Number) -> OffsetRead
+    ensures { λ r. ⌜ r ≡ offsetAnswer (signedOf negative n) ⌝ }
+{
+    match n {
+        Number::Value(m) => signed(negative, m),
+        Number::Encoding => OffsetRead::Refused(encoding(22)),
+        Number::Format => OffsetRead::Refused(format(22)),
+    }
+}
+
+// A zone offset: perhaps one `-`, then a typed time.
+pub fn offset(s: &[u8]) -> OffsetRead
+    ensures { λ r. ⌜ r ≡ offsetAnswer (offsetOf (now (s .entry))) ⌝ }
+{
+    if s.len() == 0 {
+        return signed_of(false, typed_time(s));
+    }
+    if s[0] == b'-' {
+        return signed_of(true, typed_time(&s[1..]));
+    }
+    signed_of(false, typed_time(s))
+}

@@ -1,0 +1,2 @@
+pub mod Utf8Laws
+pub mod Utf8Text

@@ -1,0 +1,203 @@
+-- Laws of charLen and utf8End: one step of a loop over the characters, and of its quick way.
+-- Assumes nothing.
+use Prim.Native.Nat.{ℕ, zero, suc, pred, _+_, _-_, _<_, _≤_}
+use native.Mathlib.Nat.{add-zero}
+use native.Mathlib.Numerals.{add-one}
+use native.Mathlib.Decide.{decLt}
+use native.Mathlib.Omega.{arith}
+use mathlib.Core.Path.{_≡_, refl, sym, ap, _∙_}
+use mathlib.Core.Bool.{Bool, true, false, _&&_, _||_, and-true, and-false, false≢true, cond}
+use mathlib.Core.List.{List, [], _∷_}
+use borrow.Author.Tests.{lt-ltb, le-ltb, le-leb, lt-leb, eq-eqb, ne-eqb, ltb-true, leb-true}
+use lib.Dec.{ltb, leb, eqb}
+use lib.ListN.{length, getD, drop, drop-of-length-le, length-drop}
+use lib.Seq.{drop-cons, drop-drop}
+use Rattle.sdp_bytes.proofs.ScanLaws.{and-left, and-right, Steps}
+use Rattle.sdp_bytes.specs.Ranges.{Range, _to_, within, fits, inAt}
+use Rattle.sdp_bytes.specs.Runs.{run}
+use Rattle.sdp_utf8.specs.Utf8.{char1, char2, char3, char4, charLen, endFrom, utf8End, isUtf8, ascii, stepLen}
+
+or-elim : (a b : Bool) {P : Type 0} → (a ≡ true → P) → (b ≡ true → P) → (a || b) ≡ true → P
+or-elim true b p q e = p refl
+or-elim false b p q e = q e
+
+-- ---- the ranges by their places
+-- a byte of each range stands from place i on
+abbrev fitsAt : List Range → List ℕ → ℕ → Bool
+fitsAt [] s i = true
+fitsAt (r ∷ rs) s i = inAt r s i && fitsAt rs s (i + 1)
+
+fits-at : (rs : List Range) (s : List ℕ) (i : ℕ) → fits rs (drop i s) ≡ fitsAt rs s i
+unfolding fits
+fits-at [] s i = refl
+fits-at (r ∷ rs) s i = go (decLt i (length s)) (fits-at rs s (i + 1))
+  where
+    go : Dec (i < length s) → fits rs (drop (i + 1) s) ≡ fitsAt rs s (i + 1) → fits (r ∷ rs) (drop i s) ≡ fitsAt (r ∷ rs) s i
+    go (yes h) e = rw (drop-cons s i 0, lt-ltb i (length s) h, ← e, add-one)
+    go (no h) e = let l : length s ≤ i = omega arith in rw (drop-of-length-le s l, le-ltb i (length s) l)
+
+pub fits2 : (s : List ℕ) (a b : Range) → (inAt a s 0 && inAt b s 1) ≡ fits (a ∷ b ∷ []) s
+fits2 s a b = rw (fits-at (a ∷ b ∷ []) s 0, and-true)
+
+pub fits3 : (s : List ℕ) (a b c : Range) → (inAt a s 0 && (inAt b s 1 && inAt c s 2)) ≡ fits (a ∷ b ∷ c ∷ []) s
+fits3 s a b c = rw (fits-at (a ∷ b ∷ c ∷ []) s 0, and-true)
+
+pub fits4 : (s : List ℕ) (a b c d : Range) → (inAt a s 0 && (inAt b s 1 && (inAt c s 2 && inAt d s 3))) ≡ fits (a ∷ b ∷ c ∷ d ∷ []) s
+fits4 s a b c d = rw (fits-at (a ∷ b ∷ c ∷ d ∷ []) s 0, and-true)
+
+-- ---- which rows of the table the first byte leaves
+below-out : (lo hi b : ℕ) (rs : List Range) (s : List ℕ) → b < lo → fits (lo to hi ∷ rs) (b ∷ s) ≡ false
+unfolding fits
+below-out lo hi b rs s h = rw (lt-leb lo b h)
+
+above-out : (lo hi b : ℕ) (rs : List Range) (s : List ℕ) → hi < b → fits (lo to hi ∷ rs) (b ∷ s) ≡ false
+unfolding fits
+above-out lo hi b rs s h = rw (lt-leb b hi h, and-false)
+
+module _ (b : ℕ) (s : List ℕ) where
+  out1 : 0x80 ≤ b → char1 (b ∷ s) ≡ false
+  out1 h = above-out 0 0x7f b [] s (omega arith)
+
+  out2 : 0xe0 ≤ b → char2 (b ∷ s) ≡ false
+  out2 h = above-out 0xc2 0xdf b _ s (omega arith)
+
+  low3 : b < 0xe0 → char3 (b ∷ s) ≡ false
+  low3 h =
+      rw (below-out 0xe0 0xe0 b _ s (omega arith), below-out 0xe1 0xec b _ s (omega arith), below-out 0xed 0xed b _ s (omega arith), below-out 0xee 0xef b _ s (omega arith))
+
+  out3 : 0xf0 ≤ b → char3 (b ∷ s) ≡ false
+  out3 h =
+      rw (above-out 0xe0 0xe0 b _ s (omega arith), above-out 0xe1 0xec b _ s (omega arith), above-out 0xed 0xed b _ s (omega arith), above-out 0xee 0xef b _ s (omega arith))
+
+  low4 : b < 0xf0 → char4 (b ∷ s) ≡ false
+  low4 h =
+      rw (below-out 0xf0 0xf0 b _ s (omega arith), below-out 0xf1 0xf3 b _ s (omega arith), below-out 0xf4 0xf4 b _ s (omega arith))
+
+  pub plain-one : b < 0x80 → charLen (b ∷ s) ≡ 1
+  unfolding charLen fits
+  plain-one h = rw (le-leb 0 b (omega arith), le-leb b 0x7f (omega arith))
+
+  two-cons : 0x80 ≤ b → b < 0xe0 → charLen (b ∷ s) ≡ cond (char2 (b ∷ s)) 2 0
+  unfolding charLen
+  two-cons h l = rw (out1 h, low3 l, low4 (omega arith))
+
+  three-cons : 0xe0 ≤ b → b < 0xf0 → charLen (b ∷ s) ≡ cond (char3 (b ∷ s)) 3 0
+  unfolding charLen
+  three-cons h l = rw (out1 (omega arith), out2 h, low4 l)
+
+  four-cons : 0xf0 ≤ b → charLen (b ∷ s) ≡ cond (char4 (b ∷ s)) 4 0
+  unfolding charLen
+  four-cons h = rw (out1 (omega arith), out2 (omega arith), out3 h)
+
+pub none-len : (s : List ℕ) → length s ≡ 0 → charLen s ≡ 0
+unfolding charLen fits
+none-len [] h = refl
+none-len (b ∷ s) h = absurd (omega arith)
+
+module _ (s : List ℕ) (l : 0 < length s) where
+  pub one-len : getD s 0 0 < 0x80 → charLen s ≡ 1
+  one-len h = go s l h
+    where
+      go : (s : List ℕ) → 0 < length s → getD s 0 0 < 0x80 → charLen s ≡ 1
+      go [] l h = absurd (omega arith)
+      go (b ∷ s) l h = plain-one b s h
+
+  pub two-len : 0x80 ≤ getD s 0 0 → getD s 0 0 < 0xe0 → charLen s ≡ cond (char2 s) 2 0
+  two-len h k = go s l h k
+    where
+      go : (s : List ℕ) → 0 < length s → 0x80 ≤ getD s 0 0 → getD s 0 0 < 0xe0 → charLen s ≡ cond (char2 s) 2 0
+      go [] l h k = absurd (omega arith)
+      go (b ∷ s) l h k = two-cons b s h k
+
+  pub three-len : 0xe0 ≤ getD s 0 0 → getD s 0 0 < 0xf0 → charLen s ≡ cond (char3 s) 3 0
+  three-len h k = go s l h k
+    where
+      go : (s : List ℕ) → 0 < length s → 0xe0 ≤ getD s 0 0 → getD s 0 0 < 0xf0 → charLen s ≡ cond (char3 s) 3 0
+      go [] l h k = absurd (omega arith)
+      go (b ∷ s) l h k = three-cons b s h k
+
+  pub four-len : 0xf0 ≤ getD s 0 0 → charLen s ≡ cond (char4 s) 4 0
+  four-len h = go s l h
+    where
+      go : (s : List ℕ) → 0 < length s → 0xf0 ≤ getD s 0 0 → charLen s ≡ cond (char4 s) 4 0
+      go [] l h = absurd (omega arith)
+      go (b ∷ s) l h = four-cons b s h
+
+-- ---- a character is no longer than the list
+fits-le : (rs : List Range) (s : List ℕ) → fits rs s ≡ true → length rs ≤ length s
+unfolding fits
+fits-le [] s e = omega arith
+fits-le (r ∷ rs) [] e = absurd (false≢true e)
+fits-le (r ∷ rs) (b ∷ s) e = let h = fits-le rs s (and-right (within r b) (fits rs s) e) in omega arith
+
+pick-le : (a b c d : Bool) (n : ℕ) → (a ≡ true → 1 ≤ n) → (b ≡ true → 2 ≤ n) → (c ≡ true → 3 ≤ n) → (d ≡ true → 4 ≤ n)
+    → cond a 1 (cond b 2 (cond c 3 (cond d 4 0))) ≤ n
+pick-le true b c d n p q r s = p refl
+pick-le false true c d n p q r s = q refl
+pick-le false false true d n p q r s = r refl
+pick-le false false false true n p q r s = s refl
+pick-le false false false false n p q r s = omega arith
+
+pub charLen-le : (s : List ℕ) → charLen s ≤ length s
+unfolding charLen
+charLen-le s =
+    pick-le (char1 s) (char2 s) (char3 s) (char4 s) (length s) (fits-le _ s) (fits-le _ s)
+    (or-elim _ _ (or-elim _ _ (or-elim _ _ (fits-le _ s) (fits-le _ s)) (fits-le _ s)) (fits-le _ s))
+    (or-elim _ _ (or-elim _ _ (fits-le _ s) (fits-le _ s)) (fits-le _ s))
+
+-- ---- one character on
+endFrom-skip : (k : ℕ) (s : List ℕ) → k ≤ length s → endFrom k s ≡ k + endFrom 0 (drop k s)
+unfolding endFrom
+endFrom-skip zero s h = omega arith
+endFrom-skip (suc k) [] h = omega arith
+endFrom-skip (suc k) (b ∷ s) h = let e = endFrom-skip k s (omega arith) in omega arith
+
+pub utf8-next : (s : List ℕ) (n : ℕ) → charLen s ≡ suc n → utf8End s ≡ suc n + utf8End (drop (suc n) s)
+unfolding utf8End endFrom
+utf8-next [] n e = let h = charLen-le [] in omega arith
+utf8-next (b ∷ s) n e =
+    let h = charLen-le (b ∷ s) in
+    let k = endFrom-skip n s (omega arith) in
+    rw e (omega arith)
+
+pub utf8-stop : (s : List ℕ) → charLen s ≡ 0 → utf8End s ≡ 0
+unfolding utf8End endFrom
+utf8-stop [] e = refl
+utf8-stop (b ∷ s) e = rw e
+
+-- ---- plain bytes on
+pub utf8-plain : (b : ℕ) (s : List ℕ) → b < 0x80 → utf8End (b ∷ s) ≡ suc (utf8End s)
+utf8-plain b s h = let e = utf8-next (b ∷ s) 0 (plain-one b s h) in omega arith
+
+plain-run : (k : ℕ) (s : List ℕ) → run ascii k s ≡ true → (k ≤ length s) × (utf8End s ≡ k + utf8End (drop k s))
+unfolding run
+plain-run zero s h = (omega arith, omega arith)
+plain-run (suc k) [] h = absurd (false≢true h)
+plain-run (suc k) (b ∷ s) h =
+    let e = utf8-plain b s (ltb-true b 0x80 (and-left _ _ h)) in
+    let f = plain-run k s (and-right (ltb b 0x80) _ h) in
+    (omega arith, omega arith)
+
+-- a step passes well-formed bytes, or stands where there is no character
+step-next : (s : List ℕ) (n : ℕ) → stepLen s ≡ suc n → (suc n ≤ length s) × (utf8End s ≡ suc n + utf8End (drop (suc n) s))
+unfolding stepLen
+step-next s n = go (run ascii 8 s) refl
+  where
+    go : (t : Bool) → run ascii 8 s ≡ t → cond t 8 (charLen s) ≡ suc n → (suc n ≤ length s) × (utf8End s ≡ suc n + utf8End (drop (suc n) s))
+    go true p e = rw (← e) (plain-run 8 s p)
+    go false p e = let l = charLen-le s in (omega arith, utf8-next s n e)
+
+step-stop : (s : List ℕ) → stepLen s ≡ 0 → utf8End s ≡ 0
+unfolding stepLen
+step-stop s = go (run ascii 8 s)
+  where
+    go : (t : Bool) → cond t 8 (charLen s) ≡ 0 → utf8End s ≡ 0
+    go true e = absurd (omega arith)
+    go false e = utf8-stop s e
+
+utf8-none : utf8End [] ≡ 0
+unfolding utf8End endFrom
+utf8-none = refl
+
+pub utf8-steps : Steps utf8End stepLen
+utf8-steps = record { next = step-next; stop = step-stop; none = utf8-none }
