@@ -15,7 +15,7 @@ use Rattle.sdp_number.specs.Number.{allDigits, value, digitsBelow, dropPlus, wh
 use Rattle.sdp_number.specs.declared.Number.{Number}
 use Rattle.sdp_number.specs.declared.Number.the-variants.{Value, Encoding, Format}
 use Rattle.sdp_bytes.proofs.ScanLaws.{and-left, and-right}
-use Rattle.sdp_fields.specs.Records
+use Rattle.sdp_judge.specs.Offset
 use Rattle.sdp_judge.specs.Offset.{negated, signedOf, offsetOf}
 use Rattle.sdp_judge.specs.Read.{got, refused}
 use Rattle.sdp_put.specs.Digits.{digits, timeText}
@@ -201,7 +201,7 @@ minus-offset m h = go (eqb m 0) refl
         rw (le-leb (2 ^ 63) (2 ^ 64 - m) (omega arith), k) (omega (arith, ap length (offset-minus true m refl)))
 
 pub offset-short : (s : List ℕ) (n : ℕ) → offsetOf s ≡ got n → length (signedText n) ≤ length s
-unfolding Records.offsetOf
+unfolding Offset.offsetOf
 offset-short s n = go (ltb 0 (length s)) (eqb (getD s 0 0) 0x2d) refl
   where
     minus : 0 < length s → (x : Number) → typedTime (drop 1 s) ≡ x → signedOf true x ≡ got n → length (signedText n) ≤ length s

@@ -14,9 +14,10 @@ use Rattle.sdp_number.specs.Number.{wholeNumber, typedTime}
 use Rattle.sdp_number.specs.declared.Number.{Number}
 use Rattle.sdp_number.specs.declared.Number.the-variants.{Value, Encoding, Format}
 use Rattle.sdp_split.specs.Split.{part, wordAt, firstPiece, pieceAfter, restAfter, words}
+use Rattle.sdp_judge.specs.Read as FieldRead
 use Rattle.sdp_judge.specs.Read.{Read, got, refused, andThen, wholeOf}
 use Rattle.sdp_fields.specs.Records
-use Rattle.sdp_fields.specs.Records.{usernameOf, originOf, connectionOf, bandwidthOf, timesOf, pairOf, portNumber, portOf, afterPort, mediaOf, repeatHead}
+use Rattle.sdp_fields.specs.Records.{usernameOf, addressOf, originOf, connectionOf, bandwidthOf, timesOf, pairOf, portNumber, portOf, afterPort, mediaOf, repeatHead}
 use Rattle.sdp_judge.specs.Offset.{offsetOf}
 use Rattle.sdp_fields.specs.Lists
 use Rattle.sdp_fields.specs.Lists.{numbered, RepeatLine, offsetsOf, repeatOf, pairsOf, zonesOf}
@@ -49,7 +50,7 @@ line-length letter value = omega (arith, length-append value (0x0d ∷ 0x0a ∷ 
 
 -- ---- one string
 pub whole-short : (letter w : ℕ) (v : List ℕ) (p : Piece) → wholeOf w v ≡ got p → length (stringLine id letter (part v p)) ≤ length v + 4
-unfolding Records.wholeOf
+unfolding FieldRead.wholeOf
 whole-short letter w v p = go (isUtf8 v)
   where
     go : (b : Bool) → cond b (got (record { at = 0; len = length v })) (refused (record { number = 8; field = w })) ≡ got p → length (stringLine id letter (part v p)) ≤ length v + 4
@@ -59,19 +60,30 @@ whole-short letter w v p = go (isUtf8 v)
     go false e = absurd (let z : _≡_ {A = ℕ} 0 1 = cc in omega arith)
 
 -- ---- records of words
+-- a part that was read, and what follows it
+module _ {A B : Type 0} (P : B → Type 0) (Q : A → Type 0) where
+  past-read : (r : Read A) (k : A → Read B) → Every Q r → ((a : A) → Q a → Every P (k a)) → Every P (andThen r k)
+  past-read (got a) k q h = h a (q a refl)
+  past-read (refused x) k q h = never P x
+
 module _ (v : List ℕ) where
+  -- how o and c end: three words, each with the space before it
+  address-short : (w i : ℕ) → Every (λ c. length (clean (part v (c .nettype))) + length (clean (part v (c .addrtype))) + length (clean (part v (c .«connection_address»))) + 3 ≤ left v i) (addressOf w v i)
+  unfolding Records.addressOf
+  address-short w i =
+      past-token _ w v _ (wordAt v i) (λ net j n.
+      past-token _ (w + 1) v _ (wordAt v j) (λ kind l k.
+      past-text _ (w + 2) v _ (wordAt v l) (λ address e a.
+      past-end _ (w + 3) v (wordAt v e) _ (every-got _ _
+      (omega (arith, left-word v i net j n .0, left-word v j kind l k .0, left-word v l address e a .0, clean-short (part v net), clean-short (part v kind), clean-short (part v address)))))))
+
   pub connection-short : (c : Connection) → connectionOf v ≡ got c → length (connectionLine id (connectionIn (part v) c)) ≤ length v + 4
   unfolding Records.connectionOf Written.connectionLine Written.line
-  connection-short =
-      past-token _ 8 v _ (wordAt v 0) (λ net i n.
-      past-token _ 9 v _ (wordAt v i) (λ kind j k.
-      past-text _ 10 v _ (wordAt v j) (λ address e a.
-      past-end _ 11 v (wordAt v e) _ (every-got _ _
-      (simp length-append (omega (arith, left-word v 0 net i n .0, left-word v i kind j k .0, left-word v j address e a .0, left-whole v, clean-short (part v net), clean-short (part v kind), clean-short (part v address))))))))
+  connection-short c h = simp length-append (omega (arith, address-short 8 0 c h, left-whole v))
 
   -- "Username `-` means absent", and is written again; a word has one byte at least
   username-short : (p : Piece) → 0 < length (part v p) → length (usernameText id (maybeIn (part v) (usernameOf v p))) ≤ length (part v p)
-  unfolding Written.usernameText
+  unfolding Written.usernameText Written.orDash
   username-short p l = go (eqb (p .len) 1 && eqb (getD v (p .at) 0) 0x2d)
     where
       some-name : (b : Bool) → length (cond b (0x2d ∷ []) (clean (part v p))) ≤ length (part v p)
@@ -88,27 +100,19 @@ module _ (v : List ℕ) where
       past-text _ 1 v _ (wordAt v 0) (λ user i u.
       past-text _ 2 v _ (wordAt v i) (λ sess j s.
       past-number _ 3 v _ (wordAt v j) (λ version k x n m.
-      past-token _ 4 v _ (wordAt v k) (λ net l t.
-      past-token _ 5 v _ (wordAt v l) (λ kind o h.
-      past-text _ 6 v _ (wordAt v o) (λ address e a.
-      past-end _ 7 v (wordAt v e) _ (every-got _ _
+      past-read _ _ (addressOf 4 v k) _ (address-short 4 k) (λ c a. every-got _ _
       (simp length-append
       (omega (
         arith,
         left-word v 0 user i u .0,
         left-word v i sess j s .0,
         left-word v j x k n .0,
-        left-word v k net l t .0,
-        left-word v l kind o h .0,
-        left-word v o address e a .0,
+        a,
         left-whole v,
         username-short user (left-word v 0 user i u .1),
         clean-short (part v sess),
         m,
-        clean-short (part v net),
-        clean-short (part v kind),
-        clean-short (part v address),
-      ))))))))))
+      )))))))
 
   pub times-short : (t : Time) → timesOf v ≡ got t → length (line 0x74 (timeValue (timeIn t))) ≤ length v + 4
   unfolding Records.timesOf Written.line
@@ -210,11 +214,6 @@ media-short v =
     )))))))
 
 -- ---- lists of words
-module _ {A B : Type 0} (P : B → Type 0) (Q : A → Type 0) where
-  past-read : (r : Read A) (k : A → Read B) → Every Q r → ((a : A) → Q a → Every P (k a)) → Every P (andThen r k)
-  past-read (got a) k q h = h a (q a refl)
-  past-read (refused x) k q h = never P x
-
 -- a number that was read
 module _ {A : Type 0} (P : A → Type 0) (w : ℕ) (k : ℕ → Read A) where
   past-numbered : (x : Number) → ((n : ℕ) → x ≡ Value n → Every P (k n)) → Every P (andThen (numbered w x) k)

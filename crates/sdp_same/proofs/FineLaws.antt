@@ -19,9 +19,11 @@ use Rattle.sdp_number.specs.declared.Number.{Number}
 use Rattle.sdp_number.specs.declared.Number.the-variants.{Value, Encoding, Format}
 use Rattle.sdp_lines.specs.declared.Span.{Span}
 use Rattle.sdp_split.specs.Split.{part, wordAt, firstPiece, pieceAfter, restAfter, words, Inside, Within}
+use Rattle.sdp_judge.specs.Read as field-read
 use Rattle.sdp_judge.specs.Read.{Read, got, refused, andThen, encoding, format, textOf, tokenOf, amountOf, numberOf, timeOf, choiceOf, absent, afterText, afterAmount, afterChoice, ending, wholeOf}
 use Rattle.sdp_fields.specs.Records as records
-use Rattle.sdp_fields.specs.Records.{usernameOf, originOf, connectionOf, bandwidthOf, timesOf, pairOf, portNumber, portOf, afterPort, mediaOf, repeatHead}
+use Rattle.sdp_fields.specs.Records.{usernameOf, addressOf, originOf, connectionOf, bandwidthOf, timesOf, pairOf, portNumber, portOf, afterPort, mediaOf, repeatHead}
+use Rattle.sdp_judge.specs.Offset as signed-offset
 use Rattle.sdp_judge.specs.Offset.{negated, signed, signedOf, offsetOf}
 use Rattle.sdp_fields.specs.Lists as lists
 use Rattle.sdp_fields.specs.Lists.{RepeatLine, numbered, offsetsOf, repeatOf, pairsOf, zonesOf}
@@ -155,7 +157,7 @@ signed-below false m = go (ltb m (2 ^ 63)) refl
     go false q = lit< tt
 
 offset-below : (s : List ℕ) → Gives (λ n. n < 2 ^ 64) (offsetOf s)
-unfolding records.offsetOf
+unfolding signed-offset.offsetOf
 offset-below s =
     gives-cond _ (ltb 0 (length s) && eqb (getD s 0 0) 0x2d) (signedOf true (typedTime (drop 1 s))) (signedOf false (typedTime s)) (of true (typedTime (drop 1 s))) (of false (typedTime s))
   where
@@ -217,7 +219,7 @@ port-fit s =
 
 -- ---- strings
 pub whole-fine : (w : ℕ) (v : List ℕ) → Gives (Fine v) (wholeOf w v)
-unfolding records.wholeOf
+unfolding field-read.wholeOf
 whole-fine w v = go (isUtf8 v) refl
   where
     go : (b : Bool) → isUtf8 v ≡ b → Gives (Fine v) (cond b (got (record { at = 0; len = length v })) (refused (encoding w)))
@@ -240,25 +242,27 @@ module _ (v : List ℕ) (mk : Piece → Span) (P : Span → Type 0) (fine : (p :
       go true = λ q. absurd (false≢true q)
       go false = λ q. h
 
+  -- how o and c end
+  address-fit : (w i : ℕ) → Gives (λ c. FitConnection P (connectionIn mk c)) (addressOf w v i)
+  unfolding records.addressOf
+  address-fit w i =
+      of-token _ w v (wordAt v i) (word-within v i) _ (λ net j n.
+      of-token _ (w + 1) v (wordAt v j) (word-within v j) _ (λ kind l k.
+      of-text _ (w + 2) v (wordAt v l) (word-within v l) _ (λ address e a.
+      gives-end _ (w + 3) (wordAt v e) (got _) (record { nettype = fine net n; addrtype = fine kind k; connectionAddress = fine address a }))))
+
   pub origin-fit : Gives (λ o. FitOrigin P (originIn mk o)) (originOf v)
   unfolding records.originOf
   origin-fit =
       of-text _ 1 v (wordAt v 0) (word-within v 0) _ (λ user i u.
       of-text _ 2 v (wordAt v i) (word-within v i) _ (λ id j d.
       of-number _ 3 v (wordAt v j) _ (λ version l r.
-      of-token _ 4 v (wordAt v l) (word-within v l) _ (λ net m n.
-      of-token _ 5 v (wordAt v m) (word-within v m) _ (λ kind o k.
-      of-text _ 6 v (wordAt v o) (word-within v o) _ (λ address e a.
-      gives-end _ 7 (wordAt v e) (got _)
-      (record { username = maybe-fit (usernameOf v user) (username-fine user u); sessId = fine id d; sessVersion = r; nettype = fine net n; addrtype = fine kind k; unicastAddress = fine address a })))))))
+      gives-then _ (λ c. FitConnection P (connectionIn mk c)) (addressOf 4 v l) (address-fit 4 l) _ (λ c f.
+      record { username = maybe-fit (usernameOf v user) (username-fine user u); sessId = fine id d; sessVersion = r; nettype = f .nettype; addrtype = f .addrtype; unicastAddress = f .connectionAddress }))))
 
   pub connection-fit : Gives (λ c. FitConnection P (connectionIn mk c)) (connectionOf v)
   unfolding records.connectionOf
-  connection-fit =
-      of-token _ 8 v (wordAt v 0) (word-within v 0) _ (λ net i n.
-      of-token _ 9 v (wordAt v i) (word-within v i) _ (λ kind j k.
-      of-text _ 10 v (wordAt v j) (word-within v j) _ (λ address e a.
-      gives-end _ 11 (wordAt v e) (got _) (record { nettype = fine net n; addrtype = fine kind k; connectionAddress = fine address a }))))
+  connection-fit = address-fit 8 0
 
   pub bandwidth-fit : (owner : ℕ) → owner < 65536 → Gives (λ b. FitBandwidth P (bandwidthIn mk owner b)) (bandwidthOf v)
   unfolding records.bandwidthOf
