@@ -1,5 +1,5 @@
 -- The written form of an accepted text against the text: line by line, and the whole. Assumes nothing.
-use mathlib.Core.Path.{_≡_, refl, ap}
+use mathlib.Core.Path.{_≡_, refl, ap, _∙_}
 use mathlib.Core.Bool.{Bool, true, false, cond}
 use mathlib.Core.List.{List, [], _∷_}
 use Prim.Native.Nat.{ℕ, suc, _+_, _-_, _≤_}
@@ -18,10 +18,16 @@ use Rattle.sdp_roles.specs.Roles.{roleAt}
 use Rattle.sdp_step.specs.Step.{Reading, Stepped, goes, stops, fresh}
 use Rattle.sdp_roles.specs.declared.Role.{Role}
 use Rattle.sdp_read.specs.Run
-use Rattle.sdp_read.specs.Run.{Verdict, accepted, refused, after, stepForm, run, isZero, beginForm, begin, lines}
+use Rattle.sdp_read.specs.Run.{Verdict, accepted, refused, after, stepForm, run, isZero, beginForm, begin, lines, readText}
 use Rattle.sdp_row.specs.Written
 use Rattle.sdp_row.specs.Written.{written}
-use Rattle.sdp_bound.specs.Kept.{roleOf, uses, opens, usedFrom, fromVersion, keptLines, kept, bytesAt, id}
+use Rattle.sdp_lines.specs.Strings.{bytesOf}
+use Rattle.sdp_write.specs.Write.{textOf}
+use Rattle.sdp_same.specs.Said.{said, bytesAt}
+use Rattle.sdp_same.proofs.WrittenLaws.{written-said}
+use Rattle.sdp_same.proofs.LinesLaws.{accepted-said}
+use Rattle.sdp_same.proofs.SameLaws.{read-then-write}
+use Rattle.sdp_bound.specs.Kept.{roleOf, uses, opens, usedFrom, fromVersion, keptLines, kept, id}
 use Rattle.sdp_bound.proofs.RowLaws.{sum}
 use Rattle.sdp_bound.proofs.CostLaws.{cost, timesCost, written-cost}
 use Rattle.sdp_bound.proofs.StepLaws.{Going, on, off, Grown, step-grown}
@@ -115,3 +121,10 @@ begin-cost (r ∷ rs) s n p e = form (formOf (content r)) (begin-cost rs s (n + 
 pub written-bound : (t : List ℕ) (s : Session (List ℕ)) → lines bytesAt t ≡ accepted s → length (written id s) ≤ length t + kept t + 36
 unfolding Run.lines kept
 written-bound t s e = omega (arith, written-cost s, begin-cost (split t) s 1 0 e, bodies-short t)
+
+-- ---- over the promises of read and write: what is written of an area that read has just left
+pub write-bound : (t a : List ℕ) → readText t a .answer .number ≡ 0 → length (textOf t (readText t a .area)) ≤ length t + kept t + 36
+write-bound t a h =
+    let r = read-then-write t a [] h in
+    let e = r .text ∙ written-said (bytesOf t) (r .session) in
+    omega (arith, ap length e, written-bound t (said (bytesOf t) (r .session)) (accepted-said t (r .session) (r .read)))

@@ -10,7 +10,7 @@ use Rattle.sdp_row.specs.Written
 use Rattle.sdp_row.specs.Written.{line, each, optional, spaced, timeValue, repeatLine, timeLines, timesLines, zonesLine, stringLine, originLine, nameLine, connectionLine, bandwidthLine, pairLine, keyLine, mediaLine, mediaLines, written}
 use Rattle.sdp_bound.specs.Kept.{id}
 use Rattle.sdp_bound.proofs.RowLaws.{sum, Rows, each-short, rows-short, ofOwner, fromOwner, owner-next, owner-all, owner-sum}
-use Rattle.sdp_bound.proofs.RecordLaws.{line-length}
+use Rattle.sdp_write.proofs.ShortLaws.{length-line}
 
 -- ---- rows
 abbrev pub timeCost : Time → ℕ
@@ -138,7 +138,7 @@ written-cost s =
       r,
       rest-short (s .tables) 0,
       t,
-      line-length 0x76 (0x30 ∷ []),
+      length-line 0x76 (0x30 ∷ []),
       rows-short (λ k x. stringLine id 0x65 x) (λ x. length (stringLine id 0x65 x)) (λ k x. omega arith) 1 (s .tables .emails),
       rows-short (λ k x. stringLine id 0x70 x) (λ x. length (stringLine id 0x70 x)) (λ k x. omega arith) 1 (s .tables .phones),
     ))

@@ -29,24 +29,8 @@ use Rattle.sdp_fields.proofs.WordLaws.{word-next}
 use Rattle.sdp_judge.proofs.ReadLaws.{Every, never}
 use Rattle.sdp_put.specs.Digits.{digits, timeText}
 use Rattle.sdp_put.specs.Strings
-use Rattle.sdp_put.specs.Strings.{kept, clean}
 use Rattle.sdp_bound.proofs.NumberLaws.{number-short, time-short}
 use Rattle.sdp_bound.proofs.RowLaws.{sum}
-
--- ---- strings
-kept-short : (b : ℕ) → length (kept b) ≤ 1
-unfolding Strings.kept
-kept-short b = go (Strings.dropped b)
-  where
-    go : (t : Bool) → length (cond t [] (b ∷ [])) ≤ 1
-    go true = omega arith
-    go false = omega arith
-
--- dropping bytes makes nothing longer
-pub clean-short : (s : List ℕ) → length (clean s) ≤ length s
-unfolding Strings.clean
-clean-short [] = omega arith
-clean-short (b ∷ s) = omega (arith, length-append (kept b) (clean s), kept-short b, clean-short s)
 
 pub part-len : (v : List ℕ) (p : Piece) → length (part v p) ≤ p .len
 part-len v p = omega (arith, length-take (p .len) (drop (p .at) v))

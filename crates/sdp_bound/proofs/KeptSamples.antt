@@ -11,7 +11,8 @@ use Rattle.sdp_read.specs.Run
 use Rattle.sdp_read.specs.Run.{accepted, lines}
 use Rattle.sdp_row.specs.Written
 use Rattle.sdp_row.specs.Written.{written}
-use Rattle.sdp_bound.specs.Kept.{usedFrom, keptLines, kept, bytesAt, id}
+use Rattle.sdp_same.specs.Said.{bytesAt}
+use Rattle.sdp_bound.specs.Kept.{usedFrom, keptLines, kept, id}
 
 -- v=0
 abbrev version : List ℕ

@@ -39,14 +39,11 @@ use Rattle.sdp_put.specs.Digits.{digits, timeText}
 use Rattle.sdp_put.specs.Strings.{clean}
 use Rattle.sdp_row.specs.Written
 use Rattle.sdp_row.specs.Written.{line, each, optional, stringLine, usernameText, originLine, connectionLine, bandwidthLine, pairLine, mediaLine, timeValue, signedText, zoneText, zonesLine}
+use Rattle.sdp_write.proofs.ShortLaws.{length-clean, length-line}
 use Rattle.sdp_bound.specs.Kept.{id}
 use Rattle.sdp_bound.proofs.NumberLaws.{number-short, time-short, offset-short}
 use Rattle.sdp_bound.proofs.RowLaws.{sum}
-use Rattle.sdp_bound.proofs.FieldLaws.{clean-short, part-len, weight, left, left-whole, left-word, first-piece, next-piece, rest-piece, past-text, past-token, past-number, past-time, past-choice, past-end}
-
-pub line-length : (letter : ℕ) (value : List ℕ) → length (line letter value) ≡ length value + 4
-unfolding Written.line
-line-length letter value = omega (arith, length-append value (0x0d ∷ 0x0a ∷ []))
+use Rattle.sdp_bound.proofs.FieldLaws.{part-len, weight, left, left-whole, left-word, first-piece, next-piece, rest-piece, past-text, past-token, past-number, past-time, past-choice, past-end}
 
 -- ---- one string
 pub whole-short : (letter w : ℕ) (v : List ℕ) (p : Piece) → wholeOf w v ≡ got p → length (stringLine id letter (part v p)) ≤ length v + 4
@@ -56,7 +53,7 @@ whole-short letter w v p = go (isUtf8 v)
     go : (b : Bool) → cond b (got (record { at = 0; len = length v })) (refused (record { number = 8; field = w })) ≡ got p → length (stringLine id letter (part v p)) ≤ length v + 4
     go true e =
         let z : record { at = 0; len = length v } ≡ p = cc in
-        omega (arith, line-length letter (clean (part v p)), clean-short (part v p), part-len v p, ap (λ (q : Piece). q .len) z)
+        omega (arith, length-line letter (clean (part v p)), length-clean (part v p), part-len v p, ap (λ (q : Piece). q .len) z)
     go false e = absurd (let z : _≡_ {A = ℕ} 0 1 = cc in omega arith)
 
 -- ---- records of words
@@ -75,7 +72,7 @@ module _ (v : List ℕ) where
       past-token _ (w + 1) v _ (wordAt v j) (λ kind l k.
       past-text _ (w + 2) v _ (wordAt v l) (λ address e a.
       past-end _ (w + 3) v (wordAt v e) _ (every-got _ _
-      (omega (arith, left-word v i net j n .0, left-word v j kind l k .0, left-word v l address e a .0, clean-short (part v net), clean-short (part v kind), clean-short (part v address)))))))
+      (omega (arith, left-word v i net j n .0, left-word v j kind l k .0, left-word v l address e a .0, length-clean (part v net), length-clean (part v kind), length-clean (part v address)))))))
 
   pub connection-short : (c : Connection) → connectionOf v ≡ got c → length (connectionLine id (connectionIn (part v) c)) ≤ length v + 4
   unfolding Records.connectionOf Written.connectionLine Written.line
@@ -88,7 +85,7 @@ module _ (v : List ℕ) where
     where
       some-name : (b : Bool) → length (cond b (0x2d ∷ []) (clean (part v p))) ≤ length (part v p)
       some-name true = omega arith
-      some-name false = clean-short (part v p)
+      some-name false = length-clean (part v p)
 
       go : (b : Bool) → length (usernameText id (maybeIn (part v) (cond b (record { there = false; piece = record { at = 0; len = 0 } }) (record { there = true; piece = p })))) ≤ length (part v p)
       go true = omega arith
@@ -110,7 +107,7 @@ module _ (v : List ℕ) where
         a,
         left-whole v,
         username-short user (left-word v 0 user i u .1),
-        clean-short (part v sess),
+        length-clean (part v sess),
         m,
       )))))))
 
@@ -131,7 +128,7 @@ module _ (v : List ℕ) where
       past-number _ 13 v _ (pieceAfter 0x3a v i) (λ m e p q l.
       past-end _ 14 v (pieceAfter 0x3a v e) _ (every-got _ _
       (simp length-append
-      (omega (arith, first-piece v 0x3a kind i k .0, next-piece v i p e 0x3a q .0, next-piece v i p e 0x3a q .1, l, clean-short (part v kind), part-len v kind, part-len v p))))))
+      (omega (arith, first-piece v 0x3a kind i k .0, next-piece v i p e 0x3a q .0, next-piece v i p e 0x3a q .1, l, length-clean (part v kind), part-len v kind, part-len v p))))))
 
   pub pair-short : (letter w x : ℕ) (p : Pair) → pairOf w x v ≡ got p → length (pairLine id letter (part v (p .name)) (maybeIn (part v) (p .value))) ≤ length v + 4
   unfolding Records.pairOf Written.pairLine Written.line
@@ -140,9 +137,9 @@ module _ (v : List ℕ) where
       past-choice _ x v _ (restAfter v i)
       (λ value e q. every-got _ _
       (simp length-append
-      (omega (arith, first-piece v 0x3a name i n .0, rest-piece v i value e q, clean-short (part v name), part-len v name, clean-short (part v value), part-len v value))))
+      (omega (arith, first-piece v 0x3a name i n .0, rest-piece v i value e q, length-clean (part v name), part-len v name, length-clean (part v value), part-len v value))))
       (every-got _ _
-      (simp length-append (omega (arith, first-piece v 0x3a name i n .0, first-piece v 0x3a name i n .1, clean-short (part v name), part-len v name)))))
+      (simp length-append (omega (arith, first-piece v 0x3a name i n .0, first-piece v 0x3a name i n .1, length-clean (part v name), part-len v name)))))
 
 -- ---- the media, and its ports
 module _ {A : Type 0} (P : A → Type 0) (w : ℕ) (s : List ℕ) (k : ℕ → Read A) where
@@ -205,11 +202,11 @@ media-short v =
       rest-piece v k fmt e f,
       simp length-append at l,
       part-len v x,
-      clean-short (part v name),
+      length-clean (part v name),
       part-len v name,
-      clean-short (part v proto),
+      length-clean (part v proto),
       part-len v proto,
-      clean-short (part v fmt),
+      length-clean (part v fmt),
       part-len v fmt,
     )))))))
 

@@ -4,8 +4,6 @@ use mathlib.Core.List.{List, [], _∷_}
 use Rattle.sdp_lines.specs.Lines.{Raw, split, content, formOf}
 use Rattle.sdp_lines.specs.declared.Form.{Form}
 use Rattle.sdp_lines.specs.declared.Form.the-variants.{Blank, Good, Bad}
-use Rattle.sdp_split.specs.Split.{part}
-use Rattle.sdp_split.specs.declared.Piece.{Piece}
 use Rattle.sdp_roles.specs.Roles.{roleAt}
 use Rattle.sdp_roles.specs.declared.Role.{Role}
 use Rattle.sdp_roles.specs.declared.Role.the-variants.{Origin, Name, Description, Uri, Email, Phone, Connection, Bandwidth, Time, Repeat, Zone, Key, Attribute, Media, MediaTitle, MediaConnection, MediaKey, Nothing}
@@ -66,10 +64,6 @@ keptLines (r ∷ rs) = fromVersion (formOf (content r)) (keptLines rs) (1 + used
 unfoldable pub kept : List ℕ → ℕ
 kept t = keptLines (split t)
 
--- where strings are bytes: the string of a piece
-abbrev pub bytesAt : ℕ → List ℕ → Piece → List ℕ
-bytesAt p v x = part v x
-
--- and the bytes of a string
+-- the bytes of a string that is its bytes
 abbrev pub id : List ℕ → List ℕ
 id x = x

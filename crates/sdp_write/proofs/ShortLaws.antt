@@ -42,7 +42,7 @@ length-clean [] = omega arith
 length-clean (b ∷ s) = omega (arith, length-append (kept b) (clean s), length-kept b, length-clean s)
 
 -- ---- digits
-pub length-digits : (n v : ℕ) → v < 10 ^ suc n → length (digits v) ≤ suc n
+length-digits : (n v : ℕ) → v < 10 ^ suc n → length (digits v) ≤ suc n
 length-digits zero v h = let l : v < 10 = h in rw (digits-one v l) (omega arith)
 length-digits (suc n) v h = go (ltb v 10) refl (let e : v < 10 ^ suc n * 10 = rw (← (pow-suc 10 (suc n))) h in length-digits n (v / 10) (omega arith))
   where
@@ -80,7 +80,7 @@ signed-22 v h = go (leb (2 ^ 63) v) refl
     go false e = offset-22 false v h
 
 -- ---- parts of lines
-length-line : (l : ℕ) (v : List ℕ) → length (line l v) ≡ length v + 4
+pub length-line : (l : ℕ) (v : List ℕ) → length (line l v) ≡ length v + 4
 unfolding line
 length-line l v = omega (arith, length-append v (0x0d ∷ 0x0a ∷ []))
 
