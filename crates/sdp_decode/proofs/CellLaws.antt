@@ -4,8 +4,8 @@ use mathlib.Core.List.{List}
 use Prim.Native.Nat.{ℕ, zero, suc, _+_, _*_, _≤_}
 use native.Mathlib.Nat.{add-assoc}
 use native.Mathlib.Omega.{arith}
-use lib.ListN.{length, getD, List·getD-eq-default}
-use mathlib.Core.Option.{Option, none, some}
+use lib.ListN.{length, List·getD-eq-default}
+use mathlib.Core.Option.{none, some}
 use borrow.Author.Tests.{ne-eqb}
 use Rattle.sdp_cells.specs.Bytes as bytes
 use Rattle.sdp_cells.specs.Bytes.{num}

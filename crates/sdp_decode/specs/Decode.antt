@@ -1,6 +1,6 @@
 -- The session that an area holds, whatever its bytes are: docs/AREA.md byte by byte. Bytes past the area's end count as 0.
 use mathlib.Core.List.{List}
-use mathlib.Core.Option.{Option, some}
+use mathlib.Core.Option.{some}
 use Prim.Native.Nat.{ℕ, _+_}
 use Rattle.sdp_lines.specs.declared.Span.{Span}
 use Rattle.sdp_cells.specs.Bytes.{num}

@@ -1,6 +1,6 @@
 -- Bytes put into a bounded output, one after the other. What would stand past the output's end is dropped, and only counted.
 use mathlib.Core.Path.{_≡_}
-use mathlib.Core.List.{List, [], _∷_}
+use mathlib.Core.List.{List}
 use Prim.Native.Nat.{ℕ, _+_, _-_, _<_, _^_, min}
 use lib.ListN.{length}
 use lib.Seq.{sets}

@@ -1,12 +1,10 @@
 -- Lines: what a line is made of, and its parts by cases. Assumes nothing.
-use mathlib.Core.Path.{_≡_, refl, sym, ap, ap₂, _∙_}
-use mathlib.Core.Bool.{Bool, true, false, cond}
-use mathlib.Core.List.{List, [], _∷_, _++_}
-use mathlib.Core.Option.{Option, none, some}
+use mathlib.Core.Path.{_≡_, sym, ap, ap₂, _∙_}
+use mathlib.Core.Bool.{true, false}
+use mathlib.Core.List.{List, [], _∷_}
 use Prim.Native.Nat.{ℕ, _+_, _-_, _^_, _≤_, _<_, min}
 use native.Mathlib.Omega.{arith}
 use lib.ListN.{length, take, drop, length-take, length-drop}
-use lib.Dec.{leb, eqb}
 use borrow.Author.Tests.{eq-eqb, ne-eqb, le-leb, lt-leb}
 use Rattle.sdp_cells.specs.Bytes.{num}
 use Rattle.sdp_put.specs.Out.{Put}
@@ -14,11 +12,10 @@ use Rattle.sdp_put.specs.Digits.{offsetText}
 use Rattle.sdp_put.specs.Strings.{part, clean}
 use Rattle.sdp_put.proofs.OutLaws.{_then_}
 use Rattle.sdp_lines.specs.Strings.{bytesOf}
-use Rattle.sdp_lines.specs.declared.Span.{Span}
 use Rattle.sdp_decode.specs.Rows.{marked}
 use Rattle.sdp_decode.specs.Decode.{spanOf}
 use Rattle.sdp_decode.proofs.CellLaws.{marked-none, marked-some}
-use Rattle.sdp_row.specs.Written.{ending, line, mine, optional, signedText, between, orDash}
+use Rattle.sdp_row.specs.Written.{line, mine, optional, signedText, between, orDash}
 
 -- a line: its letter, its value, its ending
 pub in-line : {o o₁ o₂ o₃ v : List ℕ} {letter at r₁ r₂ r₃ : ℕ} → Put o at (letter ∷ 0x3d ∷ []) o₁ r₁ → Put o₁ r₁ v o₂ r₂ → Put o₂ r₂ (0x0d ∷ 0x0a ∷ []) o₃ r₃ → Put o at (line letter v) o₃ r₃

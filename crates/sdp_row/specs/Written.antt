@@ -1,6 +1,6 @@
 -- Document 01, "Writing": the written form of a session, a concatenation of lines in the crate's order. str gives the bytes of a string.
 use Prim.Native.Nat.{ℕ, _+_, _-_, _^_}
-use mathlib.Core.Bool.{Bool, true, false, cond}
+use mathlib.Core.Bool.{cond}
 use mathlib.Core.List.{List, [], _∷_, _++_}
 use mathlib.Core.Option.{Option, none, some}
 use lib.ListN.{length}

@@ -1,12 +1,12 @@
 -- A written form is far shorter than a place can count: so the two passes agree, whatever the area holds. Assumes nothing.
-use mathlib.Core.Path.{_≡_, refl, sym, ap, _∙_}
+use mathlib.Core.Path.{_≡_, refl}
 use mathlib.Core.Bool.{Bool, true, false, cond}
 use mathlib.Core.List.{List, [], _∷_, _++_}
 use mathlib.Core.Option.{Option, none, some}
-use Prim.Native.Nat.{ℕ, zero, suc, _+_, _*_, _-_, _/_, _%_, _≤_, _<_, _^_, min}
+use Prim.Native.Nat.{ℕ, zero, suc, _+_, _*_, _-_, _/_, _%_, _≤_, _<_, _^_}
 use native.Mathlib.Nat.{suc-mul, suc-ne-zero, pow-suc, mul-le-mul-right}
 use native.Mathlib.Omega.{arith}
-use lib.ListN.{length, take, drop, getD, length-append, length-take, length-drop}
+use lib.ListN.{length, drop, getD, length-append, length-take, length-drop}
 use lib.Dec.{ltb, leb, eqb}
 use borrow.Author.Tests.{ltb-true, ltb-false, leb-true}
 use Rattle.sdp_put.specs.Digits as digit
@@ -25,7 +25,7 @@ use Rattle.sdp_decode.specs.Rows.{rowsAt, table, marked}
 use Rattle.sdp_decode.specs.Decode.{num2, spanOf, originOf, connectionOf, mediaConnectionOf, keyOf, bandwidthOf, timeOf, repeatOf, offsetOf, zoneOf, attributeOf, mediaOf, decode}
 use Rattle.sdp_write.specs.Tables.{offsetsIn}
 use Rattle.sdp_write.proofs.RowLaws.{times-none, times-some, zones-none, zones-some}
-use Rattle.sdp_row.specs.Written.{line, spaced, each, mine, optional, offsetsOf, repeatLine, timeLines, timesLines, signedText, zoneText, zonesLine, orDash, usernameText, originValue, originLine, connectionLine, bandwidthLine, pairLine, keyLine, stringLine, nameLine, bandwidthsOf, attributesOf, connectionsOf, mediaLine, mediaLines, headLines, contactLines, closingLines, written}
+use Rattle.sdp_row.specs.Written.{line, spaced, each, mine, optional, offsetsOf, repeatLine, timeLines, timesLines, signedText, zoneText, zonesLine, orDash, usernameText, originValue, originLine, connectionLine, bandwidthLine, pairLine, keyLine, stringLine, bandwidthsOf, attributesOf, connectionsOf, mediaLine, mediaLines, headLines, contactLines, closingLines, written}
 
 -- ---- bytes that are kept
 length-kept : (b : ℕ) → length (kept b) ≤ 1

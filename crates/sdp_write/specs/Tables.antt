@@ -1,6 +1,6 @@
 -- What the table loops put: the rows of a table by their places in the area.
 use Prim.Native.Nat.{ℕ, zero, suc, _+_}
-use mathlib.Core.List.{List, [], _∷_, _++_}
+use mathlib.Core.List.{List, [], _++_}
 use Rattle.sdp_area.specs.Area.{offsetsAt}
 use Rattle.sdp_area.specs.Session.{Offset}
 use Rattle.sdp_decode.specs.Rows.{table}

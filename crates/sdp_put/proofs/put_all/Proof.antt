@@ -1,10 +1,11 @@
+-- `sdp_put::put_all` meets its contract. Assumes nothing.
 use Rattle.sdp_put.proofs.StringLaws.{rest-more}
 use lib.ListN.{drop, drop-of-length-le}
 use Rattle.sdp_put.proofs.OutLaws.{Same, begin, turn, finish}
 use lib.ListN.{length}
-use mathlib.Core.Path.{_≡_, refl, ap}
+use mathlib.Core.Path.{_≡_, refl}
 use native.Mathlib.Omega.{arith}
-use Prim.Native.Nat.{_+_, _-_, _≤_}
+use Prim.Native.Nat.{_-_}
 use Rattle.sdp_put.proofs.put_all.Statement.{statement}
 use Rattle.sdp_put.proofs.put_all.Tie as tie
 

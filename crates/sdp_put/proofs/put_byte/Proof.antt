@@ -1,5 +1,5 @@
+-- `sdp_put::put_byte` meets its contract. Assumes nothing.
 use Rattle.sdp_put.proofs.OutLaws.{byte-in, byte-out}
-use denote.Ref.{now}
 use borrow.Author.Needs.{needs}
 use Rattle.sdp_put.proofs.put_byte.Statement.{statement}
 use Rattle.sdp_put.proofs.put_byte.Tie as tie

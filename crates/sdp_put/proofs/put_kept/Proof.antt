@@ -1,6 +1,7 @@
+-- `sdp_put::put_kept` meets its contract. Assumes nothing.
 use Rattle.sdp_put.proofs.StringLaws.{kept-not, kept-is}
 use Rattle.sdp_put.proofs.OutLaws.{said, nothing}
-use mathlib.Core.Path.{_≡_, sym, _∙_}
+use mathlib.Core.Path.{sym, _∙_}
 use borrow.Author.Needs.{needs}
 use Rattle.sdp_put.proofs.put_kept.Statement.{statement}
 use Rattle.sdp_put.proofs.put_kept.Tie as tie

@@ -1,3 +1,4 @@
+-- `sdp_put::put_offset` meets its contract. Assumes nothing.
 use Rattle.sdp_put.proofs.DigitLaws.{offset-minus, offset-plain}
 use Rattle.sdp_put.proofs.OutLaws.{said, _then_}
 use mathlib.Core.Path.{sym}

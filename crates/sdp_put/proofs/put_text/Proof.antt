@@ -1,10 +1,11 @@
+-- `sdp_put::put_text` meets its contract. Assumes nothing.
 use Rattle.sdp_put.proofs.StringLaws.{upto, part-upto, clean-more, clean-done}
 use Rattle.sdp_put.specs.Strings.{part, clean}
 use Rattle.sdp_put.proofs.OutLaws.{Same, begin, turn, finish}
 use lib.ListN.{length}
 use mathlib.Core.Path.{_≡_, refl, ap}
 use native.Mathlib.Omega.{arith}
-use Prim.Native.Nat.{_+_, _-_, _≤_}
+use Prim.Native.Nat.{_-_, _≤_}
 use Rattle.sdp_put.proofs.put_text.Statement.{statement}
 use Rattle.sdp_put.proofs.put_text.Tie as tie
 

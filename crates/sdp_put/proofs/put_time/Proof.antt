@@ -1,3 +1,4 @@
+-- `sdp_put::put_time` meets its contract. Assumes nothing.
 use Rattle.sdp_put.proofs.DigitLaws.{time-zero, time-day, time-hour, time-minute, time-plain}
 use Rattle.sdp_put.proofs.OutLaws.{said}
 use mathlib.Core.Path.{sym}

@@ -1,3 +1,4 @@
+-- `sdp_put::put_two` meets its contract. Assumes nothing.
 use Rattle.sdp_put.proofs.OutLaws.{_then_}
 use borrow.Author.Needs.{needs}
 use Rattle.sdp_put.proofs.put_two.Statement.{statement}

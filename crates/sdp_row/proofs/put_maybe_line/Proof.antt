@@ -3,7 +3,7 @@ use Rattle.sdp_row.proofs.LineLaws.{absent, present}
 use Rattle.sdp_put.proofs.OutLaws.{said, nothing}
 use Rattle.sdp_lines.specs.Strings.{bytesOf}
 use Rattle.sdp_row.specs.Written.{stringLine}
-use Rattle.sdp_decode.specs.Decode.{num2, spanOf}
+use Rattle.sdp_decode.specs.Decode.{spanOf}
 use denote.Ref.{now}
 use borrow.Author.Needs.{needs}
 use Rattle.sdp_row.proofs.put_maybe_line.Statement.{statement}

@@ -3,7 +3,6 @@ use Rattle.sdp_row.proofs.LineLaws.{in-line}
 use Rattle.sdp_put.proofs.OutLaws.{_then_, said}
 use Rattle.sdp_put.specs.Digits.{digits}
 use Rattle.sdp_row.specs.Written.{spaced, mediaLine}
-use Rattle.sdp_decode.specs.Decode.{num2}
 use mathlib.Core.Path.{ap}
 use Prim.Native.Nat.{ℕ}
 use borrow.Author.Needs.{needs}

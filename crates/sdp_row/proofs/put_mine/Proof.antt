@@ -1,7 +1,6 @@
 -- `sdp_row::put_mine` meets its contract. Assumes nothing.
 use Rattle.sdp_row.proofs.LineLaws.{mine-own, mine-other}
 use Rattle.sdp_put.proofs.OutLaws.{said, nothing}
-use Rattle.sdp_decode.specs.Decode.{num2}
 use borrow.Author.Needs.{needs}
 use Rattle.sdp_row.proofs.put_mine.Statement.{statement}
 use Rattle.sdp_row.proofs.put_mine.Tie as tie

@@ -1,7 +1,6 @@
 -- `sdp_row::put_name` meets its contract. Assumes nothing.
 use Rattle.sdp_row.proofs.LineLaws.{name-empty, name-past, name-there}
 use Rattle.sdp_put.proofs.OutLaws.{said}
-use Rattle.sdp_decode.specs.Decode.{num2}
 use borrow.Author.Needs.{needs}
 use Rattle.sdp_row.proofs.put_name.Statement.{statement}
 use Rattle.sdp_row.proofs.put_name.Tie as tie

@@ -4,7 +4,7 @@ use Rattle.sdp_decode.proofs.CellLaws.{marked-none, marked-some}
 use Rattle.sdp_put.proofs.OutLaws.{said}
 use Rattle.sdp_lines.specs.Strings.{bytesOf}
 use Rattle.sdp_row.specs.Written.{line, originLine}
-use Rattle.sdp_decode.specs.Decode.{num2, originOf}
+use Rattle.sdp_decode.specs.Decode.{originOf}
 use mathlib.Core.Path.{sym, ap}
 use denote.Ref.{now}
 use borrow.Author.Needs.{needs}

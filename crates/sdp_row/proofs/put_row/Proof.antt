@@ -1,5 +1,4 @@
 -- `sdp_row::put_row` meets its contract. Assumes nothing.
-use Rattle.sdp_decode.specs.Rows.{table}
 use borrow.Author.Needs.{needs}
 use Rattle.sdp_row.proofs.put_row.Statement.{statement}
 use Rattle.sdp_row.proofs.put_row.Tie as tie

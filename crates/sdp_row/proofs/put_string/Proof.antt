@@ -1,7 +1,6 @@
 -- `sdp_row::put_string` meets its contract. Assumes nothing.
 use Rattle.sdp_row.proofs.LineLaws.{string-is}
 use Rattle.sdp_put.proofs.OutLaws.{said}
-use Rattle.sdp_decode.specs.Decode.{num2}
 use borrow.Author.Needs.{needs}
 use Rattle.sdp_row.proofs.put_string.Statement.{statement}
 use Rattle.sdp_row.proofs.put_string.Tie as tie

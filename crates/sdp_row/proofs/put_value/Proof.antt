@@ -3,7 +3,7 @@ use Rattle.sdp_row.proofs.LineLaws.{absent, present}
 use Rattle.sdp_put.proofs.OutLaws.{_then_, said, nothing}
 use Rattle.sdp_put.specs.Strings.{clean}
 use Rattle.sdp_lines.specs.Strings.{bytesOf}
-use Rattle.sdp_decode.specs.Decode.{num2, spanOf}
+use Rattle.sdp_decode.specs.Decode.{spanOf}
 use mathlib.Core.List.{[], _∷_, _++_}
 use denote.Ref.{now}
 use borrow.Author.Needs.{needs}

@@ -4,7 +4,7 @@ use Rattle.sdp_valid.specs.Judge.{rising}
 use Rattle.sdp_cells.specs.Bytes.{num}
 use mathlib.Core.Path.{_≡_, sym, _∙_}
 use native.Mathlib.Omega.{arith}
-use Prim.Native.Nat.{ℕ, _+_, _*_, _-_, _≤_, _<_}
+use Prim.Native.Nat.{_+_, _*_, _-_, _≤_, _<_}
 use Rattle.sdp_valid.proofs.rising.Statement.{statement}
 use Rattle.sdp_valid.proofs.rising.Tie as tie
 

@@ -3,7 +3,7 @@ use Rattle.sdp_write.proofs.RowLaws.{Left, left-begin, left-turn, left-
 use Rattle.sdp_row.specs.Written.{timeLines}
 use Rattle.sdp_write.specs.Tables.{offsetsIn}
 use Rattle.sdp_decode.specs.Rows.{table}
-use Rattle.sdp_decode.specs.Decode.{num2, timeOf, repeatOf}
+use Rattle.sdp_decode.specs.Decode.{timeOf, repeatOf}
 use Rattle.sdp_cells.specs.Bytes.{num}
 use Rattle.sdp_area.specs.Area.{timesAt, repeatsAt}
 use mathlib.Core.Path.{_≡_, refl}

@@ -2,7 +2,7 @@
 use Rattle.sdp_write.proofs.RowLaws.{Left, left-begin, left-turn, left-finish}
 use Rattle.sdp_lines.specs.Strings.{bytesOf}
 use Rattle.sdp_row.specs.Written.{mediaLines}
-use Rattle.sdp_decode.specs.Decode.{num2, mediaOf, decode}
+use Rattle.sdp_decode.specs.Decode.{mediaOf, decode}
 use Rattle.sdp_cells.specs.Bytes.{num}
 use Rattle.sdp_area.specs.Area.{mediasAt}
 use mathlib.Core.Path.{_≡_, refl}

@@ -2,7 +2,7 @@
 use Rattle.sdp_write.proofs.RowLaws.{Left, left-begin, left-turn, left-finish}
 use Rattle.sdp_row.specs.Written.{mine, repeatLine}
 use Rattle.sdp_write.specs.Tables.{offsetsIn}
-use Rattle.sdp_decode.specs.Decode.{num2, repeatOf}
+use Rattle.sdp_decode.specs.Decode.{repeatOf}
 use Rattle.sdp_cells.specs.Bytes.{num}
 use Rattle.sdp_area.specs.Area.{repeatsAt}
 use mathlib.Core.Path.{_≡_, refl}

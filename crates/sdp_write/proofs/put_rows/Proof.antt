@@ -1,8 +1,6 @@
 -- `sdp_write::put_rows` meets its contract. Assumes nothing.
 use Rattle.sdp_write.proofs.RowLaws.{Left, left-begin, left-turn, left-finish}
 use Rattle.sdp_row.specs.Rows.{rowText}
-use Rattle.sdp_decode.specs.Rows.{table}
-use Rattle.sdp_decode.specs.Decode.{num2}
 use Rattle.sdp_cells.specs.Bytes.{num}
 use mathlib.Core.Path.{_≡_, refl}
 use Prim.Native.Nat.{_-_}

@@ -2,7 +2,7 @@
 use Rattle.sdp_write.proofs.RowLaws.{each-rows, times-none, times-some}
 use Rattle.sdp_put.proofs.OutLaws.{said}
 use Rattle.sdp_row.specs.Written.{line, timeLines}
-use Rattle.sdp_decode.specs.Decode.{num2, timeOf}
+use Rattle.sdp_decode.specs.Decode.{timeOf}
 use mathlib.Core.Path.{_∙_}
 use borrow.Author.Needs.{needs}
 use Rattle.sdp_write.proofs.put_times.Statement.{statement}

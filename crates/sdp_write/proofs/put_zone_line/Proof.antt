@@ -3,7 +3,7 @@ use Rattle.sdp_row.proofs.LineLaws.{in-line}
 use Rattle.sdp_write.proofs.RowLaws.{each-rows, zones-none, zones-some}
 use Rattle.sdp_put.proofs.OutLaws.{said, nothing}
 use Rattle.sdp_row.specs.Written.{zoneText}
-use Rattle.sdp_decode.specs.Decode.{num2, zoneOf}
+use Rattle.sdp_decode.specs.Decode.{zoneOf}
 use borrow.Author.Needs.{needs}
 use Rattle.sdp_write.proofs.put_zone_line.Statement.{statement}
 use Rattle.sdp_write.proofs.put_zone_line.Tie as tie
