@@ -42,7 +42,7 @@ length-clean [] = omega arith
 length-clean (b ∷ s) = omega (arith, length-append (kept b) (clean s), length-kept b, length-clean s)
 
 -- ---- digits
-length-digits : (n v : ℕ) → v < 10 ^ suc n → length (digits v) ≤ suc n
+pub length-digits : (n v : ℕ) → v < 10 ^ suc n → length (digits v) ≤ suc n
 length-digits zero v h = let l : v < 10 = h in rw (digits-one v l) (omega arith)
 length-digits (suc n) v h = go (ltb v 10) refl (let e : v < 10 ^ suc n * 10 = rw (← (pow-suc 10 (suc n))) h in length-digits n (v / 10) (omega arith))
   where
