@@ -1,6 +1,6 @@
 -- `sdp::sdp_cut` meets its contract. Assumes nothing.
 use mathlib.Core.Path.{ap, _∙_}
-use Rattle.sdp.specs.Boundary.{pieceOf}
+use Rattle.sdp_answers.specs.Boundary.{pieceOf}
 use borrow.Author.Needs.{needs}
 use Rattle.sdp.proofs.sdp_cut.Statement.{statement}
 use Rattle.sdp.proofs.sdp_cut.Tie as tie

@@ -1,6 +1,6 @@
 -- `sdp::sdp_typed_time` meets its contract. Assumes nothing.
 use mathlib.Core.Path.{ap, _∙_}
-use Rattle.sdp.specs.Boundary.{numeralOf}
+use Rattle.sdp_answers.specs.Boundary.{numeralOf}
 use borrow.Author.Needs.{needs}
 use Rattle.sdp.proofs.sdp_typed_time.Statement.{statement}
 use Rattle.sdp.proofs.sdp_typed_time.Tie as tie

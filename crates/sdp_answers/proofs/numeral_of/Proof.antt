@@ -1,9 +1,9 @@
--- `sdp::numeral_of` meets its contract. Assumes nothing.
+-- `sdp_answers::numeral_of` meets its contract. Assumes nothing.
 use mathlib.Core.Path.{sym, ap}
-use Rattle.sdp.specs.Boundary.{numeralOf}
+use Rattle.sdp_answers.specs.Boundary.{numeralOf}
 use borrow.Author.Needs.{needs}
-use Rattle.sdp.proofs.numeral_of.Statement.{statement}
-use Rattle.sdp.proofs.numeral_of.Tie as tie
+use Rattle.sdp_answers.proofs.numeral_of.Statement.{statement}
+use Rattle.sdp_answers.proofs.numeral_of.Tie as tie
 
 returns : tie.Need-returns
 returns c = sym (ap numeralOf (c .before .n .given .1))

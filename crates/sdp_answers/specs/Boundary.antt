@@ -6,8 +6,8 @@ use Rattle.sdp_lines.specs.Answers.{faultNumber}
 use Rattle.sdp_lines.specs.declared.Cursor.{Cursor}
 use Rattle.sdp_lines.specs.declared.Cut.{Cut}
 use Rattle.sdp_lines.specs.declared.Cut.the-variants.{Line, Empty, Refused, End}
-use Rattle.sdp.specs.declared.Numeral.{Numeral}
-use Rattle.sdp.specs.declared.Piece.{Piece}
+use Rattle.sdp_answers.specs.declared.Numeral.{Numeral}
+use Rattle.sdp_answers.specs.declared.Piece.{Piece}
 
 -- the paper's number and the value
 abbrev pub numeralOf : Number → Numeral

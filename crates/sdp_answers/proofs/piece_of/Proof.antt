@@ -1,9 +1,9 @@
--- `sdp::piece_of` meets its contract. Assumes nothing.
+-- `sdp_answers::piece_of` meets its contract. Assumes nothing.
 use mathlib.Core.Path.{sym, ap}
-use Rattle.sdp.specs.Boundary.{pieceOf}
+use Rattle.sdp_answers.specs.Boundary.{pieceOf}
 use borrow.Author.Needs.{needs}
-use Rattle.sdp.proofs.piece_of.Statement.{statement}
-use Rattle.sdp.proofs.piece_of.Tie as tie
+use Rattle.sdp_answers.proofs.piece_of.Statement.{statement}
+use Rattle.sdp_answers.proofs.piece_of.Tie as tie
 
 returns : tie.Need-returns
 returns c = sym (ap (pieceOf (c .before .before .args .line)) (c .enum-told .given .1))
