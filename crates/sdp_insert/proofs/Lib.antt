@@ -1,0 +1,4 @@
+pub mod SplitLaws
+pub mod RunLaws
+pub mod InsertLaws
+pub mod InsertSamples
