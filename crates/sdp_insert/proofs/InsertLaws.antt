@@ -1,0 +1,92 @@
+-- Lines put into a text leave its answer, but for the refused line's number. Assumes nothing.
+use mathlib.Core.Path.{_≡_, refl, sym, ap, _∙_}
+use mathlib.Core.Logic.{_⊎_, inl, inr}
+use mathlib.Core.List.{List}
+use Prim.Native.Nat.{ℕ, _+_, _≤_}
+use native.Mathlib.Omega.{arith}
+use borrow.Author.Tests.{le-ltb}
+use lib.ListN.{length}
+use Rattle.sdp_bytes.specs.Runs
+use Rattle.sdp_lines.specs.Lines
+use Rattle.sdp_lines.specs.Lines.{split, width}
+use Rattle.sdp_lines.specs.Strings.{bytesOf}
+use Rattle.sdp_lines.specs.declared.Span.{Span}
+use Rattle.sdp_lines.specs.declared.Answer.{Answer}
+use Rattle.sdp_area.specs.Session.{Session, empty}
+use Rattle.sdp_area.specs.Area.{size}
+use Rattle.sdp_strings.specs.Strings.{spanAt}
+use Rattle.sdp_step.specs.Step.{fresh}
+use Rattle.sdp_read.specs.Run
+use Rattle.sdp_read.specs.Run.{Verdict, accepted, refused, outcomeOf, begin, lines, readText}
+use Rattle.sdp_same.specs.Said.{bytesAt, said, saidVerdict}
+use Rattle.sdp_same.proofs.LinesLaws.{lines-said}
+use Rattle.sdp_same.proofs.SoundLaws.{refusal-number}
+use Rattle.sdp_insert.specs.Insert.{ended, Inserted, blank, begun, alone, aboveFrom, above, SameSession, SameRefusal}
+use Rattle.sdp_insert.proofs.SplitLaws.{split-line}
+use Rattle.sdp_insert.proofs.RunLaws.{Follows, follows-past, run-follows}
+
+-- ---- up to the version
+begin-follows : {t t′ : List ℕ} (i : Inserted t t′) (n p p′ : ℕ) → Follows n (above i) (begin bytesAt n p (split t)) (begin bytesAt n p′ (split t′))
+unfolding Run.begin Run.run Lines.split Lines.content Lines.formOf Lines.hasNulOrCr Lines.plainForm Runs.indexOf
+begin-follows (blank {t = t} {t′ = t′} l h e i) n p p′ =
+    rw (split-line l t h, split-line l t′ h, e)
+    (follows-past n (above i) (above (blank l h e i)) _ _ (λ k. refl) (begin-follows i (n + 1) (p + width (ended l)) (p′ + width (ended l))))
+begin-follows (begun {t = t} {t′ = t′} l h e i) n p p′ =
+    rw (split-line l t h, split-line l t′ h, e)
+    (follows-past n (λ k. 0 + aboveFrom i k) (above (begun l h e i)) _ _ (λ k. omega arith)
+    (let x : n + 1 + 0 ≡ n + 1 = omega arith in rw x at (run-follows i fresh refl (n + 1) 0 (p + width (ended l)) (p′ + width (ended l)))))
+begin-follows alone n p p′ = inl (record { session = empty; first = refl; second = refl })
+
+-- strings as bytes
+pub lines-follow : {t t′ : List ℕ} (i : Inserted t t′) → Follows 1 (above i) (lines bytesAt t) (lines bytesAt t′)
+unfolding Run.lines
+lines-follow i = begin-follows i 1 0 0
+
+-- ---- strings as places again
+module _ (t : List ℕ) where
+  accepted-from : (s : Session (List ℕ)) → lines bytesAt t ≡ accepted s → (x : Session Span) × (lines spanAt t ≡ accepted x) × (said (bytesOf t) x ≡ s)
+  accepted-from s e = go (lines spanAt t) refl (lines-said t ∙ e)
+    where
+      go : (r : Verdict Span) → lines spanAt t ≡ r → saidVerdict (bytesOf t) r ≡ accepted s → (x : Session Span) × (lines spanAt t ≡ accepted x) × (said (bytesOf t) x ≡ s)
+      go (accepted x) p q = (x, p, (cc))
+      go (refused y) p q = absurd (let z : _≡_ {A = ℕ} 0 1 = cc in omega arith)
+
+  refused-from : (y : Answer) → lines bytesAt t ≡ refused y → lines spanAt t ≡ refused y
+  refused-from y e = go (lines spanAt t) (lines-said t ∙ e)
+    where
+      go : (r : Verdict Span) → saidVerdict (bytesOf t) r ≡ refused y → r ≡ refused y
+      go (accepted x) q = absurd (let z : _≡_ {A = ℕ} 0 1 = cc in omega arith)
+      go (refused x) q = let z : x ≡ y = cc in ap refused z
+
+  -- what read promises of a text within the limit
+  read-is : (a : List ℕ) → length t ≤ 32768 → size ≤ length a → (r : Verdict Span) → lines spanAt t ≡ r → readText t a ≡ outcomeOf a r
+  unfolding Run.readText
+  read-is a short room r e = rw (le-ltb (length a) size room, le-ltb 32768 (length t) short, e)
+
+-- ---- over the promise of read: "the same session, or the same refusal with its line moved down by the insertions above it"
+pub insertion : {t t′ : List ℕ} (i : Inserted t t′) → length t ≤ 32768 → length t′ ≤ 32768 → (a a′ : List ℕ) → size ≤ length a → size ≤ length a′
+    → SameSession t t′ a a′ ⊎ SameRefusal i a a′
+insertion {t} {t′} i short short′ a a′ room room′ = go (lines-follow i)
+  where
+    go : Follows 1 (above i) (lines bytesAt t) (lines bytesAt t′) → SameSession t t′ a a′ ⊎ SameRefusal i a a′
+    go (inl h) =
+        let x = accepted-from t (h .session) (h .first) in
+        let x′ = accepted-from t′ (h .session) (h .second) in
+        inl (record {
+          session = x .0;
+          session′ = x′ .0;
+          read = read-is t a short room _ (x .1);
+          read′ = read-is t′ a′ short′ room′ _ (x′ .1);
+          said = x .2 ∙ sym (x′ .2);
+        })
+    go (inr h) =
+        let x = refused-from t _ (h .first) in
+        let x′ = refused-from t′ _ (h .second) in
+        inr (record {
+          number = h .number;
+          field = h .field;
+          k = h .k;
+          refusal = refusal-number t _ x;
+          read = read-is t a short room _ x;
+          read′ = read-is t′ a′ short′ room′ _ x′;
+        })

@@ -1,0 +1,5 @@
+pub mod SplitLaws
+pub mod RunLaws
+pub mod InsertLaws
+pub mod BetweenLaws
+pub mod InsertSamples

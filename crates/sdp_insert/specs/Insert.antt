@@ -1,0 +1,97 @@
+-- Document 01, demand 3, first half: "Take a text whose first non-empty line is `v=0`. Insert, after that line and between whole lines, empty
+-- lines or well-formed lines whose letter has no use at that place. If both texts are within 32,768 bytes, the answer is demand 2's answer for
+-- the first text: the same session, or the same refusal with its line moved down by the insertions above it."
+use mathlib.Core.Path.{_≡_}
+use mathlib.Core.Bool.{Bool, true, false, _||_}
+use mathlib.Core.List.{List, [], _∷_, _++_}
+use Prim.Native.Nat.{ℕ, zero, suc, _+_, _<_}
+use lib.Dec.{eqb}
+use Rattle.sdp_lines.specs.Lines.{Raw, content, formOf}
+use Rattle.sdp_lines.specs.Strings.{bytesOf}
+use Rattle.sdp_lines.specs.declared.Span.{Span}
+use Rattle.sdp_lines.specs.declared.Form.{Form}
+use Rattle.sdp_lines.specs.declared.Form.the-variants.{Blank, Good, Bad}
+use Rattle.sdp_area.specs.Session.{Session}
+use Rattle.sdp_roles.specs.Roles.{roleAt}
+use Rattle.sdp_roles.specs.declared.Role.the-variants.{Nothing}
+use Rattle.sdp_read.specs.Run.{accepted, onLine, outcomeOf, readText}
+use Rattle.sdp_same.specs.Said.{said}
+use Rattle.sdp_bound.specs.Kept.{roleOf, opens}
+
+-- ---- lines
+-- LF stands in the bytes
+unfoldable pub hasLf : List ℕ → Bool
+hasLf [] = false
+hasLf (b ∷ l) = eqb b 10 || hasLf l
+
+-- the line of the bytes l and an LF; a CR at the end of l is part of its ending
+abbrev pub ended : List ℕ → Raw
+ended l = record { body = l; ended = true }
+
+-- its form
+abbrev pub endedForm : List ℕ → Form
+endedForm l = formOf (content (ended l))
+
+-- "empty lines or well-formed lines whose letter has no use at that place": after that many medias
+abbrev pub Idle : ℕ → Form → Type 0
+Idle medias Blank = Unit
+Idle medias (Good c) = roleAt medias c ≡ Nothing
+Idle medias (Bad f) = ⊥
+
+-- ---- texts
+-- t′ is t with lines put in, from a line's first byte on, after the version line and that many medias
+pub data InsertedFrom : ℕ → List ℕ → List ℕ → Type 0 where
+  -- no more is put in; so "none is put after a last line that has no LF"
+  same : (medias : ℕ) (t : List ℕ) → InsertedFrom medias t t
+  -- a line of t; an m line is one media more
+  keep : {medias : ℕ} {t t′ : List ℕ} (l : List ℕ) → hasLf l ≡ false → InsertedFrom (medias + opens (roleOf medias (endedForm l))) t t′
+      → InsertedFrom medias (l ++ (10 ∷ t)) (l ++ (10 ∷ t′))
+  -- "an inserted line brings its own LF"
+  put : {medias : ℕ} {t t′ : List ℕ} (l : List ℕ) → hasLf l ≡ false → Idle medias (endedForm l) → InsertedFrom medias t t′
+      → InsertedFrom medias t (l ++ (10 ∷ t′))
+
+-- v=0
+abbrev pub version : List ℕ
+version = 0x76 ∷ 0x3d ∷ 0x30 ∷ []
+
+-- t is "a text whose first non-empty line is `v=0`", and t′ is t with lines put in "after that line"
+pub data Inserted : List ℕ → List ℕ → Type 0 where
+  -- an empty line before it
+  blank : {t t′ : List ℕ} (l : List ℕ) → hasLf l ≡ false → content (ended l) ≡ [] → Inserted t t′ → Inserted (l ++ (10 ∷ t)) (l ++ (10 ∷ t′))
+  begun : {t t′ : List ℕ} (l : List ℕ) → hasLf l ≡ false → content (ended l) ≡ version → InsertedFrom 0 t t′ → Inserted (l ++ (10 ∷ t)) (l ++ (10 ∷ t′))
+  -- it is the last line and has no LF
+  alone : Inserted version version
+
+-- ---- "the insertions above it"
+-- how many lines were put in above a line of t that has k lines of t above it, from there on
+abbrev pub aboveFrom : {medias : ℕ} {t t′ : List ℕ} → InsertedFrom medias t t′ → ℕ → ℕ
+aboveFrom (same medias t) k = 0
+aboveFrom (keep l h i) zero = 0
+aboveFrom (keep l h i) (suc k) = aboveFrom i k
+aboveFrom (put l h u i) k = suc (aboveFrom i k)
+
+-- the same from the first line on: k is one less than the line's number in t
+abbrev pub above : {t t′ : List ℕ} → Inserted t t′ → ℕ → ℕ
+above (blank l h e i) zero = 0
+above (blank l h e i) (suc k) = above i k
+above (begun l h e i) zero = 0
+above (begun l h e i) (suc k) = aboveFrom i k
+above alone k = 0
+
+-- ---- the answers: t is read into the area a, t′ into the area a′
+-- "the same session": counts, numbers, presence, owners and string bytes agree
+pub record SameSession (t t′ a a′ : List ℕ) : Type 0 where
+  pub session : Session Span
+  pub session′ : Session Span
+  pub read : readText t a ≡ outcomeOf a (accepted session)
+  pub read′ : readText t′ a′ ≡ outcomeOf a′ (accepted session′)
+  pub said : said (bytesOf t) session ≡ said (bytesOf t′) session′
+
+-- "the same refusal with its line moved down by the insertions above it": the refused line has k lines of t above it
+pub record SameRefusal {t t′ : List ℕ} (i : Inserted t t′) (a a′ : List ℕ) : Type 0 where
+  pub number : ℕ
+  pub field : ℕ
+  pub k : ℕ
+  pub refusal : 0 < number
+  pub read : readText t a ≡ outcomeOf a (onLine number (1 + k) field)
+  pub read′ : readText t′ a′ ≡ outcomeOf a′ (onLine number (1 + k + above i k) field)
