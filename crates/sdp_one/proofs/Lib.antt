@@ -1,0 +1,2 @@
+pub mod OneLaws
+pub mod Answers
