@@ -20,3 +20,9 @@ module _ {L : Type 0} {A Z E : L → Type 0} where
   OnePut before at after promise =
       (κs : L) (a : A κs) (z z′ : Z κs) (e e′ : E κs) → length (before κs a) < 2 ^ 64 → at κs a < 2 ^ 64
       → promise κs a z e → promise κs a z′ e′ → (z ≡ z′) × (after κs e ≡ after κs e′)
+
+  -- the same for the arguments that satisfy a condition; seen is the part of what stands at the exit that the promise speaks of
+  abbrev pub OneWhere : ((κs : L) → A κs → Type 0) → ((κs : L) → Z κs → E κs → List ℕ) → ((κs : L) → A κs → Z κs → E κs → Type 0) → Type 0
+  OneWhere given seen promise =
+      (κs : L) (a : A κs) (z z′ : Z κs) (e e′ : E κs) → given κs a
+      → promise κs a z e → promise κs a z′ e′ → (z ≡ z′) × (seen κs z e ≡ seen κs z′ e′)
