@@ -1,0 +1,3 @@
+pub mod OneLaws
+pub mod Answers
+pub mod TakeLine

@@ -1,0 +1,1 @@
+// No functions: of each public function, that no second answer satisfies its promise.
