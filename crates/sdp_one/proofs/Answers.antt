@@ -100,6 +100,8 @@ use Rattle.sdp_order.proofs.letter_order.Reads as sdpOrderLetterOrder
 use Rattle.sdp_order.proofs.verdict_of.Reads as sdpOrderVerdictOf
 use Rattle.sdp_builders.proofs.Origin.username.Reads as sdpBuildersOriginUsername
 use Rattle.sdp_builders.proofs.Media.num_ports.Reads as sdpBuildersMediaNumPorts
+use Rattle.sdp_answers.proofs.numeral_of.Reads as sdpAnswersNumeralOf
+use Rattle.sdp_answers.proofs.piece_of.Reads as sdpAnswersPieceOf
 use Rattle.sdp.proofs.sdp_utf8_end.Reads as sdpSdpUtf8End
 use Rattle.sdp.proofs.sdp_is_token.Reads as sdpSdpIsToken
 use Rattle.sdp.proofs.sdp_number16.Reads as sdpSdpNumber16
@@ -417,6 +419,13 @@ sdp-builders-Origin-username κs a z z′ e e′ p q = same p q
 
 pub sdp-builders-Media-num-ports : OneAnswer sdpBuildersMediaNumPorts.Learnt
 sdp-builders-Media-num-ports κs a z z′ e e′ p q = same p q
+
+-- ---- sdp_answers
+pub sdp-answers-numeral-of : OneAnswer sdpAnswersNumeralOf.Learnt
+sdp-answers-numeral-of κs a z z′ e e′ p q = same p q
+
+pub sdp-answers-piece-of : OneAnswer sdpAnswersPieceOf.Learnt
+sdp-answers-piece-of κs a z z′ e e′ p q = same p q
 
 -- ---- sdp
 pub sdp-sdp-utf8-end : OneAnswer sdpSdpUtf8End.Learnt
