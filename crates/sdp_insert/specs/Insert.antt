@@ -56,10 +56,11 @@ version = 0x76 ∷ 0x3d ∷ 0x30 ∷ []
 
 -- t is "a text whose first non-empty line is `v=0`", and t′ is t with lines put in "after that line"
 pub data Inserted : List ℕ → List ℕ → Type 0 where
-  -- an empty line before it
+  -- an empty line before the version line
   blank : {t t′ : List ℕ} (l : List ℕ) → hasLf l ≡ false → content (ended l) ≡ [] → Inserted t t′ → Inserted (l ++ (10 ∷ t)) (l ++ (10 ∷ t′))
+  -- the version line
   begun : {t t′ : List ℕ} (l : List ℕ) → hasLf l ≡ false → content (ended l) ≡ version → InsertedFrom 0 t t′ → Inserted (l ++ (10 ∷ t)) (l ++ (10 ∷ t′))
-  -- it is the last line and has no LF
+  -- the version line, if it is the last line and has no LF
   alone : Inserted version version
 
 -- ---- "the insertions above it"
