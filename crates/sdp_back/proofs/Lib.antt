@@ -1,3 +1,5 @@
 pub mod ByteLaws
 pub mod NumberLaws
 pub mod WordLaws
+pub mod FieldLaws
+pub mod AddressLaws
