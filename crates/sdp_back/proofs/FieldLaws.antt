@@ -182,6 +182,10 @@ see-word v i = go (wordAt v i) refl
     go (field.Got p e) h = ap first (sym (word-next v i p e h .0))
     go field.Nothing h = ap first (sym (word-none v i h))
 
+-- all that is left, as one field
+abbrev pub alone : List ℕ → List ℕ × Unit {0}
+alone r = (r, tt)
+
 module _ (v : List ℕ) where
   behind-drop : (i j : ℕ) → behind v (i + j) ≡ behind (drop i v) j
   behind-drop i j = go (ltb (i + j) (length v)) refl
@@ -196,11 +200,11 @@ module _ (v : List ℕ) where
           rw l
 
   pub see-first : (sep : ℕ) → seen v (behind v) (firstPiece sep v) ≡ some (cut sep v)
-  unfolding split.firstPiece
+  unfolding cut split.firstPiece
   see-first sep = ap (λ (n : ℕ). some (take (indexOf sep v) v, behind v n)) (let z : 0 + indexOf sep v ≡ indexOf sep v = omega arith in z)
 
   pub see-after : (sep e : ℕ) → seen v (behind v) (pieceAfter sep v e) ≡ Option·map (cut sep) (behind v e)
-  unfolding split.pieceAfter
+  unfolding cut split.pieceAfter
   see-after sep e = go (ltb e (length v))
     where
       go : (b : Bool) → seen v (behind v) (cond b (split.pieceFrom sep v (e + 1)) field.Nothing) ≡ Option·map (cut sep) (cond b (some (drop (e + 1) v)) none)
@@ -209,10 +213,6 @@ module _ (v : List ℕ) where
 
   rest-part : (e : ℕ) → take (length v - (e + 1)) (drop (e + 1) v) ≡ drop (e + 1) v
   rest-part e = take-all (length v - (e + 1)) (drop (e + 1) v) (omega (arith, length-drop (e + 1) v))
-
-  -- all that is left, as one field
-  abbrev pub alone : List ℕ → List ℕ × Unit {0}
-  alone r = (r, tt)
 
   pub see-rest : (e : ℕ) → seen v (λ i. tt) (restAfter v e) ≡ Option·map alone (behind v e)
   unfolding split.restAfter

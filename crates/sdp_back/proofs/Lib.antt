@@ -3,3 +3,5 @@ pub mod NumberLaws
 pub mod WordLaws
 pub mod FieldLaws
 pub mod AddressLaws
+pub mod PieceLaws
+pub mod TimeLaws

@@ -87,28 +87,29 @@ module _ (p : ℕ → Bool) (h : (b : ℕ) → 0x30 ≤ b → b ≤ 0x39 → p b
   pub digits-pass : (v : ℕ) → every p (digits v) ≡ true
   digits-pass v = all-pass (digits v) (digits-are v .all)
 
--- digits begin with no plus sign, and are UTF-8
+-- digits begin with no plus sign, and bytes below 80 hexadecimal are UTF-8
 no-plus : (s : List ℕ) → allDigits s ≡ true → dropPlus s ≡ s
 unfolding number.dropPlus number.allDigits
 no-plus [] h = refl
 no-plus (b ∷ s) h = rw (ne-eqb b 0x2b (λ e. true≢false (sym h ∙ ap (λ (x : ℕ). digit x && allDigits s) e)))
 
-digits-end : (s : List ℕ) → allDigits s ≡ true → utf8End s ≡ length s
-unfolding number.allDigits utf8.utf8End utf8.endFrom
-digits-end [] h = refl
-digits-end (b ∷ s) h =
-    let l = leb-true b 0x39 (and-right (leb 0x30 b) _ (and-left (digit b) (allDigits s) h)) in
-    utf8-plain b s (omega arith) ∙ ap suc (digits-end s (and-right (digit b) (allDigits s) h))
+ascii-end : (s : List ℕ) → every (λ b. ltb b 0x80) s ≡ true → utf8End s ≡ length s
+unfolding every utf8.utf8End utf8.endFrom
+ascii-end [] h = refl
+ascii-end (b ∷ s) h = utf8-plain b s (ltb-true b 0x80 (and-left (ltb b 0x80) _ h)) ∙ ap suc (ascii-end s (and-right (ltb b 0x80) _ h))
 
-digits-utf8 : (v : ℕ) → isUtf8 (digits v) ≡ true
+pub ascii-utf8 : (s : List ℕ) → every (λ b. ltb b 0x80) s ≡ true → isUtf8 s ≡ true
 unfolding utf8.isUtf8
-digits-utf8 v = eq-eqb (utf8End (digits v)) (length (digits v)) (digits-end (digits v) (digits-are v .all))
+ascii-utf8 s h = eq-eqb (utf8End s) (length s) (ascii-end s h)
+
+pub digits-ascii : (v : ℕ) → every (λ b. ltb b 0x80) (digits v) ≡ true
+digits-ascii v = digits-pass (λ b. ltb b 0x80) (λ b l g. lt-ltb b 0x80 (omega arith)) v
 
 pub number-back : (w v : ℕ) → v < 2 ^ w → wholeNumber w (digits v) ≡ Value v
 unfolding number.wholeNumber number.numeral number.digitsBelow
 number-back w v h =
     let s = digits-are v in
-    rw (digits-utf8 v, no-plus (digits v) (s .all), lt-ltb 0 (length (digits v)) (s .some), s .all, s .says, lt-ltb v (2 ^ w) h)
+    rw (ascii-utf8 (digits v) (digits-ascii v), no-plus (digits v) (s .all), lt-ltb 0 (length (digits v)) (s .some), s .all, s .says, lt-ltb v (2 ^ w) h)
 
 -- ---- times
 last-digit : (s : List ℕ) (x : ℕ) → getD (s ++ (x ∷ [])) (length (s ++ (x ∷ [])) - 1) 0 ≡ x

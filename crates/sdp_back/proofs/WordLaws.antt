@@ -1,13 +1,13 @@
 -- Words with a space between them, read again, are the words; and a value cut at its first separator. Assumes nothing.
 use mathlib.Core.Path.{_≡_, refl, sym, ap, _∙_}
 use mathlib.Core.Bool.{Bool, true, false, cond, not, _&&_}
-use mathlib.Core.List.{List, [], _∷_, _++_}
+use mathlib.Core.List.{List, [], _∷_, _++_, append-nil}
 use mathlib.Core.Option.{Option, none, some}
 use Prim.Native.Nat.{ℕ, zero, suc, _+_, _≤_, _<_}
 use native.Mathlib.Omega.{arith}
 use lib.ListN.{length, take, drop, length-append}
-use lib.Seq.{take-at, drop-at, drop-append-add}
-use lib.Dec.{ltb, eqb, lit<}
+use lib.Seq.{take-at, drop-at, take-length, drop-append-add}
+use lib.Dec.{ltb, eqb}
 use borrow.Author.Tests.{lt-ltb, le-ltb, eq-eqb, ne-eqb}
 use Rattle.sdp_bytes.specs.Runs as runs
 use Rattle.sdp_bytes.specs.Runs.{indexOf}
@@ -95,15 +95,15 @@ tails-bare (x ∷ xs) h = every-append (λ b. not (dropped b)) x (tails xs) (h .
 digit-bare : (b : ℕ) → 0x30 ≤ b → b ≤ 0x39 → not (dropped b) ≡ true
 digit-bare b l g = rw (ne-eqb b 0 (λ e. omega arith), ne-eqb b 13 (λ e. omega arith), ne-eqb b 10 (λ e. omega arith))
 
--- and have no byte below the digits
-pub digits-lack : (c v : ℕ) → c < 0x30 → lacks c (digits v) ≡ true
-digits-lack c v h = digits-pass (λ b. not (eqb b c)) (λ b l g. rw (ne-eqb b c (λ e. omega arith))) v
+-- a byte that is no digit
+pub digits-lack : (c v : ℕ) → (0x30 ≤ c → c ≤ 0x39 → ⊥) → lacks c (digits v) ≡ true
+digits-lack c v h = digits-pass (λ b. not (eqb b c)) (λ b l g. rw (ne-eqb b c (λ e. h (omega arith) (omega arith)))) v
 
 pub digits-bare : (v : ℕ) → bare (digits v) ≡ true
 digits-bare v = digits-pass (λ b. not (dropped b)) digit-bare v
 
 pub digits-word : (v : ℕ) → Word (digits v)
-digits-word v = record { some = digits-some v; whole = digits-lack 0x20 v (lit< tt); bare = digits-bare v }
+digits-word v = record { some = digits-some v; whole = digits-lack 0x20 v (λ l g. omega arith); bare = digits-bare v }
 
 pub time-word : (v : ℕ) → Word (timeText v)
 time-word v = record {
@@ -118,7 +118,7 @@ abbrev pub behind : List ℕ → ℕ → Option (List ℕ)
 behind v e = cond (ltb e (length v)) (some (drop (e + 1) v)) none
 
 -- the bytes before it, and those after it where there is one
-abbrev pub cut : ℕ → List ℕ → List ℕ × Option (List ℕ)
+unfoldable pub cut : ℕ → List ℕ → List ℕ × Option (List ℕ)
 cut sep s = (take (indexOf sep s) s, behind s (indexOf sep s))
 
 -- what is written after the front
@@ -126,13 +126,15 @@ abbrev pub sepText : ℕ → Option (List ℕ) → List ℕ
 sepText sep none = []
 sepText sep (some r) = (sep ∷ []) ++ r
 
+pub cut-none : (sep : ℕ) (a : List ℕ) → lacks sep a ≡ true → cut sep a ≡ (a, none)
+unfolding cut runs.indexOf
+cut-none sep a h =
+    let i : indexOf sep a ≡ length a = ap (indexOf sep) (sym (append-nil a)) ∙ index-append sep a [] h ∙ (let z : length a + 0 ≡ length a = omega arith in z) in
+    rw (i, le-ltb (length a) (length a) (omega arith), take-length a)
+
 pub cut-back : (sep : ℕ) (a : List ℕ) (o : Option (List ℕ)) → lacks sep a ≡ true → cut sep (a ++ sepText sep o) ≡ (a, o)
-unfolding runs.indexOf
-cut-back sep a none h =
-    let i : indexOf sep (a ++ []) ≡ length a = index-append sep a [] h ∙ (let z : length a + 0 ≡ length a = omega arith in z) in
-    let l : ltb (length a) (length (a ++ [])) ≡ false = le-ltb (length a) (length (a ++ [])) (omega (arith, length-append a [])) in
-    let t : take (length a) (a ++ []) ≡ a = take-at a [] (length a) refl in
-    rw (i, l, t)
+unfolding cut runs.indexOf
+cut-back sep a none h = ap (cut sep) (append-nil a) ∙ cut-none sep a h
 cut-back sep a (some r) h =
     let i : indexOf sep (a ++ (sep ∷ r)) ≡ length a = index-append sep a (sep ∷ r) h ∙ rw (eq-eqb sep sep refl) (let z : length a + 0 ≡ length a = omega arith in z) in
     let l : ltb (length a) (length (a ++ (sep ∷ r))) ≡ true = lt-ltb (length a) (length (a ++ (sep ∷ r))) (omega (arith, length-append a (sep ∷ r))) in
