@@ -5,3 +5,4 @@ pub mod FieldLaws
 pub mod AddressLaws
 pub mod PieceLaws
 pub mod TimeLaws
+pub mod PlainLaws

@@ -103,11 +103,12 @@ pub repeat-line-back : (interval duration : ℕ) (ns : List ℕ) → interval < 
     → (repeatOf (repeatValue interval duration ns) ≡ got (record { interval = interval; duration = duration; offsets = ns })) × (bare (repeatValue interval duration ns) ≡ true)
 unfolding headFrom
 repeat-line-back interval duration ns a b h =
-    let w : Each Word (timeText duration ∷ map timeText ns) = (time-word duration, times-words ns) in
-    ((see-repeat (repeatValue interval duration ns)
-    ∙ ap (λ ws. andThen (headFrom ws) (λ h. andThen (offsetsOf (h .2)) (λ os. got (record { interval = h .0; duration = h .1; offsets = os })))) (words-back (timeText interval) (timeText duration ∷ map timeText ns) (time-word interval) w)
-    ∙ rw (time-back interval a, time-back duration b, offsets-back ns h)),
-    joined-bare (timeText interval) (timeText duration ∷ map timeText ns) (time-word interval) w)
+    let w : Each Word (timeText duration ∷ map timeText ns) = (time-word duration, times-words ns) in (
+      (see-repeat (repeatValue interval duration ns)
+          ∙ ap (λ ws. andThen (headFrom ws) (λ h. andThen (offsetsOf (h .2)) (λ os. got (record { interval = h .0; duration = h .1; offsets = os })))) (words-back (timeText interval) (timeText duration ∷ map timeText ns) (time-word interval) w)
+          ∙ rw (time-back interval a, time-back duration b, offsets-back ns h)),
+      joined-bare (timeText interval) (timeText duration ∷ map timeText ns) (time-word interval) w,
+    )
 
 -- ---- z
 -- adjustment time and offset of each pair
