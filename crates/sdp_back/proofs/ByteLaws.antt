@@ -2,8 +2,10 @@
 use mathlib.Core.Path.{_≡_, refl, sym, ap, _∙_}
 use mathlib.Core.Bool.{Bool, true, false, cond, not, _&&_, _||_, and-assoc}
 use mathlib.Core.List.{List, [], _∷_, _++_}
-use Prim.Native.Nat.{ℕ, zero, suc, _+_}
-use lib.ListN.{length, take, drop}
+use Prim.Native.Nat.{ℕ, zero, suc, _+_, _-_}
+use native.Mathlib.Omega.{arith}
+use lib.ListN.{length, getD, take, drop, length-append}
+use lib.Seq.{getD-at, take-at}
 use lib.Dec.{eqb}
 use Rattle.sdp_bytes.specs.Runs as runs
 use Rattle.sdp_bytes.specs.Runs.{indexOf}
@@ -21,7 +23,14 @@ pub not-so : (a : Bool) → not a ≡ true → a ≡ false
 not-so true e = sym e
 not-so false e = refl
 
--- every byte passes p
+-- ---- the last byte, and those before it
+pub last-byte : (s : List ℕ) (x : ℕ) → getD (s ++ (x ∷ [])) (length (s ++ (x ∷ [])) - 1) 0 ≡ x
+last-byte s x = getD-at s x [] 0 (length (s ++ (x ∷ [])) - 1) (omega (arith, length-append s (x ∷ [])))
+
+pub but-last : (s : List ℕ) (x : ℕ) → take (length (s ++ (x ∷ [])) - 1) (s ++ (x ∷ [])) ≡ s
+but-last s x = take-at s (x ∷ []) (length (s ++ (x ∷ [])) - 1) (omega (arith, length-append s (x ∷ [])))
+
+-- ---- every byte passes p
 unfoldable pub every : (ℕ → Bool) → List ℕ → Bool
 every p [] = true
 every p (b ∷ s) = p b && every p s

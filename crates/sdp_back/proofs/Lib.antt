@@ -6,3 +6,4 @@ pub mod AddressLaws
 pub mod PieceLaws
 pub mod TimeLaws
 pub mod PlainLaws
+pub mod LeadLaws

@@ -25,7 +25,7 @@ use Rattle.sdp_judge.specs.Read.{Read, got, refused}
 use Rattle.sdp_put.specs.Digits.{digits, timeText}
 use Rattle.sdp_put.proofs.DigitLaws.{digits-one, digits-more, time-zero, time-day, time-hour, time-minute, time-plain, offset-minus, offset-plain}
 use Rattle.sdp_row.specs.Written.{signedText}
-use Rattle.sdp_back.proofs.ByteLaws.{every, every-append, not-so}
+use Rattle.sdp_back.proofs.ByteLaws.{every, every-append, not-so, last-byte, but-last}
 
 -- ---- digits
 value-append : (v : ℕ) (a b : List ℕ) → value v (a ++ b) ≡ value (value v a) b
@@ -112,12 +112,6 @@ number-back w v h =
     rw (ascii-utf8 (digits v) (digits-ascii v), no-plus (digits v) (s .all), lt-ltb 0 (length (digits v)) (s .some), s .all, s .says, lt-ltb v (2 ^ w) h)
 
 -- ---- times
-last-digit : (s : List ℕ) (x : ℕ) → getD (s ++ (x ∷ [])) (length (s ++ (x ∷ [])) - 1) 0 ≡ x
-last-digit s x = getD-at s x [] 0 (length (s ++ (x ∷ [])) - 1) (omega (arith, length-append s (x ∷ [])))
-
-but-last : (s : List ℕ) (x : ℕ) → take (length (s ++ (x ∷ [])) - 1) (s ++ (x ∷ [])) ≡ s
-but-last s x = take-at s (x ∷ []) (length (s ++ (x ∷ [])) - 1) (omega (arith, length-append s (x ∷ [])))
-
 no-unit : (d : ℕ) → d < 10 → unitOf (0x30 + d) ≡ 0
 no-unit d h = rw (ne-eqb (0x30 + d) 0x64 (λ e. omega arith), ne-eqb (0x30 + d) 0x68 (λ e. omega arith), ne-eqb (0x30 + d) 0x6d (λ e. omega arith), ne-eqb (0x30 + d) 0x73 (λ e. omega arith))
 
@@ -126,7 +120,7 @@ plain-unit v = go (ltb v 10) refl
   where
     go : (b : Bool) → ltb v 10 ≡ b → unitOf (getD (digits v) (length (digits v) - 1) 0) ≡ 0
     go true e = rw (digits-one v (ltb-true v 10 e)) (no-unit v (ltb-true v 10 e))
-    go false e = rw (digits-more v (ltb-false v 10 e)) (ap unitOf (last-digit (digits (v / 10)) (0x30 + v % 10)) ∙ no-unit (v % 10) (omega arith))
+    go false e = rw (digits-more v (ltb-false v 10 e)) (ap unitOf (last-byte (digits (v / 10)) (0x30 + v % 10)) ∙ no-unit (v % 10) (omega arith))
 
 plain-back : (v : ℕ) → v < 2 ^ 64 → typedTime (digits v) ≡ Value v
 plain-back v h = typed-plain (digits v) (plain-unit v) ∙ number-back 64 v h
@@ -134,7 +128,7 @@ plain-back v h = typed-plain (digits v) (plain-unit v) ∙ number-back 64 v h
 unit-back : (v k x : ℕ) → unitOf x ≡ k → (k ≡ 0 → ⊥) → (v / k) * k ≡ v → v / k < 2 ^ 64 → v < 2 ^ 64 → typedTime (digits (v / k) ++ (x ∷ [])) ≡ Value v
 unit-back v k x u z e l h =
     let d = digits (v / k) in
-    typed-unit (d ++ (x ∷ [])) k (sym (ap unitOf (last-digit d x) ∙ u)) z
+    typed-unit (d ++ (x ∷ [])) k (sym (ap unitOf (last-byte d x) ∙ u)) z
     ∙ ap (λ (s : List ℕ). scaled k (wholeNumber 64 s)) (but-last d x)
     ∙ ap (scaled k) (number-back 64 (v / k) l)
     ∙ rw (e, lt-ltb v (2 ^ 64) h)
