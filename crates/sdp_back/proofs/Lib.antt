@@ -7,3 +7,4 @@ pub mod PieceLaws
 pub mod TimeLaws
 pub mod PlainLaws
 pub mod LeadLaws
+pub mod LineLaws
