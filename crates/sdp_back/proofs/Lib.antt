@@ -8,3 +8,4 @@ pub mod TimeLaws
 pub mod PlainLaws
 pub mod LeadLaws
 pub mod LineLaws
+pub mod OffsetLaws
