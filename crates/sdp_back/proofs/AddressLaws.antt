@@ -7,10 +7,13 @@ use Prim.Native.Nat.{ℕ, suc, _+_, _^_, _<_}
 use native.Mathlib.Omega.{arith}
 use lib.ListN.{length, getD, take, drop, length-take, length-drop}
 use lib.Seq.{getD-take, getD-drop, take-length}
-use lib.Dec.{eqb}
+use lib.Dec.{eqb, lit<}
 use borrow.Author.Tests.{eqb-true, ne-eqb, eq-eqb}
+use Rattle.sdp_bytes.specs.Ranges as ranges
+use Rattle.sdp_bytes.specs.Token as token
 use Rattle.sdp_bytes.specs.Token.{isToken}
 use Rattle.sdp_bytes.proofs.ScanLaws.{and-left, and-right}
+use Rattle.sdp_utf8.specs.Utf8 as utf8
 use Rattle.sdp_utf8.specs.Utf8.{isUtf8}
 use Rattle.sdp_number.specs.Number.{wholeNumber}
 use Rattle.sdp_split.specs.Split.{part, wordAt, words, Inside}
@@ -32,6 +35,7 @@ use Rattle.sdp_row.specs.Written as form
 use Rattle.sdp_row.specs.Written.{spaced, text, usernameText, originValue}
 use Rattle.sdp_bound.specs.Kept.{id}
 use Rattle.sdp_same.specs.Fits.{Each}
+use Rattle.sdp_back.specs.Again.{placeholder}
 use Rattle.sdp_back.proofs.ByteLaws.{every, every-append, bare, clean-bare}
 use Rattle.sdp_back.proofs.NumberLaws.{number-back}
 use Rattle.sdp_back.proofs.WordLaws.{Word, are-words, tails, tails-bare, words-back, digits-word}
@@ -199,3 +203,18 @@ origin-back v o h e =
     gives-word _ 3 ws _ h (λ x ws d h. gives-number _ 3 (wholeNumber 64 x) _ (λ n z.
     gives-then _ Address (addressFrom 4 ws) _ (address-given 4 ws h) (λ c a.
     origin-again user sess n c u s p q (number-below 64 x n z) a))))))))
+
+-- "the placeholder .. equal to a read origin with those values"
+pub placeholder-back : OriginBack placeholder
+unfolding every utf8.isUtf8 utf8.utf8End utf8.endFrom utf8.charLen ranges.fits token.isToken token.allToken
+placeholder-back =
+    origin-again (0x2d ∷ []) (0x30 ∷ []) 0 (record { nettype = placeholder .nettype; addrtype = placeholder .addrtype; connectionAddress = placeholder .unicastAddress })
+    (record { some = omega arith; whole = refl; bare = refl }) (record { some = omega arith; whole = refl; bare = refl }) refl refl (lit< tt)
+    (record {
+      net = record { some = omega arith; whole = refl; bare = refl };
+      kind = record { some = omega arith; whole = refl; bare = refl };
+      address = record { some = omega arith; whole = refl; bare = refl };
+      netToken = refl;
+      kindToken = refl;
+      addressText = refl;
+    })

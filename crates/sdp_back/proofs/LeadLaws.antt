@@ -2,6 +2,7 @@
 use mathlib.Core.Path.{_≡_, refl, sym, ap, _∙_}
 use mathlib.Core.Bool.{Bool, true, false, cond, not, _&&_, _||_}
 use mathlib.Core.List.{List, [], _∷_, _++_, append-nil, append-assoc}
+use mathlib.Core.Option.{Option, none, some}
 use Prim.Native.Nat.{ℕ, suc, _+_, _≤_, _<_}
 use native.Mathlib.Omega.{arith}
 use lib.ListN.{length, getD, take, drop, length-append}
@@ -14,13 +15,13 @@ use Rattle.sdp_lines.specs.Lines.{Raw, split, chop, content, width, hasNulOrCr,
 use Rattle.sdp_lines.specs.declared.Form.the-variants.{Good}
 use Rattle.sdp_split.specs.Split.{part}
 use Rattle.sdp_area.specs.Session.{Session}
-use Rattle.sdp_step.specs.Step.{Reading, Stepped, goes, step}
+use Rattle.sdp_step.specs.Step.{Reading, Stepped, goes, step, fresh}
 use Rattle.sdp_read.specs.Run as reader
-use Rattle.sdp_read.specs.Run.{Verdict, accepted, after, stepForm, run}
+use Rattle.sdp_read.specs.Run.{accepted, run, lines}
 use Rattle.sdp_put.specs.Strings.{dropped}
 use Rattle.sdp_row.specs.Written as form
-use Rattle.sdp_row.specs.Written.{ending, line, each, mine}
-use Rattle.sdp_same.specs.Fits.{Each}
+use Rattle.sdp_row.specs.Written.{ending, line, each, mine, optional}
+use Rattle.sdp_same.specs.Fits.{IfGiven, Each}
 use Rattle.sdp_same.specs.Sound.{Rising}
 use Rattle.sdp_same.specs.Said.{bytesAt}
 use Rattle.sdp_back.proofs.ByteLaws.{both, not-so, last-byte, but-last, every, every-so, every-append, lacks, bare}
@@ -89,6 +90,16 @@ unfolding reader.run cutter.content
 line-leads ρ τ l v good b e = record {
   read = λ rest s h n p. rw (line-split l v good b rest, chop-cr (l ∷ 0x3d ∷ v), line-form l v good b, e) (h (n + 1) _);
 }
+
+-- what may be absent
+pub optional-leads : {X : Type 0} (P : X → Type 0) (f : X → List ℕ) (at : Option X → Reading (List ℕ)) → ((x : X) → P x → Leads (at none) (f x) (at (some x))) → (o : Option X) → IfGiven P o → Leads (at none) (optional f o) (at o)
+optional-leads P f at go none h = stay
+optional-leads P f at go (some x) h = go x h
+
+-- the version line, and the lines after it
+pub begin-leads : (rest : List ℕ) (s : Session (List ℕ)) → ((n p : ℕ) → run bytesAt fresh n p (split rest) ≡ accepted s) → lines bytesAt (line 0x76 (0x30 ∷ []) ++ rest) ≡ accepted s
+unfolding reader.lines reader.begin cutter.content every
+begin-leads rest s h = rw (line-split 0x76 (0x30 ∷ []) refl refl rest, chop-cr (0x76 ∷ 0x3d ∷ 0x30 ∷ []), line-form 0x76 (0x30 ∷ []) refl refl) (h 2 _)
 
 -- ---- rows
 -- the state after rows of a table, and the bytes of the k-th row

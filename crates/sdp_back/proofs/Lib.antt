@@ -9,3 +9,4 @@ pub mod PlainLaws
 pub mod LeadLaws
 pub mod LineLaws
 pub mod OffsetLaws
+pub mod WholeLaws
