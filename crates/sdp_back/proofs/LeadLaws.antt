@@ -104,14 +104,18 @@ begin-leads rest s h = rw (line-split 0x76 (0x30 ∷ []) refl refl rest, chop-cr
 -- ---- rows
 -- the state after rows of a table, and the bytes of the k-th row
 module _ {X : Type 0} (P : X → Type 0) (cap : ℕ) (f : ℕ → X → List ℕ) (at : List X → Reading (List ℕ)) where
-  pub rows-lead : ((xs : List X) (x : X) → P x → length xs < cap → Leads (at xs) (f (length xs + 1) x) (at (xs ++ (x ∷ []))))
+  rows-after : ((xs : List X) (x : X) → P x → length xs < cap → Leads (at xs) (f (length xs + 1) x) (at (xs ++ (x ∷ []))))
       → (xs ys : List X) → Each P ys → length xs + length ys ≤ cap → Leads (at xs) (each f (length xs + 1) ys) (at (xs ++ ys))
   unfolding form.each
-  rows-lead go xs [] h l = rw (append-nil xs) stay
-  rows-lead go xs (y ∷ ys) h l =
+  rows-after go xs [] h l = rw (append-nil xs) stay
+  rows-after go xs (y ∷ ys) h l =
       let n : length (xs ++ (y ∷ [])) ≡ length xs + 1 = length-append xs (y ∷ []) in
       let a : xs ++ (y ∷ []) ++ ys ≡ xs ++ (y ∷ ys) = append-assoc xs (y ∷ []) ys in
-      go xs y (h .0) (omega arith) then (rw (n, a) at (rows-lead go (xs ++ (y ∷ [])) ys (h .1) (omega arith)))
+      go xs y (h .0) (omega arith) then (rw (n, a) at (rows-after go (xs ++ (y ∷ [])) ys (h .1) (omega arith)))
+
+  pub rows-lead : ((xs : List X) (x : X) → P x → length xs < cap → Leads (at xs) (f (length xs + 1) x) (at (xs ++ (x ∷ []))))
+      → (ys : List X) → Each P ys → length ys ≤ cap → Leads (at []) (each f 1 ys) (at ys)
+  rows-lead go ys h l = rows-after go [] ys h (omega arith)
 
 -- ---- rows with an owner
 module _ {X : Type 0} (owner : X → ℕ) where

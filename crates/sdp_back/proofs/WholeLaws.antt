@@ -124,3 +124,110 @@ module _ (s : Session (List ℕ)) (plain : Plain s) (ordered : Ordered s) where
       rw (repeat-text k (T .offsets) x, ← e, ← (values-next k (T .offsets) _ _ (ordered .ownedOffsets)))
       (rw (← o) at (repeat-leads (beforeTimes ts rs (offs k)) refl (x .repeatInterval) (x .activeDuration) (values k (T .offsets)) (f .repeatInterval) (f .activeDuration) (values-small k (T .offsets) (ordered .offsets)) any l (omega arith))))
       (T .repeats) _ _ (ordered .ownedRepeats) (ordered .repeats) (ordered .within .repeats)
+
+  abbrev timesState : List Time → Reading (List ℕ)
+  timesState ts = beforeTimes ts (reps (length ts + 1)) (offs (length (reps (length ts + 1)) + 1))
+
+  time-part : (ts : List Time) (t : Time) → FitTime t → length ts < 32 → Leads (timesState ts) (timeLines (T .repeats) (T .offsets) (length ts + 1) t) (timesState (ts ++ (t ∷ [])))
+  unfolding form.timeLines
+  time-part ts t f l =
+      let n : length (ts ++ (t ∷ [])) ≡ length ts + 1 = length-append ts (t ∷ []) in
+      rw n (time-leads (timesState ts) refl t f l then (rw n at (repeats-part (ts ++ (t ∷ [])) (omega arith))))
+
+  -- no times are written as one
+  times-text : (ts : List Time) → Rising (λ (r : Repeat). r .owner) (length ts) 1 (T .repeats) → timesLines (T .repeats) (T .offsets) ts ≡ each (timeLines (T .repeats) (T .offsets)) 1 (timesAgain ts)
+  unfolding form.timesLines form.each form.timeLines digit.digits digit.digitsIn
+  times-text (t ∷ ts) r = refl
+  times-text [] r =
+      let e : T .repeats ≡ [] = sym (below-all (λ (r : Repeat). r .owner) 1 0 1 (T .repeats) r (lit< tt)) ∙ below-none (λ (r : Repeat). r .owner) 1 0 1 (T .repeats) r (omega arith) in
+      rw e (simp append-nil)
+
+  times-fit : (ts : List Time) → Each FitTime ts → length ts ≤ 32 → Each FitTime (timesAgain ts) × (length (timesAgain ts) ≤ 32) × (length ts ≤ length (timesAgain ts))
+  times-fit [] h l = ((record { startTime = lit< tt; stopTime = lit< tt }, tt), omega arith, omega arith)
+  times-fit (t ∷ ts) h l = (h, l, omega arith)
+
+  abbrev TA : List Time
+  TA = timesAgain (T .times)
+
+  times-part : Leads (beforeTimes [] [] []) (timesLines (T .repeats) (T .offsets) (T .times)) (beforeTimes TA (T .repeats) (T .offsets))
+  times-part =
+      let f = times-fit (T .times) (ordered .times) (ordered .within .times) in
+      let l = f .2 in
+      let r₀ : reps 1 ≡ [] = below-none (λ (r : Repeat). r .owner) 1 _ 1 (T .repeats) (ordered .ownedRepeats) (omega arith) in
+      let o₀ : offs 1 ≡ [] = below-none ownerOf 1 _ 1 (T .offsets) (ordered .ownedOffsets) (omega arith) in
+      let r₁ : reps (length TA + 1) ≡ T .repeats = below-all (λ (r : Repeat). r .owner) (length TA + 1) _ 1 (T .repeats) (ordered .ownedRepeats) (omega arith) in
+      let o₁ : offs (length (T .repeats) + 1) ≡ T .offsets = below-all ownerOf (length (T .repeats) + 1) _ 1 (T .offsets) (ordered .ownedOffsets) (omega arith) in
+      rw (times-text (T .times) (ordered .ownedRepeats)) (rw (r₀, o₀, r₁, o₁) at (rows-lead FitTime 32 (timeLines (T .repeats) (T .offsets)) timesState time-part TA (f .0) (f .1)))
+
+  -- ---- e, p, c, b, t
+  contact-part : Leads (at (heads (s .head .description) (s .head .uri) none none) bareTables false) (contactLines id s) (beforeTimes TA (T .repeats) (T .offsets))
+  unfolding form.contactLines
+  contact-part =
+      let D : Option (List ℕ) = s .head .description in
+      let U : Option (List ℕ) = s .head .uri in
+      let b₀ : bands 0 ≡ [] = below-none (λ (b : Bandwidth (List ℕ)). b .owner) 0 _ 0 (T .bandwidths) (ordered .ownedBandwidths) (omega arith) in
+      rows-lead TextBack 16 (λ k x. stringLine id 0x65 x) (λ es. at (heads D U none none) (contacts es [] [] [] [] []) false) (λ es x b l. email-leads _ refl x b l) (T .emails) (plain .tables .emails) (ordered .within .emails)
+      then rows-lead TextBack 16 (λ k x. stringLine id 0x70 x) (λ ps. at (heads D U none none) (contacts (T .emails) ps [] [] [] []) false) (λ ps x b l. phone-leads _ refl x b l) (T .phones) (plain .tables .phones) (ordered .within .phones)
+      then optional-leads ConnectionBack _ (λ c. at (heads D U c none) (contacts (T .emails) (T .phones) [] [] [] []) false) (λ c b. connection-leads _ refl c b refl) (s .head .connection) (plain .head .connection)
+      then (rw b₀ at (owned-lead (λ (b : Bandwidth (List ℕ)). b .owner) (λ b. BandwidthBack (b .bwtype) (b .bandwidth)) 64 0 (λ k b. bandwidthLine id b) (λ bs. at (heads D U (s .head .connection) none) (contacts (T .emails) (T .phones) bs [] [] []) false) (λ bs x b o l. bandwidth-leads _ x b o l) (T .bandwidths) _ 0 (ordered .ownedBandwidths) (plain .tables .bandwidths) (ordered .within .bandwidths)))
+      then times-part
+
+  -- ---- z, k, a
+  abbrev closing : List Zone → Option (Key (List ℕ)) → List (Attribute (List ℕ)) → Bool → Reading (List ℕ)
+  closing zs k xs z =
+      at (heads (s .head .description) (s .head .uri) (s .head .connection) k) (record { emails = T .emails; phones = T .phones; connections = []; bandwidths = bands 1; times = TA; repeats = T .repeats; offsets = T .offsets; zones = zs; attributes = xs; medias = [] }) z
+
+  zones-part : (zs : List Zone) → Each FitZone zs → length zs ≤ 64 → Leads (closing [] none [] false) (zonesLine zs) (closing zs none [] (anyZone zs))
+  unfolding form.zonesLine
+  zones-part [] h l = stay
+  zones-part (z ∷ zs) h l = zones-lead _ refl z zs h l refl
+
+  closing-part : Leads (beforeTimes TA (T .repeats) (T .offsets)) (closingLines id s) (closing (T .zones) (s .head .key) (attrs 1) (anyZone (T .zones)))
+  unfolding form.closingLines
+  closing-part =
+      let a₀ : attrs 0 ≡ [] = below-none (λ (a : Attribute (List ℕ)). a .owner) 0 _ 0 (T .attributes) (ordered .ownedAttributes) (omega arith) in
+      zones-part (T .zones) (ordered .zones) (ordered .within .zones)
+      then optional-leads KeyBack _ (λ k. closing (T .zones) k [] (anyZone (T .zones))) (λ k b. key-leads _ refl k b refl) (s .head .key) (plain .head .key)
+      then (rw a₀ at (owned-lead (λ (a : Attribute (List ℕ)). a .owner) (λ a. PairBack (a .attribute) (a .value)) 512 0 (λ k a. pairLine id 0x61 (a .attribute) (a .value)) (λ xs. closing (T .zones) (s .head .key) xs (anyZone (T .zones))) (λ xs a b o l. attribute-leads _ a b o l) (T .attributes) _ 0 (ordered .ownedAttributes) (plain .tables .attributes) (ordered .within .attributes)))
+
+  -- ---- each media
+  abbrev full : List (MediaConnection (List ℕ)) → List (Bandwidth (List ℕ)) → List (Attribute (List ℕ)) → List (Media (List ℕ)) → Reading (List ℕ)
+  full cs bs xs ms =
+      at (heads (s .head .description) (s .head .uri) (s .head .connection) (s .head .key)) (record { emails = T .emails; phones = T .phones; connections = cs; bandwidths = bs; times = TA; repeats = T .repeats; offsets = T .offsets; zones = T .zones; attributes = xs; medias = ms }) (anyZone (T .zones))
+
+  abbrev mediasState : List (Media (List ℕ)) → Reading (List ℕ)
+  mediasState ms = full (conns (length ms + 1)) (bands (length ms + 1)) (attrs (length ms + 1)) ms
+
+  abbrev mediaWith : Media (List ℕ) → Option (List ℕ) → Option (Key (List ℕ)) → Media (List ℕ)
+  mediaWith m t k = record { media = m .media; port = m .port; numPorts = m .numPorts; proto = m .proto; fmt = m .fmt; mediaTitle = t; key = k }
+
+  media-part : (ms : List (Media (List ℕ))) (m : Media (List ℕ)) → MediaPlain m → length ms < 32 → Leads (mediasState ms) (mediaLines id T (length ms + 1) m) (mediasState (ms ++ (m ∷ [])))
+  unfolding form.mediaLines
+  media-part ms m p l =
+      let n : ℕ = length ms + 1 in
+      let e : (x : Media (List ℕ)) → length (ms ++ (x ∷ [])) ≡ n = λ x. length-append ms (x ∷ []) in
+      let there : (x : Media (List ℕ)) → 0 < length (ms ++ (x ∷ [])) = λ x. (let q = e x in omega arith) in
+      let m₁ : Media (List ℕ) = mediaWith m (m .mediaTitle) none in
+      rw (e m)
+      (media-leads (mediasState ms) m (p .line) l
+      then optional-leads TextBack _ (λ t. full (conns n) (bands n) (attrs n) (ms ++ (mediaWith m t none ∷ []))) (λ x b. title-leads _ (there _) ms (mediaAlone m) refl x b refl) (m .mediaTitle) (p .title)
+      then owned-lead (λ (c : MediaConnection (List ℕ)). c .owner) (λ c. ConnectionBack (c .connection)) 64 n (λ k c. connectionLine id (c .connection)) (λ cs. full cs (bands n) (attrs n) (ms ++ (m₁ ∷ []))) (λ cs c b o l. media-connection-leads _ (there _) c b (o ∙ sym (e m₁)) l) (T .connections) _ 1 (ordered .ownedConnections) (plain .tables .connections) (ordered .within .connections)
+      then owned-lead (λ (b : Bandwidth (List ℕ)). b .owner) (λ b. BandwidthBack (b .bwtype) (b .bandwidth)) 64 n (λ k b. bandwidthLine id b) (λ bs. full (conns (n + 1)) bs (attrs n) (ms ++ (m₁ ∷ []))) (λ bs x b o l. bandwidth-leads _ x b (o ∙ sym (e m₁)) l) (T .bandwidths) _ 0 (ordered .ownedBandwidths) (plain .tables .bandwidths) (ordered .within .bandwidths)
+      then optional-leads KeyBack _ (λ k. full (conns (n + 1)) (bands (n + 1)) (attrs n) (ms ++ (mediaWith m (m .mediaTitle) k ∷ []))) (λ k b. media-key-leads _ (there _) ms m₁ refl k b refl) (m .key) (p .key)
+      then owned-lead (λ (a : Attribute (List ℕ)). a .owner) (λ a. PairBack (a .attribute) (a .value)) 512 n (λ k a. pairLine id 0x61 (a .attribute) (a .value)) (λ xs. full (conns (n + 1)) (bands (n + 1)) xs (ms ++ (m ∷ []))) (λ xs a b o l. attribute-leads _ a b (o ∙ sym (e m)) l) (T .attributes) _ 0 (ordered .ownedAttributes) (plain .tables .attributes) (ordered .within .attributes))
+
+  medias-part : Leads (closing (T .zones) (s .head .key) (attrs 1) (anyZone (T .zones))) (each (mediaLines id T) 1 (T .medias)) (full (T .connections) (T .bandwidths) (T .attributes) (T .medias))
+  medias-part =
+      let n : ℕ = length (T .medias) + 1 in
+      let c₀ : conns 1 ≡ [] = below-none (λ (c : MediaConnection (List ℕ)). c .owner) 1 _ 1 (T .connections) (ordered .ownedConnections) (omega arith) in
+      let c₁ : conns n ≡ T .connections = below-all (λ (c : MediaConnection (List ℕ)). c .owner) n _ 1 (T .connections) (ordered .ownedConnections) (omega arith) in
+      let b₁ : bands n ≡ T .bandwidths = below-all (λ (b : Bandwidth (List ℕ)). b .owner) n _ 0 (T .bandwidths) (ordered .ownedBandwidths) (omega arith) in
+      let a₁ : attrs n ≡ T .attributes = below-all (λ (a : Attribute (List ℕ)). a .owner) n _ 0 (T .attributes) (ordered .ownedAttributes) (omega arith) in
+      rw (c₀, c₁, b₁, a₁) at (rows-lead MediaPlain 32 (mediaLines id T) mediasState media-part (T .medias) (plain .tables .medias) (ordered .within .medias))
+
+  -- ---- the whole
+  pub written-back : lines bytesAt (written id s) ≡ accepted (again s)
+  unfolding form.written cutter.split reader.run
+  written-back =
+      let xs : List ℕ = contactLines id s ++ (closingLines id s ++ each (mediaLines id T) 1 (T .medias)) in
+      head-part xs (again s) (λ n p. rw (append-nil xs) at ((contact-part then closing-part then medias-part) .read [] (again s) (λ n p. refl) n p))
