@@ -10,3 +10,4 @@ pub mod LeadLaws
 pub mod LineLaws
 pub mod OffsetLaws
 pub mod WholeLaws
+pub mod BackLaws
