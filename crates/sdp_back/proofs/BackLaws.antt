@@ -23,7 +23,7 @@ use Rattle.sdp_same.specs.Said.{saidMediaConnection, saidBandwidth, saidAttribu
 use Rattle.sdp_same.specs.Sound.{FineIn, Rising, Sound}
 use Rattle.sdp_same.proofs.LinesLaws.{accepted-said, refused-said}
 use Rattle.sdp_same.proofs.SoundLaws.{read-sound, refusal-number}
-use Rattle.sdp_same.proofs.SameLaws.{read-then-write}
+use Rattle.sdp_same.proofs.SameLaws.{read-is, read-then-write}
 use Rattle.sdp_same.proofs.WrittenLaws.{written-said}
 use Rattle.sdp_back.specs.Again.{again}
 use Rattle.sdp_back.specs.Back.{wrote, SaidAgain}
@@ -89,10 +89,6 @@ text-back t s e =
     rw (← z) (ap (lines bytesAt) (sym (written-said (bytesOf t) r)) ∙ back t r q))
 
 -- ---- over the promises of read and write
-read-is : (t a : List ℕ) (s : Session Span) → size ≤ length a → length t ≤ 32768 → lines spanAt t ≡ accepted s → readText t a ≡ outcomeOf a (accepted s)
-unfolding reader.readText
-read-is t a s h l e = rw (le-ltb (length a) size h, le-ltb 32768 (length t) l, e)
-
 -- what reading accepted had room and was within the limit
 read-fits : (t a : List ℕ) → readText t a .answer .number ≡ 0 → (size ≤ length a) × (length t ≤ 32768)
 unfolding reader.readText
@@ -125,7 +121,7 @@ read-back t a o b h k l m =
       second = second;
       says = r .read;
       saysAgain = x;
-      read = read-is t a (r .session) (f .0) (f .1) (r .read);
-      readAgain = read-is w b second m l x;
+      read = read-is t (f .1) (r .session) (r .read) a (f .0);
+      readAgain = read-is w l second x b m;
       same = y;
     })

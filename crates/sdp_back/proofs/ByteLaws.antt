@@ -1,12 +1,13 @@
 -- Bytes that all pass a test, and strings that the writer leaves as they are. Assumes nothing.
 use mathlib.Core.Path.{_≡_, refl, sym, ap, _∙_}
-use mathlib.Core.Bool.{Bool, true, false, cond, not, _&&_, _||_, and-assoc}
+use mathlib.Core.Bool.{Bool, true, false, cond, not, _&&_, and-eq-true-iff}
 use mathlib.Core.List.{List, [], _∷_, _++_}
 use Prim.Native.Nat.{ℕ, zero, suc, _+_, _-_}
 use native.Mathlib.Omega.{arith}
 use lib.ListN.{length, getD, take, drop, length-append}
 use lib.Seq.{getD-at, take-at}
 use lib.Dec.{eqb}
+use borrow.Author.Tests.{not-true}
 use Rattle.sdp_bytes.specs.Runs as runs
 use Rattle.sdp_bytes.specs.Runs.{indexOf}
 use Rattle.sdp_bytes.proofs.ScanLaws.{and-left, and-right}
@@ -14,14 +15,6 @@ use Rattle.sdp_split.specs.Split.{part}
 use Rattle.sdp_split.specs.declared.Piece.{Piece}
 use Rattle.sdp_put.specs.Strings as strings
 use Rattle.sdp_put.specs.Strings.{dropped, kept, clean}
-
-pub both : (a b : Bool) → a ≡ true → b ≡ true → (a && b) ≡ true
-both true b p q = q
-both false b p q = p
-
-pub not-so : (a : Bool) → not a ≡ true → a ≡ false
-not-so true e = sym e
-not-so false e = refl
 
 -- ---- the last byte, and those before it
 pub last-byte : (s : List ℕ) (x : ℕ) → getD (s ++ (x ∷ [])) (length (s ++ (x ∷ [])) - 1) 0 ≡ x
@@ -39,13 +32,13 @@ module _ (p : ℕ → Bool) where
   pub every-append : (a b : List ℕ) → every p a ≡ true → every p b ≡ true → every p (a ++ b) ≡ true
   unfolding every
   every-append [] b h k = k
-  every-append (x ∷ a) b h k = both (p x) _ (and-left (p x) _ h) (every-append a b (and-right (p x) _ h) k)
+  every-append (x ∷ a) b h k = and-eq-true-iff (p x) _ .1 (and-left (p x) _ h, every-append a b (and-right (p x) _ h) k)
 
   pub every-take : (n : ℕ) (s : List ℕ) → every p s ≡ true → every p (take n s) ≡ true
   unfolding every
   every-take zero s h = refl
   every-take (suc n) [] h = refl
-  every-take (suc n) (b ∷ s) h = both (p b) _ (and-left (p b) _ h) (every-take n s (and-right (p b) _ h))
+  every-take (suc n) (b ∷ s) h = and-eq-true-iff (p b) _ .1 (and-left (p b) _ h, every-take n s (and-right (p b) _ h))
 
   pub every-drop : (n : ℕ) (s : List ℕ) → every p s ≡ true → every p (drop n s) ≡ true
   unfolding every
@@ -60,7 +53,7 @@ module _ (p : ℕ → Bool) where
 pub every-so : (p q : ℕ → Bool) → ((b : ℕ) → p b ≡ true → q b ≡ true) → (s : List ℕ) → every p s ≡ true → every q s ≡ true
 unfolding every
 every-so p q h [] e = refl
-every-so p q h (b ∷ s) e = both (q b) _ (h b (and-left (p b) _ e)) (every-so p q h s (and-right (p b) _ e))
+every-so p q h (b ∷ s) e = and-eq-true-iff (q b) _ .1 (h b (and-left (p b) _ e), every-so p q h s (and-right (p b) _ e))
 
 -- ---- a byte that is not there
 abbrev pub lacks : ℕ → List ℕ → Bool
@@ -82,4 +75,4 @@ bare s = every (λ b. not (dropped b)) s
 pub clean-bare : (s : List ℕ) → bare s ≡ true → clean s ≡ s
 unfolding every strings.clean strings.kept
 clean-bare [] h = refl
-clean-bare (b ∷ s) h = rw (not-so (dropped b) (and-left (not (dropped b)) _ h)) (ap (λ (l : List ℕ). b ∷ l) (clean-bare s (and-right (not (dropped b)) _ h)))
+clean-bare (b ∷ s) h = rw (not-true (dropped b) (and-left (not (dropped b)) _ h)) (ap (λ (l : List ℕ). b ∷ l) (clean-bare s (and-right (not (dropped b)) _ h)))

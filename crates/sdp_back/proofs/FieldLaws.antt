@@ -23,7 +23,10 @@ use Rattle.sdp_split.specs.declared.Field.the-variants as field
 use Rattle.sdp_judge.specs.Read.{Read, got, refused, encoding, format, missing, trailing, textOf, tokenOf, amountOf, numberOf, timeOf, choiceOf, absent, andThen, afterText, afterAmount, afterChoice, ending}
 use Rattle.sdp_judge.specs.declared.Wrong.{Wrong}
 use Rattle.sdp_judge.specs.declared.MaybePiece.{MaybePiece}
+use Rattle.sdp_judge.specs.declared.Text.{Text}
 use Rattle.sdp_judge.specs.declared.Text.the-variants as text
+use Rattle.sdp_judge.specs.declared.Amount.{Amount}
+use Rattle.sdp_judge.specs.declared.Amount.the-variants as amount
 use Rattle.sdp_judge.specs.declared.Choice.the-variants as choice
 use Rattle.sdp_fields.specs.Records.{portOf, afterPort}
 use Rattle.sdp_fields.specs.Lists.{numbered}
@@ -69,48 +72,46 @@ choiceIn w none = got none
 choiceIn w (some s) = mapRead some (textIn w s)
 
 module _ {A B R : Type 0} (f : A → B) (w : ℕ) (v : List ℕ) (place : ℕ → R) (F : Field) (X : Option (List ℕ × R)) (q : seen v place F ≡ X) where
+  -- a string that passes a test
   module _ (k : Piece → ℕ → Read A) (k′ : List ℕ → R → Read B) (h : (p : Piece) (e : ℕ) → F ≡ field.Got p e → mapRead f (k p e) ≡ k′ (part v p) (place e)) where
-    see-tested : (test : List ℕ → Bool) (x : Wrong) (p : Piece) (e : ℕ) → F ≡ field.Got p e
-        → mapRead f (afterText (cond (test (part v p)) (text.Got p e) (text.Refused x)) k) ≡ andThen (tested test x (part v p)) (λ s. k′ s (place e))
-    see-tested test x p e q = go (test (part v p))
+    see-string : (test : List ℕ → Bool) (x : Wrong) (judge : Field → Text) → ((p : Piece) (e : ℕ) → judge (field.Got p e) ≡ cond (test (part v p)) (text.Got p e) (text.Refused x)) → judge field.Nothing ≡ text.Refused (missing w)
+        → mapRead f (afterText (judge F) k) ≡ onSeen w X (λ s r. andThen (tested test x s) (λ a. k′ a r))
+    see-string test x judge here gone = go F refl ∙ ap (λ y. onSeen w y (λ s r. andThen (tested test x s) (λ a. k′ a r))) q
       where
-        go : (b : Bool) → mapRead f (afterText (cond b (text.Got p e) (text.Refused x)) k) ≡ andThen (cond b (got (part v p)) (refused x)) (λ s. k′ s (place e))
-        go true = h p e q
-        go false = refl
+        pick : (b : Bool) (p : Piece) (e : ℕ) → F ≡ field.Got p e → mapRead f (afterText (cond b (text.Got p e) (text.Refused x)) k) ≡ andThen (cond b (got (part v p)) (refused x)) (λ s. k′ s (place e))
+        pick true p e z = h p e z
+        pick false p e z = refl
+
+        go : (G : Field) → F ≡ G → mapRead f (afterText (judge G) k) ≡ onSeen w (seen v place G) (λ s r. andThen (tested test x s) (λ a. k′ a r))
+        go (field.Got p e) z = rw (here p e) (pick (test (part v p)) p e z)
+        go field.Nothing z = rw gone
 
     pub see-text : mapRead f (afterText (textOf w v F) k) ≡ onSeen w X (λ s r. andThen (textIn w s) (λ a. k′ a r))
-    see-text = go F refl ∙ ap (λ x. onSeen w x (λ s r. andThen (textIn w s) (λ a. k′ a r))) q
-      where
-        go : (G : Field) → F ≡ G → mapRead f (afterText (textOf w v G) k) ≡ onSeen w (seen v place G) (λ s r. andThen (textIn w s) (λ a. k′ a r))
-        go (field.Got p e) z = see-tested isUtf8 (encoding w) p e z
-        go field.Nothing z = refl
+    see-text = see-string isUtf8 (encoding w) (textOf w v) (λ p e. refl) refl
 
     pub see-token : mapRead f (afterText (tokenOf w v F) k) ≡ onSeen w X (λ s r. andThen (tokenIn w s) (λ a. k′ a r))
-    see-token = go F refl ∙ ap (λ x. onSeen w x (λ s r. andThen (tokenIn w s) (λ a. k′ a r))) q
-      where
-        go : (G : Field) → F ≡ G → mapRead f (afterText (tokenOf w v G) k) ≡ onSeen w (seen v place G) (λ s r. andThen (tokenIn w s) (λ a. k′ a r))
-        go (field.Got p e) z = see-tested isToken (format w) p e z
-        go field.Nothing z = refl
+    see-token = see-string isToken (format w) (tokenOf w v) (λ p e. refl) refl
 
+  -- a number by a rule
   module _ (k : ℕ → ℕ → Read A) (k′ : ℕ → R → Read B) (h : (n e : ℕ) → mapRead f (k n e) ≡ k′ n (place e)) where
-    see-amount : (e : ℕ) (n : Number) → mapRead f (afterAmount (amountOf w e n) k) ≡ andThen (numbered w n) (λ m. k′ m (place e))
-    see-amount e (Value n) = h n e
-    see-amount e Encoding = refl
-    see-amount e Format = refl
+    see-amount : (rule : List ℕ → Number) (judge : Field → Amount) → ((p : Piece) (e : ℕ) → judge (field.Got p e) ≡ amountOf w e (rule (part v p))) → judge field.Nothing ≡ amount.Refused (missing w)
+        → mapRead f (afterAmount (judge F) k) ≡ onSeen w X (λ s r. andThen (numbered w (rule s)) (λ n. k′ n r))
+    see-amount rule judge here gone = go F ∙ ap (λ y. onSeen w y (λ s r. andThen (numbered w (rule s)) (λ n. k′ n r))) q
+      where
+        pick : (e : ℕ) (n : Number) → mapRead f (afterAmount (amountOf w e n) k) ≡ andThen (numbered w n) (λ m. k′ m (place e))
+        pick e (Value n) = h n e
+        pick e Encoding = refl
+        pick e Format = refl
+
+        go : (G : Field) → mapRead f (afterAmount (judge G) k) ≡ onSeen w (seen v place G) (λ s r. andThen (numbered w (rule s)) (λ n. k′ n r))
+        go (field.Got p e) = rw (here p e) (pick e (rule (part v p)))
+        go field.Nothing = rw gone
 
     pub see-number : mapRead f (afterAmount (numberOf w v F) k) ≡ onSeen w X (λ s r. andThen (numbered w (wholeNumber 64 s)) (λ n. k′ n r))
-    see-number = go F ∙ ap (λ x. onSeen w x (λ s r. andThen (numbered w (wholeNumber 64 s)) (λ n. k′ n r))) q
-      where
-        go : (F : Field) → mapRead f (afterAmount (numberOf w v F) k) ≡ onSeen w (seen v place F) (λ s r. andThen (numbered w (wholeNumber 64 s)) (λ n. k′ n r))
-        go (field.Got p e) = see-amount e (wholeNumber 64 (part v p))
-        go field.Nothing = refl
+    see-number = see-amount (wholeNumber 64) (numberOf w v) (λ p e. refl) refl
 
     pub see-time : mapRead f (afterAmount (timeOf w v F) k) ≡ onSeen w X (λ s r. andThen (numbered w (typedTime s)) (λ n. k′ n r))
-    see-time = go F ∙ ap (λ x. onSeen w x (λ s r. andThen (numbered w (typedTime s)) (λ n. k′ n r))) q
-      where
-        go : (F : Field) → mapRead f (afterAmount (timeOf w v F) k) ≡ onSeen w (seen v place F) (λ s r. andThen (numbered w (typedTime s)) (λ n. k′ n r))
-        go (field.Got p e) = see-amount e (typedTime (part v p))
-        go field.Nothing = refl
+    see-time = see-amount typedTime (timeOf w v) (λ p e. refl) refl
 
   pub see-port : (k : Port → ℕ → Read A) (k′ : Port → R → Read B) → ((p : Port) (e : ℕ) → mapRead f (k p e) ≡ k′ p (place e))
       → mapRead f (afterPort v F k) ≡ onSeen 28 X (λ s r. andThen (portOf s) (λ p. k′ p r))
@@ -160,10 +161,6 @@ module _ {A : Type 0} (P : A → Type 0) where
   gives-number w (Value n) k h = h n refl
   gives-number w Encoding k h = tt
   gives-number w Format k h = tt
-
-  pub gives-seen : {R : Type 0} (w : ℕ) (X : Option (List ℕ × R)) (k : List ℕ → R → Read A) → ((s : List ℕ) (r : R) → X ≡ some (s, r) → Gives P (k s r)) → Gives P (onSeen w X k)
-  gives-seen w none k h = tt
-  gives-seen w (some x) k h = h (x .0) (x .1) refl
 
   pub gives-unseen : {X : Type 0} (w : ℕ) (o : Option X) (r : Read A) → Gives P r → Gives P (unseen w o r)
   gives-unseen w none r g = g

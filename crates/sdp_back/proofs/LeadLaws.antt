@@ -1,13 +1,13 @@
 -- What is read of written lines, one after another: where the session leads. Assumes nothing.
 use mathlib.Core.Path.{_≡_, refl, sym, ap, _∙_}
-use mathlib.Core.Bool.{Bool, true, false, cond, not, _&&_, _||_}
+use mathlib.Core.Bool.{Bool, true, false, cond, not, _&&_, _||_, and-eq-true-iff}
 use mathlib.Core.List.{List, [], _∷_, _++_, append-nil, append-assoc}
 use mathlib.Core.Option.{Option, none, some}
 use Prim.Native.Nat.{ℕ, suc, _+_, _≤_, _<_}
 use native.Mathlib.Omega.{arith}
 use lib.ListN.{length, getD, take, drop, length-append}
 use lib.Dec.{ltb, eqb}
-use borrow.Author.Tests.{ltb-true, ltb-false, lt-ltb, le-ltb, eqb-true, eqb-false, eq-eqb, ne-eqb}
+use borrow.Author.Tests.{ltb-true, ltb-false, lt-ltb, le-ltb, eqb-true, eqb-false, ne-eqb, not-true}
 use Rattle.sdp_bytes.specs.Runs as runs
 use Rattle.sdp_bytes.proofs.ScanLaws.{and-left, and-right}
 use Rattle.sdp_lines.specs.Lines as cutter
@@ -24,13 +24,13 @@ use Rattle.sdp_row.specs.Written.{ending, line, each, mine, optional}
 use Rattle.sdp_same.specs.Fits.{IfGiven, Each}
 use Rattle.sdp_same.specs.Sound.{Rising}
 use Rattle.sdp_same.specs.Said.{bytesAt}
-use Rattle.sdp_back.proofs.ByteLaws.{both, not-so, last-byte, but-last, every, every-so, every-append, lacks, bare}
+use Rattle.sdp_back.proofs.ByteLaws.{last-byte, but-last, every, every-so, every-append, lacks, bare}
 
 -- ---- one written line is cut off
 split-ended : (a rest : List ℕ) → lacks 10 a ≡ true → split (a ++ (10 ∷ rest)) ≡ record { body = a; ended = true } ∷ split rest
 unfolding cutter.split every
 split-ended [] rest h = refl
-split-ended (b ∷ a) rest h = rw (not-so (eqb b 10) (and-left (not (eqb b 10)) _ h), split-ended a rest (and-right (not (eqb b 10)) _ h))
+split-ended (b ∷ a) rest h = rw (not-true (eqb b 10) (and-left (not (eqb b 10)) _ h), split-ended a rest (and-right (not (eqb b 10)) _ h))
 
 bare-lacks : (s : List ℕ) → bare s ≡ true → lacks 10 s ≡ true
 bare-lacks s h = every-so (λ b. not (dropped b)) (λ b. not (eqb b 10)) (λ b. go (eqb b 0) (eqb b 13) (eqb b 10)) s h
@@ -61,12 +61,12 @@ letter l = not (dropped l) && not (eqb l 0x3d)
 module _ (l : ℕ) (v : List ℕ) (good : letter l ≡ true) (h : bare v ≡ true) where
   whole-bare : bare (l ∷ 0x3d ∷ v) ≡ true
   unfolding every
-  whole-bare = both (not (dropped l)) _ (and-left (not (dropped l)) _ good) h
+  whole-bare = and-eq-true-iff (not (dropped l)) _ .1 (and-left (not (dropped l)) _ good, h)
 
   line-form : formOf (l ∷ 0x3d ∷ v) ≡ Good l
   unfolding cutter.formOf cutter.plainForm runs.indexOf
   line-form =
-      rw (bare-form (l ∷ 0x3d ∷ v) whole-bare, not-so (eqb l 0x3d) (and-right (not (dropped l)) _ good), ne-eqb 1 (suc (suc (length v))) (λ e. omega arith), ne-eqb (suc (suc (length v))) 0 (λ e. omega arith))
+      rw (bare-form (l ∷ 0x3d ∷ v) whole-bare, not-true (eqb l 0x3d) (and-right (not (dropped l)) _ good), ne-eqb 1 (suc (suc (length v))) (λ e. omega arith), ne-eqb (suc (suc (length v))) 0 (λ e. omega arith))
 
   line-split : (rest : List ℕ) → split (line l v ++ rest) ≡ record { body = (l ∷ 0x3d ∷ v) ++ (13 ∷ []); ended = true } ∷ split rest
   unfolding form.line every

@@ -7,7 +7,7 @@ use native.Mathlib.Omega.{arith}
 use lib.ListN.{length, getD, take, drop, length-append}
 use lib.Seq.{getD-at, take-at}
 use lib.Dec.{ltb, leb, eqb, lit<, lit≤}
-use borrow.Author.Tests.{lt-ltb, le-leb, lt-leb, eq-eqb, ltb-true, ltb-false, leb-true, leb-false, ne-eqb, eqb-true, eqb-false}
+use borrow.Author.Tests.{lt-ltb, le-leb, lt-leb, eq-eqb, ltb-true, ltb-false, leb-true, leb-false, ne-eqb, eqb-true, eqb-false, not-true}
 use Rattle.sdp_bytes.specs.Token as token
 use Rattle.sdp_bytes.specs.Token.{digit}
 use Rattle.sdp_bytes.proofs.ScanLaws.{and-left, and-right}
@@ -25,7 +25,7 @@ use Rattle.sdp_judge.specs.Read.{Read, got, refused}
 use Rattle.sdp_put.specs.Digits.{digits, timeText}
 use Rattle.sdp_put.proofs.DigitLaws.{digits-one, digits-more, time-zero, time-day, time-hour, time-minute, time-plain, offset-minus, offset-plain}
 use Rattle.sdp_row.specs.Written.{signedText}
-use Rattle.sdp_back.proofs.ByteLaws.{every, every-append, not-so, last-byte, but-last}
+use Rattle.sdp_back.proofs.ByteLaws.{every, every-append, last-byte, but-last}
 
 -- ---- digits
 value-append : (v : ℕ) (a b : List ℕ) → value v (a ++ b) ≡ value (value v a) b
@@ -176,7 +176,7 @@ no-minus v = go (timeText v) (time-pass (λ b. not (eqb b 0x2d)) (λ b l g. rw (
   where
     go : (s : List ℕ) → every (λ b. not (eqb b 0x2d)) s ≡ true → eqb (getD s 0 0) 0x2d ≡ false
     go [] e = refl
-    go (b ∷ s) e = not-so (eqb b 0x2d) (and-left (not (eqb b 0x2d)) _ e)
+    go (b ∷ s) e = not-true (eqb b 0x2d) (and-left (not (eqb b 0x2d)) _ e)
 
 pub offset-back : (n : ℕ) → n < 2 ^ 64 → offsetOf (signedText n) ≡ got n
 unfolding signed-offset.offsetOf

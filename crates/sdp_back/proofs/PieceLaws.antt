@@ -35,7 +35,7 @@ use Rattle.sdp_same.specs.Fits.{IfGiven}
 use Rattle.sdp_back.proofs.ByteLaws.{every, every-append, every-take, every-drop, lacks, before-lacks, bare, clean-bare}
 use Rattle.sdp_back.proofs.NumberLaws.{number-back, ascii-utf8, digits-ascii}
 use Rattle.sdp_back.proofs.WordLaws.{behind, cut, sepText, cut-back, cut-none, digits-lack, digits-bare}
-use Rattle.sdp_back.proofs.FieldLaws.{mapRead, onSeen, unseen, textIn, choiceIn, see-text, see-number, see-port, see-end, see-first, see-after, see-rest, see-choice, alone, Gives, gives-got, gives-then, gives-test, gives-number, gives-seen, gives-unseen}
+use Rattle.sdp_back.proofs.FieldLaws.{mapRead, onSeen, unseen, textIn, choiceIn, see-text, see-number, see-port, see-end, see-first, see-after, see-rest, see-choice, alone, Gives, gives-got, gives-then, gives-test, gives-number, gives-unseen}
 use Rattle.sdp_back.proofs.AddressLaws.{Backs}
 
 -- the front of a cut, and what is behind it

@@ -17,21 +17,22 @@ use Rattle.sdp_split.specs.Split.{part}
 use Rattle.sdp_judge.specs.Read.{Read, got, refused, wholeOf}
 use Rattle.sdp_fields.specs.Records.{originOf, connectionOf, bandwidthOf, timesOf, pairOf, mediaOf}
 use Rattle.sdp_fields.specs.Lists.{RepeatLine, repeatOf, zonesOf}
-use Rattle.sdp_area.specs.Session.{Key, MediaConnection, Bandwidth, Attribute, Media, Head, Tables, Session, empty}
-use Rattle.sdp_area.specs.With.{withMedias, setLast, titled, keyed}
+use Rattle.sdp_area.specs.Session.{Key, MediaConnection, Bandwidth, Time, Repeat, Offset, Zone, Attribute, Media, Head, Tables, Session, empty}
+use Rattle.sdp_area.specs.With.{withTimes, withRepeats, withOffsets, withZones, withMedias, setLast, titled, keyed}
 use Rattle.sdp_area.specs.Latest.{given, lastTitled, lastKeyed}
 use Rattle.sdp_roles.specs.Roles.{roleAt}
 use Rattle.sdp_roles.specs.declared.Role.{Role}
 use Rattle.sdp_roles.specs.declared.Role.the-variants as role
 use Rattle.sdp_step.specs.Step as steps
-use Rattle.sdp_step.specs.Step.{Reading, Stepped, goes, stops, once, row, repeated, stepRole, fresh}
+use Rattle.sdp_step.specs.Step.{Reading, Stepped, goes, stops, keyIn, repeated, stepRole, fresh}
 use Rattle.sdp_read.specs.Run as reader
 use Rattle.sdp_read.specs.Run.{Verdict, accepted, refused, noVersion, badVersion, isZero, after, stepForm, run, version, beginForm, begin, lines}
 use Rattle.sdp_put.specs.Strings.{dropped, clean}
 use Rattle.sdp_same.specs.Fits.{IfGiven, Each}
 use Rattle.sdp_same.specs.Said.{bytesAt}
 use Rattle.sdp_same.proofs.RowLaws.{each-append, each-last}
-use Rattle.sdp_back.proofs.ByteLaws.{both, every, every-take, every-drop, lacks, bare}
+use Rattle.sdp_bound.proofs.StepLaws.{Going, on, off, past-cond, past-once, past-row}
+use Rattle.sdp_back.proofs.ByteLaws.{every, every-take, every-drop, lacks, bare}
 use Rattle.sdp_back.proofs.AddressLaws.{Backs, whole-back, ConnectionBack, connection-back, OriginBack, origin-back}
 use Rattle.sdp_back.proofs.PieceLaws.{BandwidthBack, bandwidth-back, PairBack, pair-back, MediaBack, media-back}
 
@@ -71,26 +72,6 @@ pub record Plain (s : Session (List ℕ)) : Type 0 where
   pub tables : PlainTables (s .tables)
 
 -- ---- one line
-abbrev Goes : (Reading (List ℕ) → Type 0) → Stepped (List ℕ) → Type 0
-Goes P (goes τ) = P τ
-Goes P (stops n w) = Unit {0}
-
-module _ (P : Reading (List ℕ) → Type 0) where
-  cond-goes : (b : Bool) (σ τ : Stepped (List ℕ)) → Goes P σ → Goes P τ → Goes P (cond b σ τ)
-  cond-goes true σ τ h k = h
-  cond-goes false σ τ h k = k
-
-  module _ {A : Type 0} where
-    once-goes : (n : ℕ) (b : Bool) (r : Read A) (k : A → Stepped (List ℕ)) → ((x : A) → r ≡ got x → Goes P (k x)) → Goes P (once n b r k)
-    once-goes n true r k h = tt
-    once-goes n false (got x) k h = h x refl
-    once-goes n false (refused w) k h = tt
-
-    row-goes : (table cap c : ℕ) (r : Read A) (k : A → Reading (List ℕ)) → ((x : A) → r ≡ got x → P (k x)) → Goes P (row table cap c r k)
-    unfolding steps.row
-    row-goes table cap c (got x) k h = cond-goes (ltb c cap) (goes (k x)) (stops 21 table) (h x refl) tt
-    row-goes table cap c (refused w) k h = tt
-
 module _ (ρ : Reading (List ℕ)) (v : List ℕ) (b : bare v ≡ true) (h : Plain (ρ .session)) where
   abbrev H : PlainHead (ρ .session .head)
   H = h .head
@@ -101,66 +82,78 @@ module _ (ρ : Reading (List ℕ)) (v : List ℕ) (b : bare v ≡ true) (h : Pla
   abbrev Kept : Reading (List ℕ) → Type 0
   Kept τ = Plain (τ .session)
 
-  repeat-plain : (r : Read RepeatLine) → Goes Kept (repeated (part v) ρ v r)
-  repeat-plain (refused w) = tt
-  repeat-plain (got r) =
-      cond-goes Kept (ltb (length (ρ .session .tables .repeats)) 64) _ _
-      (cond-goes Kept (leb (length (ρ .session .tables .offsets) + length (r .offsets)) 256) _ _
-      (record { head = H; tables = record { emails = T .emails; phones = T .phones; connections = T .connections; bandwidths = T .bandwidths; attributes = T .attributes; medias = T .medias } }) tt) tt
+  -- a session with another head, or other tables
+  head-goes : (x : Head (List ℕ)) → PlainHead x → Going Kept (goes (record { session = record { head = x; tables = ρ .session .tables }; zoned = ρ .zoned }))
+  head-goes x p = on Kept _ (record { head = p; tables = T })
+
+  tables-kept : (t : Tables (List ℕ)) → PlainTables t → Plain (record { head = ρ .session .head; tables = t })
+  tables-kept t p = record { head = H; tables = p }
+
+  -- other times and zones have no strings
+  times-plain : (ts : List Time) (rs : List Repeat) (os : List Offset) (zs : List Zone) → Plain (withZones (withOffsets (withRepeats (withTimes (ρ .session) ts) rs) os) zs)
+  times-plain ts rs os zs = tables-kept _ (record { emails = T .emails; phones = T .phones; connections = T .connections; bandwidths = T .bandwidths; attributes = T .attributes; medias = T .medias })
 
   medias-plain : (ms : List (Media (List ℕ))) → Each MediaPlain ms → Plain (withMedias (ρ .session) ms)
-  medias-plain ms e = record { head = H; tables = record { emails = T .emails; phones = T .phones; connections = T .connections; bandwidths = T .bandwidths; attributes = T .attributes; medias = e } }
+  medias-plain ms e = tables-kept _ (record { emails = T .emails; phones = T .phones; connections = T .connections; bandwidths = T .bandwidths; attributes = T .attributes; medias = e })
 
-  step-plain : (x : Role) → Goes Kept (stepRole (part v) ρ v x)
+  -- the latest media changed
+  last-goes : (g : Media (List ℕ) → Media (List ℕ)) → ((m : Media (List ℕ)) → MediaPlain m → MediaPlain (g m)) → Going Kept (goes (record { session = withMedias (ρ .session) (setLast g (ρ .session .tables .medias)); zoned = ρ .zoned }))
+  last-goes g keep = on Kept _ (medias-plain _ (each-last MediaPlain g keep (ρ .session .tables .medias) (T .medias)))
+
+  repeat-plain : (r : Read RepeatLine) → Going Kept (repeated (part v) ρ v r)
+  repeat-plain (refused w) = off Kept _ _
+  repeat-plain (got r) =
+      past-cond Kept (ltb (length (ρ .session .tables .repeats)) 64) _ _
+      (past-cond Kept (leb (length (ρ .session .tables .offsets) + length (r .offsets)) 256) _ _ (on Kept _ (times-plain _ _ _ _)) (off Kept _ _)) (off Kept _ _)
+
+  step-plain : (x : Role) → Going Kept (stepRole (part v) ρ v x)
   unfolding steps.stepRole
   step-plain role.Origin =
-      once-goes Kept 12 (given (ρ .session .head .origin)) (originOf v) _ (λ o q.
-      record { head = record { origin = origin-back v o b q; name = H .name; description = H .description; uri = H .uri; connection = H .connection; key = H .key }; tables = T })
+      past-once Kept 12 (given (ρ .session .head .origin)) (originOf v) _ (λ o q.
+      head-goes _ (record { origin = origin-back v o b q; name = H .name; description = H .description; uri = H .uri; connection = H .connection; key = H .key }))
   step-plain role.Name =
-      once-goes Kept 13 (given (ρ .session .head .name)) (wholeOf 34 v) _ (λ p q.
-      record { head = record { origin = H .origin; name = λ w. whole-back 34 w v p b q; description = H .description; uri = H .uri; connection = H .connection; key = H .key }; tables = T })
+      past-once Kept 13 (given (ρ .session .head .name)) (wholeOf 34 v) _ (λ p q.
+      head-goes _ (record { origin = H .origin; name = λ w. whole-back 34 w v p b q; description = H .description; uri = H .uri; connection = H .connection; key = H .key }))
   step-plain role.Description =
-      once-goes Kept 14 (given (ρ .session .head .description)) (wholeOf 35 v) _ (λ p q.
-      record { head = record { origin = H .origin; name = H .name; description = λ w. whole-back 35 w v p b q; uri = H .uri; connection = H .connection; key = H .key }; tables = T })
+      past-once Kept 14 (given (ρ .session .head .description)) (wholeOf 35 v) _ (λ p q.
+      head-goes _ (record { origin = H .origin; name = H .name; description = λ w. whole-back 35 w v p b q; uri = H .uri; connection = H .connection; key = H .key }))
   step-plain role.Uri =
-      once-goes Kept 15 (given (ρ .session .head .uri)) (wholeOf 36 v) _ (λ p q.
-      record { head = record { origin = H .origin; name = H .name; description = H .description; uri = λ w. whole-back 36 w v p b q; connection = H .connection; key = H .key }; tables = T })
+      past-once Kept 15 (given (ρ .session .head .uri)) (wholeOf 36 v) _ (λ p q.
+      head-goes _ (record { origin = H .origin; name = H .name; description = H .description; uri = λ w. whole-back 36 w v p b q; connection = H .connection; key = H .key }))
   step-plain role.Connection =
-      once-goes Kept 16 (given (ρ .session .head .connection)) (connectionOf v) _ (λ c q.
-      record { head = record { origin = H .origin; name = H .name; description = H .description; uri = H .uri; connection = connection-back v c b q; key = H .key }; tables = T })
+      past-once Kept 16 (given (ρ .session .head .connection)) (connectionOf v) _ (λ c q.
+      head-goes _ (record { origin = H .origin; name = H .name; description = H .description; uri = H .uri; connection = connection-back v c b q; key = H .key }))
   step-plain role.Key =
-      once-goes Kept 19 (given (ρ .session .head .key)) (pairOf 25 26 v) _ (λ p q.
-      record { head = record { origin = H .origin; name = H .name; description = H .description; uri = H .uri; connection = H .connection; key = pair-back 25 26 v p b q }; tables = T })
+      past-once Kept 19 (given (ρ .session .head .key)) (pairOf 25 26 v) _ (λ p q.
+      head-goes _ (record { origin = H .origin; name = H .name; description = H .description; uri = H .uri; connection = H .connection; key = pair-back 25 26 v p b q }))
   step-plain role.Zone =
-      once-goes Kept 17 (ρ .zoned) (zonesOf v) _ (λ zs q.
-      cond-goes Kept (leb (length zs) 64) _ _ (record { head = H; tables = record { emails = T .emails; phones = T .phones; connections = T .connections; bandwidths = T .bandwidths; attributes = T .attributes; medias = T .medias } }) tt)
+      past-once Kept 17 (ρ .zoned) (zonesOf v) _ (λ zs q. past-cond Kept (leb (length zs) 64) _ _ (on Kept _ (times-plain _ _ _ _)) (off Kept _ _))
   step-plain role.Email =
-      row-goes Kept 1 16 _ (wholeOf 37 v) _ (λ p q.
-      record { head = H; tables = record { emails = each-append TextBack (ρ .session .tables .emails) _ (T .emails) (λ w. whole-back 37 w v p b q, tt); phones = T .phones; connections = T .connections; bandwidths = T .bandwidths; attributes = T .attributes; medias = T .medias } })
+      past-row Kept 1 16 _ (wholeOf 37 v) _ (λ p q.
+      tables-kept _ (record { emails = each-append TextBack (ρ .session .tables .emails) _ (T .emails) (λ w. whole-back 37 w v p b q, tt); phones = T .phones; connections = T .connections; bandwidths = T .bandwidths; attributes = T .attributes; medias = T .medias }))
   step-plain role.Phone =
-      row-goes Kept 2 16 _ (wholeOf 38 v) _ (λ p q.
-      record { head = H; tables = record { emails = T .emails; phones = each-append TextBack (ρ .session .tables .phones) _ (T .phones) (λ w. whole-back 38 w v p b q, tt); connections = T .connections; bandwidths = T .bandwidths; attributes = T .attributes; medias = T .medias } })
+      past-row Kept 2 16 _ (wholeOf 38 v) _ (λ p q.
+      tables-kept _ (record { emails = T .emails; phones = each-append TextBack (ρ .session .tables .phones) _ (T .phones) (λ w. whole-back 38 w v p b q, tt); connections = T .connections; bandwidths = T .bandwidths; attributes = T .attributes; medias = T .medias }))
   step-plain role.MediaConnection =
-      row-goes Kept 3 64 _ (connectionOf v) _ (λ c q.
-      record { head = H; tables = record { emails = T .emails; phones = T .phones; connections = each-append (λ (c : MediaConnection (List ℕ)). ConnectionBack (c .connection)) (ρ .session .tables .connections) _ (T .connections) (connection-back v c b q, tt); bandwidths = T .bandwidths; attributes = T .attributes; medias = T .medias } })
+      past-row Kept 3 64 _ (connectionOf v) _ (λ c q.
+      tables-kept _ (record { emails = T .emails; phones = T .phones; connections = each-append (λ (c : MediaConnection (List ℕ)). ConnectionBack (c .connection)) (ρ .session .tables .connections) _ (T .connections) (connection-back v c b q, tt); bandwidths = T .bandwidths; attributes = T .attributes; medias = T .medias }))
   step-plain role.Bandwidth =
-      row-goes Kept 4 64 _ (bandwidthOf v) _ (λ x q.
-      record { head = H; tables = record { emails = T .emails; phones = T .phones; connections = T .connections; bandwidths = each-append (λ (b : Bandwidth (List ℕ)). BandwidthBack (b .bwtype) (b .bandwidth)) (ρ .session .tables .bandwidths) _ (T .bandwidths) (bandwidth-back v x b q, tt); attributes = T .attributes; medias = T .medias } })
+      past-row Kept 4 64 _ (bandwidthOf v) _ (λ x q.
+      tables-kept _ (record { emails = T .emails; phones = T .phones; connections = T .connections; bandwidths = each-append (λ (b : Bandwidth (List ℕ)). BandwidthBack (b .bwtype) (b .bandwidth)) (ρ .session .tables .bandwidths) _ (T .bandwidths) (bandwidth-back v x b q, tt); attributes = T .attributes; medias = T .medias }))
   step-plain role.Attribute =
-      row-goes Kept 9 512 _ (pairOf 23 24 v) _ (λ p q.
-      record { head = H; tables = record { emails = T .emails; phones = T .phones; connections = T .connections; bandwidths = T .bandwidths; attributes = each-append (λ (a : Attribute (List ℕ)). PairBack (a .attribute) (a .value)) (ρ .session .tables .attributes) _ (T .attributes) (pair-back 23 24 v p b q, tt); medias = T .medias } })
-  step-plain role.Time =
-      row-goes Kept 5 32 _ (timesOf v) _ (λ t q. record { head = H; tables = record { emails = T .emails; phones = T .phones; connections = T .connections; bandwidths = T .bandwidths; attributes = T .attributes; medias = T .medias } })
-  step-plain role.Repeat = cond-goes Kept (eqb (length (ρ .session .tables .times)) 0) _ _ tt (repeat-plain (repeatOf v))
+      past-row Kept 9 512 _ (pairOf 23 24 v) _ (λ p q.
+      tables-kept _ (record { emails = T .emails; phones = T .phones; connections = T .connections; bandwidths = T .bandwidths; attributes = each-append (λ (a : Attribute (List ℕ)). PairBack (a .attribute) (a .value)) (ρ .session .tables .attributes) _ (T .attributes) (pair-back 23 24 v p b q, tt); medias = T .medias }))
+  step-plain role.Time = past-row Kept 5 32 _ (timesOf v) _ (λ t q. times-plain _ _ _ _)
+  step-plain role.Repeat = past-cond Kept (eqb (length (ρ .session .tables .times)) 0) _ _ (off Kept _ _) (repeat-plain (repeatOf v))
   step-plain role.Media =
-      row-goes Kept 10 32 _ (mediaOf v) _ (λ m q. medias-plain _ (each-append MediaPlain (ρ .session .tables .medias) _ (T .medias) (record { line = media-back v m b q; title = tt; key = tt }, tt)))
+      past-row Kept 10 32 _ (mediaOf v) _ (λ m q. medias-plain _ (each-append MediaPlain (ρ .session .tables .medias) _ (T .medias) (record { line = media-back v m b q; title = tt; key = tt }, tt)))
   step-plain role.MediaTitle =
-      once-goes Kept 18 (lastTitled (ρ .session .tables .medias)) (wholeOf 33 v) _ (λ p q.
-      medias-plain _ (each-last MediaPlain (titled (part v p)) (λ m g. record { line = g .line; title = λ w. whole-back 33 w v p b q; key = g .key }) (ρ .session .tables .medias) (T .medias)))
+      past-once Kept 18 (lastTitled (ρ .session .tables .medias)) (wholeOf 33 v) _ (λ p q.
+      last-goes (titled (part v p)) (λ m g. record { line = g .line; title = λ w. whole-back 33 w v p b q; key = g .key }))
   step-plain role.MediaKey =
-      once-goes Kept 19 (lastKeyed (ρ .session .tables .medias)) (pairOf 25 26 v) _ (λ p q.
-      medias-plain _ (each-last MediaPlain (keyed (steps.keyIn (part v) p)) (λ m g. record { line = g .line; title = g .title; key = pair-back 25 26 v p b q }) (ρ .session .tables .medias) (T .medias)))
-  step-plain role.Nothing = h
+      past-once Kept 19 (lastKeyed (ρ .session .tables .medias)) (pairOf 25 26 v) _ (λ p q.
+      last-goes (keyed (keyIn (part v) p)) (λ m g. record { line = g .line; title = g .title; key = pair-back 25 26 v p b q }))
+  step-plain role.Nothing = on Kept ρ h
 
 -- ---- the lines of a text
 -- no line has an LF
@@ -207,9 +200,9 @@ abbrev Whole : Verdict (List ℕ) → Type 0
 Whole (accepted s) = Plain s
 Whole (refused x) = Unit {0}
 
-form-plain : (ρ : Reading (List ℕ)) (p : ℕ) (l : List ℕ) → lacks 10 l ≡ true → Plain (ρ .session) → (g : Form) → formOf l ≡ g → Goes (λ τ. Plain (τ .session)) (stepForm bytesAt ρ p l g)
-form-plain ρ p l b h Blank e = h
-form-plain ρ p l b h (Bad f) e = tt
+form-plain : (ρ : Reading (List ℕ)) (p : ℕ) (l : List ℕ) → lacks 10 l ≡ true → Plain (ρ .session) → (g : Form) → formOf l ≡ g → Going (λ τ. Plain (τ .session)) (stepForm bytesAt ρ p l g)
+form-plain ρ p l b h Blank e = on (λ τ. Plain (τ .session)) ρ h
+form-plain ρ p l b h (Bad f) e = off (λ τ. Plain (τ .session)) _ _
 form-plain ρ p l b h (Good c) e = step-plain ρ (drop 2 l) (every-drop (λ b. not (dropped b)) 2 l (good-bare l c b e)) h (roleAt (length (ρ .session .tables .medias)) c)
 
 run-plain : (rs : List Raw) → Each (λ r. lacks 10 (r .body) ≡ true) rs → (ρ : Reading (List ℕ)) (n p : ℕ) → Plain (ρ .session) → Whole (run bytesAt ρ n p rs)
@@ -218,8 +211,8 @@ run-plain [] b ρ n p h = h
 run-plain (r ∷ rs) b ρ n p h =
     go (stepForm bytesAt ρ p (content r) (formOf (content r))) (form-plain ρ p (content r) (content-lacks r (b .0)) h (formOf (content r)) refl) (λ τ. run-plain rs (b .1) τ (n + 1) (p + width r))
   where
-    go : (σ : Stepped (List ℕ)) → Goes (λ τ. Plain (τ .session)) σ → ((τ : Reading (List ℕ)) → Plain (τ .session) → Whole (run bytesAt τ (n + 1) (p + width r) rs)) → Whole (after bytesAt σ n (λ τ. run bytesAt τ (n + 1) (p + width r) rs))
-    go (goes τ) g ih = ih τ g
+    go : (σ : Stepped (List ℕ)) → Going (λ τ. Plain (τ .session)) σ → ((τ : Reading (List ℕ)) → Plain (τ .session) → Whole (run bytesAt τ (n + 1) (p + width r) rs)) → Whole (after bytesAt σ n (λ τ. run bytesAt τ (n + 1) (p + width r) rs))
+    go (goes τ) g ih = ih τ (g τ refl)
     go (stops m w) g ih = tt
 
 empty-plain : Plain empty

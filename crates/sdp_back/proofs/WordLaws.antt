@@ -8,23 +8,25 @@ use native.Mathlib.Omega.{arith}
 use lib.ListN.{length, take, drop, length-append}
 use lib.Seq.{take-at, drop-at, take-length, drop-append-add}
 use lib.Dec.{ltb, eqb}
-use borrow.Author.Tests.{lt-ltb, le-ltb, eq-eqb, ne-eqb}
+use borrow.Author.Tests.{lt-ltb, le-ltb, eq-eqb, ne-eqb, not-true}
 use Rattle.sdp_bytes.specs.Runs as runs
 use Rattle.sdp_bytes.specs.Runs.{indexOf}
 use Rattle.sdp_bytes.proofs.ScanLaws.{and-left, and-right}
 use Rattle.sdp_split.specs.Split as split
-use Rattle.sdp_split.specs.Split.{wordsFrom, words}
+use Rattle.sdp_split.specs.Split.{spaces, wordAt, wordsFrom, words}
+use Rattle.sdp_split.specs.declared.Field.the-variants.{Got}
+use Rattle.sdp_fields.proofs.WordLaws.{word-next}
 use Rattle.sdp_put.specs.Strings.{dropped}
 use Rattle.sdp_put.specs.Digits.{digits, timeText}
 use Rattle.sdp_row.specs.Written.{spaced}
 use Rattle.sdp_same.specs.Fits.{Each}
-use Rattle.sdp_back.proofs.ByteLaws.{not-so, every, every-append, every-take, every-drop, lacks, before-lacks, bare}
+use Rattle.sdp_back.proofs.ByteLaws.{every, every-append, every-take, every-drop, lacks, before-lacks, bare}
 use Rattle.sdp_back.proofs.NumberLaws.{digits-some, digits-pass, time-some, time-pass}
 
 pub index-append : (c : ℕ) (a r : List ℕ) → lacks c a ≡ true → indexOf c (a ++ r) ≡ length a + indexOf c r
 unfolding runs.indexOf every
 index-append c [] r h = omega arith
-index-append c (b ∷ a) r h = rw (not-so (eqb b c) (and-left (not (eqb b c)) _ h)) (omega (arith, index-append c a r (and-right (not (eqb b c)) _ h)))
+index-append c (b ∷ a) r h = rw (not-true (eqb b c) (and-left (not (eqb b c)) _ h)) (omega (arith, index-append c a r (and-right (not (eqb b c)) _ h)))
 
 -- ---- a word: some bytes, none of them a space, NUL, CR or LF
 pub record Word (x : List ℕ) : Type 0 where
@@ -53,24 +55,18 @@ unfoldable pub tails : List (List ℕ) → List ℕ
 tails [] = []
 tails (x ∷ xs) = spaced x ++ tails xs
 
-from-drop : (s : List ℕ) (k : ℕ) → wordsFrom k s ≡ words (drop k s)
-unfolding split.words split.wordsFrom
-from-drop [] zero = refl
-from-drop [] (suc k) = refl
-from-drop (b ∷ s) zero = refl
-from-drop (b ∷ s) (suc k) = from-drop s k
-
 -- a word, and what begins with a space or nothing
 word-first : (x r : List ℕ) → Word x → indexOf 0x20 r ≡ 0 → words (x ++ r) ≡ x ∷ words r
-unfolding split.words split.wordsFrom every runs.indexOf
+unfolding split.wordAt split.spaces every
 word-first [] r w e = absurd (let l : 0 < 0 = w .some in omega arith)
 word-first (b ∷ y) r w e =
-    let n : eqb b 0x20 ≡ false = not-so (eqb b 0x20) (and-left (not (eqb b 0x20)) _ (w .whole)) in
-    let l : lacks 0x20 y ≡ true = and-right (not (eqb b 0x20)) _ (w .whole) in
-    let i : indexOf 0x20 (y ++ r) ≡ length y = index-append 0x20 y r l ∙ (let z : length y + indexOf 0x20 r ≡ length y = omega arith in z) in
-    let h : take (length y) (y ++ r) ≡ y = take-at y r (length y) refl in
-    let g : wordsFrom (length y) (y ++ r) ≡ wordsFrom 0 r = from-drop (y ++ r) (length y) ∙ ap words (drop-at y r (length y) refl) in
-    rw (n, i, h, g)
+    let x : List ℕ = b ∷ y in
+    let s : spaces (x ++ r) ≡ 0 = rw (not-true (eqb b 0x20) (and-left (not (eqb b 0x20)) _ (w .whole))) in
+    let i : indexOf 0x20 (x ++ r) ≡ length x = index-append 0x20 x r (w .whole) ∙ (let z : length x + indexOf 0x20 r ≡ length x = omega arith in z) in
+    let f : wordAt (x ++ r) 0 ≡ Got (record { at = 0; len = length x }) (0 + length x) = rw (s, lt-ltb 0 (length (x ++ r)) (omega (arith, length-append x r)), i) in
+    let t : take (length x) (x ++ r) ≡ x = take-at x r (length x) refl in
+    let d : drop (0 + length x) (x ++ r) ≡ r = drop-at x r (0 + length x) (omega arith) in
+    rw (t, d) at (word-next (x ++ r) 0 _ _ f .0)
 
 tails-start : (xs : List (List ℕ)) → indexOf 0x20 (tails xs) ≡ 0
 unfolding tails runs.indexOf
