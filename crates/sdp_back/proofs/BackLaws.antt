@@ -4,10 +4,10 @@ use mathlib.Core.Bool.{Bool, true, false, cond}
 use mathlib.Core.List.{List, [], _∷_, _++_, map}
 use Prim.Native.Nat.{ℕ, _≤_}
 use native.Mathlib.Omega.{arith}
-use lib.ListN.{length, take, drop, length-map}
+use lib.ListN.{length, drop, length-map}
 use lib.Seq.{take-at}
 use lib.Dec.{ltb}
-use borrow.Author.Tests.{le-ltb, ltb-false}
+use borrow.Author.Tests.{ltb-false}
 use Rattle.sdp_lines.specs.Strings.{bytesOf}
 use Rattle.sdp_lines.specs.declared.Span.{Span}
 use Rattle.sdp_area.specs.Session.{MediaConnection, Bandwidth, Attribute, Session}
@@ -22,7 +22,7 @@ use Rattle.sdp_bound.specs.Kept.{id}
 use Rattle.sdp_same.specs.Said.{saidMediaConnection, saidBandwidth, saidAttribute, saidMedia, said, bytesAt}
 use Rattle.sdp_same.specs.Sound.{FineIn, Rising, Sound}
 use Rattle.sdp_same.proofs.LinesLaws.{accepted-said, refused-said}
-use Rattle.sdp_same.proofs.SoundLaws.{read-sound, refusal-number}
+use Rattle.sdp_same.proofs.SoundLaws.{read-sound}
 use Rattle.sdp_same.proofs.SameLaws.{read-is, read-then-write}
 use Rattle.sdp_same.proofs.WrittenLaws.{written-said}
 use Rattle.sdp_back.specs.Again.{again}

@@ -5,17 +5,17 @@ use mathlib.Core.List.{List, [], _∷_, _++_, append-nil, append-assoc}
 use mathlib.Core.Option.{Option, none, some}
 use Prim.Native.Nat.{ℕ, suc, _+_, _≤_, _<_}
 use native.Mathlib.Omega.{arith}
-use lib.ListN.{length, getD, take, drop, length-append}
+use lib.ListN.{length, length-append}
 use lib.Dec.{ltb, eqb}
 use borrow.Author.Tests.{ltb-true, ltb-false, lt-ltb, le-ltb, eqb-true, eqb-false, ne-eqb, not-true}
 use Rattle.sdp_bytes.specs.Runs as runs
 use Rattle.sdp_bytes.proofs.ScanLaws.{and-left, and-right}
 use Rattle.sdp_lines.specs.Lines as cutter
-use Rattle.sdp_lines.specs.Lines.{Raw, split, chop, content, width, hasNulOrCr, formOf}
+use Rattle.sdp_lines.specs.Lines.{split, chop, content, hasNulOrCr, formOf}
 use Rattle.sdp_lines.specs.declared.Form.the-variants.{Good}
 use Rattle.sdp_split.specs.Split.{part}
 use Rattle.sdp_area.specs.Session.{Session}
-use Rattle.sdp_step.specs.Step.{Reading, Stepped, goes, step, fresh}
+use Rattle.sdp_step.specs.Step.{Reading, goes, step, fresh}
 use Rattle.sdp_read.specs.Run as reader
 use Rattle.sdp_read.specs.Run.{accepted, run, lines}
 use Rattle.sdp_put.specs.Strings.{dropped}

@@ -2,18 +2,17 @@
 use mathlib.Core.Path.{_≡_, refl, sym, ap, _∙_}
 use mathlib.Core.Bool.{Bool, true, false, cond}
 use mathlib.Core.List.{List, [], _∷_, _++_, map}
-use mathlib.Core.Option.{Option, none, some}
-use Prim.Native.Nat.{ℕ, suc, _+_, _^_, _≤_, _<_}
+use mathlib.Core.Option.{some}
+use Prim.Native.Nat.{ℕ, _+_, _^_, _≤_, _<_}
 use native.Mathlib.Omega.{arith}
-use lib.ListN.{length, length-map, length-append}
-use lib.Dec.{ltb, leb, eqb}
+use lib.ListN.{length, length-map}
+use lib.Dec.{eqb}
 use borrow.Author.Tests.{lt-ltb, le-leb, ne-eqb}
 use Rattle.sdp_split.specs.Split.{part}
-use Rattle.sdp_judge.specs.Read.{Read, got, refused, wholeOf}
-use Rattle.sdp_fields.specs.Records.{originOf, connectionOf, bandwidthOf, timesOf, pairOf, mediaOf}
-use Rattle.sdp_fields.specs.Lists.{RepeatLine, repeatOf, zonesOf}
+use Rattle.sdp_judge.specs.Read.{Read, got, refused}
+use Rattle.sdp_fields.specs.Lists.{zonesOf}
 use Rattle.sdp_fields.specs.declared.Zone as zone
-use Rattle.sdp_area.specs.Session.{Origin, Connection, Key, MediaConnection, Bandwidth, Time, Repeat, Offset, Zone, Attribute, Media, Session}
+use Rattle.sdp_area.specs.Session.{Origin, Connection, Key, MediaConnection, Bandwidth, Time, Repeat, Zone, Attribute, Media, Session}
 use Rattle.sdp_area.specs.With as change
 use Rattle.sdp_area.specs.With.{withOrigin, withName, withDescription, withUri, withConnection, withKey, withEmails, withPhones, withConnections, withBandwidths, withTimes, withRepeats, withOffsets, withZones, withAttributes, withMedias, setLast, titled, keyed}
 use Rattle.sdp_area.specs.Latest as latest
@@ -23,7 +22,7 @@ use Rattle.sdp_roles.specs.Roles.{beforeMedia, fromMedia}
 use Rattle.sdp_roles.specs.declared.Role.{Role}
 use Rattle.sdp_roles.specs.declared.Role.the-variants as role
 use Rattle.sdp_step.specs.Step as steps
-use Rattle.sdp_step.specs.Step.{Reading, Stepped, goes, stops, once, row, zoneIn, repeated, zonesTaken, stepRole}
+use Rattle.sdp_step.specs.Step.{Reading, goes, once, row, zoneIn, zonesTaken, stepRole}
 use Rattle.sdp_row.specs.Written as form
 use Rattle.sdp_row.specs.Written.{line, stringLine, originValue, connectionLine, bandwidthLine, pairLine, keyLine, mediaLine, timeValue}
 use Rattle.sdp_bound.specs.Kept.{id}

@@ -1,14 +1,12 @@
 -- What is written of a number, a time or an offset, read again, is the number, the time or the offset. Assumes nothing.
 use mathlib.Core.Path.{_≡_, refl, sym, ap, _∙_}
-use mathlib.Core.Bool.{Bool, true, false, cond, not, _&&_, and-assoc, true≢false}
+use mathlib.Core.Bool.{Bool, true, false, not, _&&_, and-assoc, true≢false}
 use mathlib.Core.List.{List, [], _∷_, _++_}
 use Prim.Native.Nat.{ℕ, zero, suc, _+_, _-_, _*_, _/_, _%_, _^_, _≤_, _<_}
 use native.Mathlib.Omega.{arith}
-use lib.ListN.{length, getD, take, drop, length-append}
-use lib.Seq.{getD-at, take-at}
-use lib.Dec.{ltb, leb, eqb, lit<, lit≤}
-use borrow.Author.Tests.{lt-ltb, le-leb, lt-leb, eq-eqb, ltb-true, ltb-false, leb-true, leb-false, ne-eqb, eqb-true, eqb-false, not-true}
-use Rattle.sdp_bytes.specs.Token as token
+use lib.ListN.{length, getD, length-append}
+use lib.Dec.{ltb, leb, eqb}
+use borrow.Author.Tests.{lt-ltb, le-leb, eq-eqb, ltb-true, ltb-false, leb-true, leb-false, ne-eqb, eqb-true, eqb-false, not-true}
 use Rattle.sdp_bytes.specs.Token.{digit}
 use Rattle.sdp_bytes.proofs.ScanLaws.{and-left, and-right}
 use Rattle.sdp_utf8.specs.Utf8 as utf8
@@ -16,12 +14,11 @@ use Rattle.sdp_utf8.specs.Utf8.{utf8End, isUtf8}
 use Rattle.sdp_utf8.proofs.Utf8Laws.{utf8-plain}
 use Rattle.sdp_number.specs.Number as number
 use Rattle.sdp_number.specs.Number.{allDigits, value, digitsBelow, dropPlus, wholeNumber, unitOf, scaled, typedTime}
-use Rattle.sdp_number.specs.declared.Number.{Number}
-use Rattle.sdp_number.specs.declared.Number.the-variants.{Value, Encoding, Format}
+use Rattle.sdp_number.specs.declared.Number.the-variants.{Value}
 use Rattle.sdp_number.proofs.NumberLaws.{typed-plain, typed-unit}
 use Rattle.sdp_judge.specs.Offset as signed-offset
-use Rattle.sdp_judge.specs.Offset.{negated, signed, signedOf, offsetOf}
-use Rattle.sdp_judge.specs.Read.{Read, got, refused}
+use Rattle.sdp_judge.specs.Offset.{signed, offsetOf}
+use Rattle.sdp_judge.specs.Read.{got}
 use Rattle.sdp_put.specs.Digits.{digits, timeText}
 use Rattle.sdp_put.proofs.DigitLaws.{digits-one, digits-more, time-zero, time-day, time-hour, time-minute, time-plain, offset-minus, offset-plain}
 use Rattle.sdp_row.specs.Written.{signedText}

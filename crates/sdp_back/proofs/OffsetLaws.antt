@@ -1,5 +1,5 @@
 -- The offsets of one r line: the rows that its number owns. Assumes nothing.
-use mathlib.Core.Path.{_≡_, refl, sym, ap, _∙_}
+use mathlib.Core.Path.{_≡_, refl, ap}
 use mathlib.Core.Bool.{Bool, true, false, cond}
 use mathlib.Core.List.{List, [], _∷_, _++_, map}
 use Prim.Native.Nat.{ℕ, suc, _+_, _^_, _≤_, _<_}
@@ -10,7 +10,7 @@ use borrow.Author.Tests.{ltb-true, ltb-false, lt-ltb, le-ltb, eqb-true, eqb-fals
 use Rattle.sdp_area.specs.Session.{Repeat, Offset}
 use Rattle.sdp_put.specs.Digits.{timeText}
 use Rattle.sdp_row.specs.Written as form
-use Rattle.sdp_row.specs.Written.{line, spaced, each, mine, offsetsOf, repeatLine}
+use Rattle.sdp_row.specs.Written.{line, spaced, each, mine, repeatLine}
 use Rattle.sdp_same.specs.Fits.{Each, FitOffset}
 use Rattle.sdp_same.specs.Sound.{Rising}
 use Rattle.sdp_back.proofs.WordLaws.{tails}

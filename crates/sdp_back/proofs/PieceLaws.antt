@@ -1,21 +1,19 @@
 -- The b, a, k and m lines: what was read of a value is written so that it is read again. Assumes nothing.
 use mathlib.Core.Path.{_≡_, refl, sym, ap, _∙_}
-use mathlib.Core.Bool.{Bool, true, false, cond, not, _&&_}
-use mathlib.Core.List.{List, [], _∷_, _++_, append-nil, append-assoc}
+use mathlib.Core.Bool.{Bool, true, false, cond, not}
+use mathlib.Core.List.{List, [], _∷_, _++_, append-assoc}
 use mathlib.Core.Option.{Option, none, some, Option·map}
-use Prim.Native.Nat.{ℕ, suc, _+_, _^_, _≤_, _<_}
+use Prim.Native.Nat.{ℕ, _+_, _^_, _<_}
 use native.Mathlib.Omega.{arith}
 use lib.ListN.{length, take, drop}
-use lib.Dec.{ltb, eqb, lit<}
-use borrow.Author.Tests.{lt-ltb, eq-eqb}
+use lib.Dec.{ltb, eqb}
 use Rattle.sdp_bytes.specs.Runs.{indexOf}
-use Rattle.sdp_bytes.proofs.ScanLaws.{and-left, and-right}
 use Rattle.sdp_utf8.specs.Utf8.{isUtf8}
 use Rattle.sdp_number.specs.Number.{wholeNumber}
 use Rattle.sdp_number.specs.declared.Number.{Number}
 use Rattle.sdp_number.specs.declared.Number.the-variants.{Value, Encoding, Format}
 use Rattle.sdp_split.specs.Split.{part, firstPiece, pieceAfter, restAfter}
-use Rattle.sdp_judge.specs.Read.{Read, got, refused, encoding, format, andThen}
+use Rattle.sdp_judge.specs.Read.{Read, got, refused, encoding, andThen}
 use Rattle.sdp_fields.specs.Records as records
 use Rattle.sdp_fields.specs.Records.{bandwidthOf, pairOf, portNumber, portOf, mediaOf}
 use Rattle.sdp_fields.specs.Lists.{numbered}
@@ -27,7 +25,7 @@ use Rattle.sdp_fields.specs.declared.Media as media
 use Rattle.sdp_fields.proofs.BoundLaws.{number-below}
 use Rattle.sdp_area.specs.Session.{Media}
 use Rattle.sdp_step.specs.Step.{maybeIn, mediaIn}
-use Rattle.sdp_put.specs.Strings.{dropped, clean}
+use Rattle.sdp_put.specs.Strings.{dropped}
 use Rattle.sdp_put.specs.Digits.{digits}
 use Rattle.sdp_row.specs.Written.{spaced, text, optional}
 use Rattle.sdp_bound.specs.Kept.{id}

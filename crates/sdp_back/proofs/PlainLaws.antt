@@ -1,8 +1,7 @@
 -- Each line that was read with a use is kept so that its written form is read again. Assumes nothing.
-use mathlib.Core.Path.{_≡_, refl, sym, ap, _∙_, subst}
+use mathlib.Core.Path.{_≡_, refl, sym, subst}
 use mathlib.Core.Bool.{Bool, true, false, cond, not, _&&_, _||_}
-use mathlib.Core.List.{List, [], _∷_, _++_}
-use mathlib.Core.Option.{Option, none, some}
+use mathlib.Core.List.{List, [], _∷_}
 use Prim.Native.Nat.{ℕ, _+_, _-_}
 use native.Mathlib.Omega.{arith}
 use lib.ListN.{length, getD, take, drop}
@@ -26,7 +25,7 @@ use Rattle.sdp_roles.specs.declared.Role.the-variants as role
 use Rattle.sdp_step.specs.Step as steps
 use Rattle.sdp_step.specs.Step.{Reading, Stepped, goes, stops, keyIn, repeated, stepRole, fresh}
 use Rattle.sdp_read.specs.Run as reader
-use Rattle.sdp_read.specs.Run.{Verdict, accepted, refused, noVersion, badVersion, isZero, after, stepForm, run, version, beginForm, begin, lines}
+use Rattle.sdp_read.specs.Run.{Verdict, accepted, refused, noVersion, badVersion, isZero, after, stepForm, run, beginForm, begin, lines}
 use Rattle.sdp_put.specs.Strings.{dropped, clean}
 use Rattle.sdp_same.specs.Fits.{IfGiven, Each}
 use Rattle.sdp_same.specs.Said.{bytesAt}

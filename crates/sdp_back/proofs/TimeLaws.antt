@@ -2,19 +2,18 @@
 use mathlib.Core.Path.{_≡_, refl, sym, ap, _∙_}
 use mathlib.Core.Bool.{Bool, true, false, cond, not}
 use mathlib.Core.List.{List, [], _∷_, _++_, map, append-nil, append-assoc}
-use Prim.Native.Nat.{ℕ, suc, _+_, _-_, _^_, _<_}
+use Prim.Native.Nat.{ℕ, _+_, _-_, _^_, _<_}
 use native.Mathlib.Omega.{arith}
-use lib.ListN.{length, drop}
-use lib.Dec.{leb, eqb}
+use lib.ListN.{drop}
+use lib.Dec.{leb}
 use borrow.Author.Tests.{ne-eqb}
 use Rattle.sdp_number.specs.Number.{wholeNumber, typedTime}
-use Rattle.sdp_split.specs.Split.{part, wordAt, words}
+use Rattle.sdp_split.specs.Split.{wordAt, words}
 use Rattle.sdp_judge.specs.Read.{Read, got, refused, andThen}
-use Rattle.sdp_judge.specs.Offset.{offsetOf}
 use Rattle.sdp_fields.specs.Records as records
 use Rattle.sdp_fields.specs.Records.{timesOf, repeatHead}
 use Rattle.sdp_fields.specs.Lists as lists
-use Rattle.sdp_fields.specs.Lists.{RepeatLine, numbered, repeatOf, offsetsOf, pairsOf, zonesOf}
+use Rattle.sdp_fields.specs.Lists.{numbered, repeatOf, offsetsOf, pairsOf, zonesOf}
 use Rattle.sdp_fields.specs.declared.RepeatHead.{RepeatHead}
 use Rattle.sdp_fields.specs.declared.Zone as zone
 use Rattle.sdp_area.specs.Session.{Time, Zone}
@@ -27,7 +26,7 @@ use Rattle.sdp_row.specs.Written.{spaced, each, timeValue, signedText, zoneText
 use Rattle.sdp_same.specs.Fits.{Each, FitTime, FitZone}
 use Rattle.sdp_back.proofs.ByteLaws.{every, every-append, bare}
 use Rattle.sdp_back.proofs.NumberLaws.{number-back, time-back, offset-back}
-use Rattle.sdp_back.proofs.WordLaws.{Word, tails, tails-bare, tails-back, words-back, digits-word, time-word}
+use Rattle.sdp_back.proofs.WordLaws.{Word, tails, tails-bare, words-back, digits-word, time-word}
 use Rattle.sdp_back.proofs.FieldLaws.{mapRead, onSeen, unseen, first, see-number, see-time, see-end, see-word, see-then}
 use Rattle.sdp_back.proofs.AddressLaws.{Backs}
 

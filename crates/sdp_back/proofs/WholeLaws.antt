@@ -1,13 +1,12 @@
 -- The lines of a written session, read from the first to the last, lead to the session. Assumes nothing.
-use mathlib.Core.Path.{_≡_, refl, sym, ap, _∙_}
-use mathlib.Core.Bool.{Bool, true, false, cond}
+use mathlib.Core.Path.{_≡_, refl, sym, _∙_}
+use mathlib.Core.Bool.{Bool, true, false}
 use mathlib.Core.List.{List, [], _∷_, _++_, append-nil, append-assoc}
 use mathlib.Core.Option.{Option, none, some}
-use Prim.Native.Nat.{ℕ, suc, _+_, _≤_, _<_}
+use Prim.Native.Nat.{ℕ, _+_, _≤_, _<_}
 use native.Mathlib.Omega.{arith}
 use lib.ListN.{length, length-append}
 use lib.Dec.{lit<}
-use Rattle.sdp_bytes.specs.Token as token
 use Rattle.sdp_utf8.specs.Utf8 as utf8
 use Rattle.sdp_judge.specs.Read as field-read
 use Rattle.sdp_lines.specs.Lines as cutter
@@ -19,15 +18,14 @@ use Rattle.sdp_read.specs.Run.{accepted, run, lines}
 use Rattle.sdp_put.specs.Digits as digit
 use Rattle.sdp_put.specs.Strings as strings
 use Rattle.sdp_row.specs.Written as form
-use Rattle.sdp_row.specs.Written.{line, each, mine, optional, stringLine, originLine, nameLine, keyLine, bandwidthLine, bandwidthsOf, attributesOf, connectionsOf, connectionLine, pairLine, mediaLine, mediaLines, repeatLine, timeLines, timesLines, zonesLine, headLines, contactLines, closingLines, written}
+use Rattle.sdp_row.specs.Written.{line, each, mine, optional, stringLine, originLine, nameLine, bandwidthLine, connectionLine, pairLine, mediaLines, repeatLine, timeLines, timesLines, zonesLine, headLines, contactLines, closingLines, written}
 use Rattle.sdp_bound.specs.Kept.{id}
 use Rattle.sdp_same.specs.Fits.{IfGiven, Each, FitTime, FitRepeat, FitOffset, FitZone}
 use Rattle.sdp_same.specs.Sound.{Rising}
 use Rattle.sdp_same.specs.Said.{bytesAt}
-use Rattle.sdp_same.proofs.RowLaws.{rising-more}
 use Rattle.sdp_back.specs.Again.{placeholder, originAgain, nameAgain, timesAgain, again}
 use Rattle.sdp_back.proofs.ByteLaws.{every}
-use Rattle.sdp_back.proofs.AddressLaws.{Backs, OriginBack, ConnectionBack, placeholder-back}
+use Rattle.sdp_back.proofs.AddressLaws.{OriginBack, ConnectionBack, placeholder-back}
 use Rattle.sdp_back.proofs.PieceLaws.{BandwidthBack, PairBack, mediaAlone}
 use Rattle.sdp_back.proofs.PlainLaws.{TextBack, KeyBack, MediaPlain, Plain}
 use Rattle.sdp_back.proofs.LeadLaws.{Leads, stay, _then_, begin-leads, optional-leads, rows-lead, below, below-none, below-all, owned-lead}

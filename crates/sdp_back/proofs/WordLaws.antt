@@ -1,6 +1,6 @@
 -- Words with a space between them, read again, are the words; and a value cut at its first separator. Assumes nothing.
 use mathlib.Core.Path.{_≡_, refl, sym, ap, _∙_}
-use mathlib.Core.Bool.{Bool, true, false, cond, not, _&&_}
+use mathlib.Core.Bool.{Bool, true, false, cond, not}
 use mathlib.Core.List.{List, [], _∷_, _++_, append-nil}
 use mathlib.Core.Option.{Option, none, some}
 use Prim.Native.Nat.{ℕ, zero, suc, _+_, _≤_, _<_}
@@ -20,7 +20,7 @@ use Rattle.sdp_put.specs.Strings.{dropped}
 use Rattle.sdp_put.specs.Digits.{digits, timeText}
 use Rattle.sdp_row.specs.Written.{spaced}
 use Rattle.sdp_same.specs.Fits.{Each}
-use Rattle.sdp_back.proofs.ByteLaws.{every, every-append, every-take, every-drop, lacks, before-lacks, bare}
+use Rattle.sdp_back.proofs.ByteLaws.{every, every-append, every-take, lacks, before-lacks, bare}
 use Rattle.sdp_back.proofs.NumberLaws.{digits-some, digits-pass, time-some, time-pass}
 
 pub index-append : (c : ℕ) (a r : List ℕ) → lacks c a ≡ true → indexOf c (a ++ r) ≡ length a + indexOf c r

@@ -2,7 +2,7 @@
 use Prim.Native.Nat.{ℕ}
 use mathlib.Core.List.{List, [], _∷_}
 use mathlib.Core.Option.{Option, none, some}
-use Rattle.sdp_area.specs.Session.{Origin, Time, Head, Tables, Session}
+use Rattle.sdp_area.specs.Session.{Origin, Time, Session}
 
 -- "gives the placeholder written `o=- 0 0 IN IP4 0.0.0.0`, equal to a read origin with those values"
 abbrev pub placeholder : Origin (List ℕ)
