@@ -1,6 +1,6 @@
 -- The o and c lines: what was read of a value is written so that it is read again. Assumes nothing.
 use mathlib.Core.Path.{_≡_, refl, sym, ap, _∙_}
-use mathlib.Core.Bool.{Bool, true, false, cond, not, _&&_}
+use mathlib.Core.Bool.{Bool, true, false, cond, _&&_}
 use mathlib.Core.List.{List, [], _∷_, _++_, append-nil}
 use mathlib.Core.Option.{Option, none, some}
 use Prim.Native.Nat.{ℕ, _+_, _^_, _<_}
@@ -28,22 +28,17 @@ use Rattle.sdp_fields.specs.declared.Connection as connection
 use Rattle.sdp_fields.proofs.BoundLaws.{number-below}
 use Rattle.sdp_area.specs.Session.{Origin, Connection}
 use Rattle.sdp_step.specs.Step.{maybeIn, originIn, connectionIn}
-use Rattle.sdp_put.specs.Strings.{dropped, clean}
+use Rattle.sdp_put.specs.Strings.{clean}
 use Rattle.sdp_put.specs.Digits.{digits}
 use Rattle.sdp_row.specs.Written as form
 use Rattle.sdp_row.specs.Written.{spaced, text, usernameText, originValue}
 use Rattle.sdp_bound.specs.Kept.{id}
 use Rattle.sdp_same.specs.Fits.{Each}
 use Rattle.sdp_back.specs.Again.{placeholder}
-use Rattle.sdp_back.proofs.ByteLaws.{every, every-append, bare, clean-bare}
+use Rattle.sdp_back.proofs.ByteLaws.{every, bare, clean-bare}
 use Rattle.sdp_back.proofs.NumberLaws.{number-back}
-use Rattle.sdp_back.proofs.WordLaws.{Word, are-words, tails, tails-bare, words-back, digits-word}
-use Rattle.sdp_back.proofs.FieldLaws.{mapRead, onSeen, unseen, first, textIn, tokenIn, see-text, see-token, see-number, see-end, see-word, see-then, Gives, gives-got, gives-then, gives-test, gives-number, gives-unseen, gives-word}
-
--- a value v without NUL, CR and LF that read says to be x
-pub record Backs {A X : Type 0} (read : List ℕ → Read A) (mk : List ℕ → A → X) (v : List ℕ) (x : X) : Type 0 where
-  pub says : mapRead (mk v) (read v) ≡ got x
-  pub bare : bare v ≡ true
+use Rattle.sdp_back.proofs.WordLaws.{Word, are-words, tails, joined-bare, words-back, digits-word}
+use Rattle.sdp_back.proofs.FieldLaws.{Backs, left, mapRead, onSeen, unseen, first, textIn, tokenIn, see-text, see-token, see-number, see-end, see-word, see-then, Gives, gives-got, gives-then, gives-test, gives-number, gives-unseen, gives-word}
 
 -- ---- one string: s, i, u, e, p
 pub whole-back : (w u : ℕ) (v : List ℕ) (p : Piece) → bare v ≡ true → wholeOf w v ≡ got p → Backs (wholeOf u) part (clean (part v p)) (part v p)
@@ -87,16 +82,13 @@ unfolding addressFrom
 address-again w c a = rw (a .netToken, a .kindToken, a .addressText)
 
 module _ (v : List ℕ) where
-  abbrev left : ℕ → List (List ℕ)
-  left e = words (drop e v)
-
-  see-address : (w i : ℕ) → mapRead (connectionIn (part v)) (addressOf w v i) ≡ addressFrom w (left i)
+  see-address : (w i : ℕ) → mapRead (connectionIn (part v)) (addressOf w v i) ≡ addressFrom w (left v i)
   unfolding addressFrom records.addressOf
   see-address w i =
-      see-token _ w v left (wordAt v i) _ (see-word v i) _ _ (λ net e q.
-      see-token _ (w + 1) v left (wordAt v e) _ (see-word v e) _ _ (λ kind e q.
-      see-text _ (w + 2) v left (wordAt v e) _ (see-word v e) _ _ (λ address e q.
-      see-end _ (w + 3) v left (wordAt v e) _ (see-word v e) (got _))))
+      see-token _ w v (left v) (wordAt v i) _ (see-word v i) _ _ (λ net e q.
+      see-token _ (w + 1) v (left v) (wordAt v e) _ (see-word v e) _ _ (λ kind e q.
+      see-text _ (w + 2) v (left v) (wordAt v e) _ (see-word v e) _ _ (λ address e q.
+      see-end _ (w + 3) v (left v) (wordAt v e) _ (see-word v e) (got _))))
 
 -- the c line
 abbrev pub connectionValue : Connection (List ℕ) → List ℕ
@@ -115,7 +107,7 @@ module _ (c : Connection (List ℕ)) (a : Address c) where
   connection-again =
       rw connection-tails (record {
         says = see-address _ 8 0 ∙ ap (addressFrom 8) (words-back (c .nettype) (c .addrtype ∷ c .connectionAddress ∷ []) (a .net) (a .kind, (a .address, tt))) ∙ address-again 8 c a;
-        bare = every-append (λ b. not (dropped b)) (c .nettype) _ (a .net .bare) (tails-bare (c .addrtype ∷ c .connectionAddress ∷ []) (a .kind, (a .address, tt)));
+        bare = joined-bare (c .nettype) (c .addrtype ∷ c .connectionAddress ∷ []) (a .net) (a .kind, (a .address, tt));
       })
 
 pub connection-back : (v : List ℕ) (c : connection.Connection) → bare v ≡ true → connectionOf v ≡ got c → ConnectionBack (connectionIn (part v) c)
@@ -190,7 +182,7 @@ origin-again user sess n c u s p q l a =
     (rw (← (let z : user ++ tails rest ≡ user ++ (spaced sess ++ (spaced (digits n) ++ (spaced (c .nettype) ++ (spaced (c .addrtype) ++ spaced (c .connectionAddress))))) = simp append-nil in z))
     (record {
       says = see-origin _ ∙ ap originFrom (words-back user rest u fine) ∙ rw (p, q, number-back 64 n l) (ap (λ r. andThen r (λ c. got (record { username = userIn user; sessId = sess; sessVersion = n; nettype = c .nettype; addrtype = c .addrtype; unicastAddress = c .connectionAddress }))) (address-again 4 c a));
-      bare = every-append (λ b. not (dropped b)) user _ (u .bare) (tails-bare rest fine);
+      bare = joined-bare user rest u fine;
     }))
 
 pub origin-back : (v : List ℕ) (o : origin.Origin) → bare v ≡ true → originOf v ≡ got o → OriginBack (originIn (part v) o)

@@ -26,7 +26,7 @@ use Rattle.sdp_same.proofs.SoundLaws.{read-sound}
 use Rattle.sdp_same.proofs.SameLaws.{read-is, read-then-write}
 use Rattle.sdp_same.proofs.WrittenLaws.{written-said}
 use Rattle.sdp_back.specs.Again.{again}
-use Rattle.sdp_back.specs.Back.{wrote, SaidAgain}
+use Rattle.sdp_back.specs.Back.{wrote, SaidAgain, ReadBack}
 use Rattle.sdp_back.proofs.PlainLaws.{read-plain}
 use Rattle.sdp_back.proofs.WholeLaws.{Ordered, written-back}
 
@@ -108,8 +108,7 @@ wrote-fill w o = go (ltb (length o) (length w))
     go false n = take-at w (drop (length w) o) (length w) refl
 
 -- "a session that the reader accepted, written with room and read back within the limit, is the same session"
-pub read-back : (t a o b : List ℕ) → readText t a .answer .number ≡ 0 → writeText t (readText t a .area) o .answer .number ≡ 0
-    → (let w = wrote (writeText t (readText t a .area) o) in length w ≤ 32768 → size ≤ length b → SaidAgain t a w b)
+pub read-back : (t a o b : List ℕ) → ReadBack t a o b
 read-back t a o b h k l m =
     let r = read-then-write t a o h in
     let e : wrote (writeText t (readText t a .area) o) ≡ written (bytesOf t) (r .session) = ap wrote (r .outcome) ∙ wrote-fill (written (bytesOf t) (r .session)) o (rw (r .outcome) at k) in

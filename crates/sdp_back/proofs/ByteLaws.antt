@@ -11,8 +11,6 @@ use borrow.Author.Tests.{not-true}
 use Rattle.sdp_bytes.specs.Runs as runs
 use Rattle.sdp_bytes.specs.Runs.{indexOf}
 use Rattle.sdp_bytes.proofs.ScanLaws.{and-left, and-right}
-use Rattle.sdp_split.specs.Split.{part}
-use Rattle.sdp_split.specs.declared.Piece.{Piece}
 use Rattle.sdp_put.specs.Strings as strings
 use Rattle.sdp_put.specs.Strings.{dropped, kept, clean}
 
@@ -45,9 +43,6 @@ module _ (p : ℕ → Bool) where
   every-drop zero s h = h
   every-drop (suc n) [] h = refl
   every-drop (suc n) (b ∷ s) h = every-drop n s (and-right (p b) _ h)
-
-  pub every-part : (v : List ℕ) (x : Piece) → every p v ≡ true → every p (part v x) ≡ true
-  every-part v x h = every-take (x .len) (drop (x .at) v) (every-drop (x .at) v h)
 
 -- another test that passes where p does
 pub every-so : (p q : ℕ → Bool) → ((b : ℕ) → p b ≡ true → q b ≡ true) → (s : List ℕ) → every p s ≡ true → every q s ≡ true

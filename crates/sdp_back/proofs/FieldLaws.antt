@@ -34,12 +34,22 @@ use Rattle.sdp_fields.specs.declared.Port.{Port}
 use Rattle.sdp_fields.proofs.WordLaws.{word-none, word-next}
 use Rattle.sdp_step.specs.Step.{maybeIn}
 use Rattle.sdp_same.specs.Fits.{Each}
+use Rattle.sdp_back.proofs.ByteLaws.{bare}
 use Rattle.sdp_back.proofs.WordLaws.{Word, behind, cut}
 
 -- what was read, as f says it
 abbrev pub mapRead : {A B : Type 0} → (A → B) → Read A → Read B
 mapRead f (got a) = got (f a)
 mapRead f (refused w) = refused w
+
+-- a value v without NUL, CR and LF that read says to be x
+pub record Backs {A X : Type 0} (read : List ℕ → Read A) (mk : List ℕ → A → X) (v : List ℕ) (x : X) : Type 0 where
+  pub says : mapRead (mk v) (read v) ≡ got x
+  pub bare : bare v ≡ true
+
+-- the words from place e on
+abbrev pub left : List ℕ → ℕ → List (List ℕ)
+left v e = words (drop e v)
 
 -- a field's bytes, and what place says of its end
 abbrev seen : {R : Type 0} → List ℕ → (ℕ → R) → Field → Option (List ℕ × R)
@@ -172,10 +182,10 @@ module _ {A : Type 0} (P : A → Type 0) where
   gives-word w (x ∷ xs) k e h = h x xs (e .0) (e .1)
 
 -- ---- where the fields stand
-pub see-word : (v : List ℕ) (i : ℕ) → seen v (λ e. words (drop e v)) (wordAt v i) ≡ first (words (drop i v))
+pub see-word : (v : List ℕ) (i : ℕ) → seen v (left v) (wordAt v i) ≡ first (left v i)
 see-word v i = go (wordAt v i) refl
   where
-    go : (F : Field) → wordAt v i ≡ F → seen v (λ e. words (drop e v)) F ≡ first (words (drop i v))
+    go : (F : Field) → wordAt v i ≡ F → seen v (left v) F ≡ first (left v i)
     go (field.Got p e) h = ap first (sym (word-next v i p e h .0))
     go field.Nothing h = ap first (sym (word-none v i h))
 

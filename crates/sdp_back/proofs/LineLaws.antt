@@ -28,8 +28,8 @@ use Rattle.sdp_row.specs.Written.{line, stringLine, originValue, connectionLine
 use Rattle.sdp_bound.specs.Kept.{id}
 use Rattle.sdp_same.specs.Fits.{Each, FitTime, FitZone}
 use Rattle.sdp_back.proofs.ByteLaws.{bare}
-use Rattle.sdp_back.proofs.FieldLaws.{mapRead}
-use Rattle.sdp_back.proofs.AddressLaws.{Backs, ConnectionBack, OriginBack}
+use Rattle.sdp_back.proofs.FieldLaws.{Backs, mapRead}
+use Rattle.sdp_back.proofs.AddressLaws.{ConnectionBack, OriginBack}
 use Rattle.sdp_back.proofs.PieceLaws.{BandwidthBack, PairBack, MediaBack, mediaAlone}
 use Rattle.sdp_back.proofs.TimeLaws.{time-line-back, repeatValue, repeat-line-back, zonesValue, zones-line-back}
 use Rattle.sdp_back.proofs.PlainLaws.{TextBack, KeyBack}
@@ -54,7 +54,7 @@ module _ {A X : Type 0} (read : List ℕ → Read A) (mk : List ℕ → A → X)
 
 -- ---- the latest of some rows
 module _ {S : Type 0} where
-  pub set-last : (g : Media S → Media S) (ms : List (Media S)) (m : Media S) → setLast g (ms ++ (m ∷ [])) ≡ ms ++ (g m ∷ [])
+  set-last : (g : Media S → Media S) (ms : List (Media S)) (m : Media S) → setLast g (ms ++ (m ∷ [])) ≡ ms ++ (g m ∷ [])
   unfolding change.setLast
   set-last g [] m = refl
   set-last g (x ∷ []) m = refl

@@ -1,10 +1,9 @@
 -- The t, r and z lines: what is written of numbers that have 64 bits is read again. Assumes nothing.
 use mathlib.Core.Path.{_≡_, refl, sym, ap, _∙_}
-use mathlib.Core.Bool.{Bool, true, false, cond, not}
+use mathlib.Core.Bool.{Bool, true, false, cond}
 use mathlib.Core.List.{List, [], _∷_, _++_, map, append-nil, append-assoc}
 use Prim.Native.Nat.{ℕ, _+_, _-_, _^_, _<_}
 use native.Mathlib.Omega.{arith}
-use lib.ListN.{drop}
 use lib.Dec.{leb}
 use borrow.Author.Tests.{ne-eqb}
 use Rattle.sdp_number.specs.Number.{wholeNumber, typedTime}
@@ -19,24 +18,14 @@ use Rattle.sdp_fields.specs.declared.Zone as zone
 use Rattle.sdp_area.specs.Session.{Time, Zone}
 use Rattle.sdp_step.specs.Step.{timeIn, zoneIn}
 use Rattle.sdp_put.specs.Digits.{digits, timeText, offsetText}
-use Rattle.sdp_put.specs.Strings.{dropped}
 use Rattle.sdp_put.proofs.DigitLaws.{offset-minus, offset-plain}
 use Rattle.sdp_row.specs.Written as form
 use Rattle.sdp_row.specs.Written.{spaced, each, timeValue, signedText, zoneText}
 use Rattle.sdp_same.specs.Fits.{Each, FitTime, FitZone}
-use Rattle.sdp_back.proofs.ByteLaws.{every, every-append, bare}
+use Rattle.sdp_back.proofs.ByteLaws.{every, bare}
 use Rattle.sdp_back.proofs.NumberLaws.{number-back, time-back, offset-back}
-use Rattle.sdp_back.proofs.WordLaws.{Word, tails, tails-bare, words-back, digits-word, time-word}
-use Rattle.sdp_back.proofs.FieldLaws.{mapRead, onSeen, unseen, first, see-number, see-time, see-end, see-word, see-then}
-use Rattle.sdp_back.proofs.AddressLaws.{Backs}
-
-module _ (v : List ℕ) where
-  abbrev left : ℕ → List (List ℕ)
-  left e = words (drop e v)
-
--- a word and the words after it, with spaces between
-joined-bare : (x : List ℕ) (xs : List (List ℕ)) → Word x → Each Word xs → bare (x ++ tails xs) ≡ true
-joined-bare x xs w h = every-append (λ b. not (dropped b)) x (tails xs) (w .bare) (tails-bare xs h)
+use Rattle.sdp_back.proofs.WordLaws.{Word, tails, joined-bare, words-back, digits-word, time-word}
+use Rattle.sdp_back.proofs.FieldLaws.{Backs, left, mapRead, onSeen, unseen, first, see-number, see-time, see-end, see-word, see-then}
 
 -- ---- t
 timesFrom : List (List ℕ) → Read Time

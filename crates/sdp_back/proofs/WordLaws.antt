@@ -23,7 +23,7 @@ use Rattle.sdp_same.specs.Fits.{Each}
 use Rattle.sdp_back.proofs.ByteLaws.{every, every-append, every-take, lacks, before-lacks, bare}
 use Rattle.sdp_back.proofs.NumberLaws.{digits-some, digits-pass, time-some, time-pass}
 
-pub index-append : (c : ℕ) (a r : List ℕ) → lacks c a ≡ true → indexOf c (a ++ r) ≡ length a + indexOf c r
+index-append : (c : ℕ) (a r : List ℕ) → lacks c a ≡ true → indexOf c (a ++ r) ≡ length a + indexOf c r
 unfolding runs.indexOf every
 index-append c [] r h = omega arith
 index-append c (b ∷ a) r h = rw (not-true (eqb b c) (and-left (not (eqb b c)) _ h)) (omega (arith, index-append c a r (and-right (not (eqb b c)) _ h)))
@@ -73,7 +73,7 @@ unfolding tails runs.indexOf
 tails-start [] = refl
 tails-start (x ∷ xs) = refl
 
-pub tails-back : (xs : List (List ℕ)) → Each Word xs → words (tails xs) ≡ xs
+tails-back : (xs : List (List ℕ)) → Each Word xs → words (tails xs) ≡ xs
 unfolding tails split.words split.wordsFrom
 tails-back [] h = refl
 tails-back (x ∷ xs) h = word-first x (tails xs) (h .0) (tails-start xs) ∙ ap (λ ws. x ∷ ws) (tails-back xs (h .1))
@@ -82,10 +82,13 @@ tails-back (x ∷ xs) h = word-first x (tails xs) (h .0) (tails-start xs) ∙ ap
 pub words-back : (x : List ℕ) (xs : List (List ℕ)) → Word x → Each Word xs → words (x ++ tails xs) ≡ x ∷ xs
 words-back x xs w h = word-first x (tails xs) w (tails-start xs) ∙ ap (λ ws. x ∷ ws) (tails-back xs h)
 
-pub tails-bare : (xs : List (List ℕ)) → Each Word xs → bare (tails xs) ≡ true
+tails-bare : (xs : List (List ℕ)) → Each Word xs → bare (tails xs) ≡ true
 unfolding tails every
 tails-bare [] h = refl
 tails-bare (x ∷ xs) h = every-append (λ b. not (dropped b)) x (tails xs) (h .0 .bare) (tails-bare xs (h .1))
+
+pub joined-bare : (x : List ℕ) (xs : List (List ℕ)) → Word x → Each Word xs → bare (x ++ tails xs) ≡ true
+joined-bare x xs w h = every-append (λ b. not (dropped b)) x (tails xs) (w .bare) (tails-bare xs h)
 
 -- ---- numbers and times are words
 digit-bare : (b : ℕ) → 0x30 ≤ b → b ≤ 0x39 → not (dropped b) ≡ true
