@@ -36,17 +36,17 @@ module _ (P : Reading (List ℕ) → Type 0) where
   pub off : (number field : ℕ) → Going P (stops number field)
   off number field τ e = absurd (let z : _≡_ {A = ℕ} 0 1 = cc in omega arith)
 
-  past-cond : (b : Bool) (σ τ : Stepped (List ℕ)) → Going P σ → Going P τ → Going P (cond b σ τ)
+  pub past-cond : (b : Bool) (σ τ : Stepped (List ℕ)) → Going P σ → Going P τ → Going P (cond b σ τ)
   past-cond true σ τ h k = h
   past-cond false σ τ h k = k
 
   module _ {A : Type 0} where
-    past-once : (n : ℕ) (b : Bool) (r : Read A) (k : A → Stepped (List ℕ)) → ((x : A) → r ≡ got x → Going P (k x)) → Going P (once n b r k)
+    pub past-once : (n : ℕ) (b : Bool) (r : Read A) (k : A → Stepped (List ℕ)) → ((x : A) → r ≡ got x → Going P (k x)) → Going P (once n b r k)
     past-once n true r k h = off n 0
     past-once n false (got x) k h = h x refl
     past-once n false (refused w) k h = off _ _
 
-    past-row : (table cap c : ℕ) (r : Read A) (k : A → Reading (List ℕ)) → ((x : A) → r ≡ got x → P (k x)) → Going P (row table cap c r k)
+    pub past-row : (table cap c : ℕ) (r : Read A) (k : A → Reading (List ℕ)) → ((x : A) → r ≡ got x → P (k x)) → Going P (row table cap c r k)
     unfolding Step.row
     past-row table cap c (got x) k h = past-cond (ltb c cap) (goes (k x)) (stops 21 table) (on (k x) (h x refl)) (off 21 table)
     past-row table cap c (refused w) k h = off _ _

@@ -11,11 +11,11 @@ use Rattle.sdp_same.specs.Fits.{Each, Rows}
 use Rattle.sdp_same.specs.Sound.{Rising}
 
 module _ {X : Type 0} (P : X → Type 0) where
-  each-append : (xs ys : List X) → Each P xs → Each P ys → Each P (xs ++ ys)
+  pub each-append : (xs ys : List X) → Each P xs → Each P ys → Each P (xs ++ ys)
   each-append [] ys h k = k
   each-append (x ∷ xs) ys h k = (h .0, each-append xs ys (h .1) k)
 
-  each-last : (g : X → X) → ((x : X) → P x → P (g x)) → (xs : List X) → Each P xs → Each P (setLast g xs)
+  pub each-last : (g : X → X) → ((x : X) → P x → P (g x)) → (xs : List X) → Each P xs → Each P (setLast g xs)
   unfolding change.setLast
   each-last g keep [] h = tt
   each-last g keep (x ∷ []) h = (keep x (h .0), tt)

@@ -57,7 +57,7 @@ fill-answer w o = go (ltb (length o) (length w))
 
 module _ (t : List ℕ) (short : length t ≤ 32768) (s : Session Span) (read : lines spanAt t ≡ accepted s) where
   -- ---- what reading leaves
-  read-is : (a : List ℕ) → size ≤ length a → readText t a ≡ record { answer = answer 0 0 0; area = encode s ++ drop size a }
+  pub read-is : (a : List ℕ) → size ≤ length a → readText t a ≡ record { answer = answer 0 0 0; area = encode s ++ drop size a }
   unfolding reader.readText
   read-is a h = rw (le-ltb (length a) size h, le-ltb 32768 (length t) short, read)
 

@@ -1,0 +1,126 @@
+-- What was read, written and read again is the same session. Assumes nothing.
+use mathlib.Core.Path.{_≡_, refl, sym, ap, _∙_}
+use mathlib.Core.Bool.{Bool, true, false, cond}
+use mathlib.Core.List.{List, [], _∷_, _++_, map}
+use Prim.Native.Nat.{ℕ, _≤_}
+use native.Mathlib.Omega.{arith}
+use lib.ListN.{length, drop, length-map}
+use lib.Seq.{take-at}
+use lib.Dec.{ltb}
+use borrow.Author.Tests.{ltb-false}
+use Rattle.sdp_lines.specs.Strings.{bytesOf}
+use Rattle.sdp_lines.specs.declared.Span.{Span}
+use Rattle.sdp_area.specs.Session.{MediaConnection, Bandwidth, Attribute, Session}
+use Rattle.sdp_area.specs.Area.{size}
+use Rattle.sdp_strings.specs.Strings.{spanAt}
+use Rattle.sdp_read.specs.Run as reader
+use Rattle.sdp_read.specs.Run.{Verdict, accepted, refused, answer, outcomeOf, lines, readText}
+use Rattle.sdp_row.specs.Written.{written}
+use Rattle.sdp_write.specs.Write as writer
+use Rattle.sdp_write.specs.Write.{fill, writeText}
+use Rattle.sdp_bound.specs.Kept.{id}
+use Rattle.sdp_same.specs.Said.{saidMediaConnection, saidBandwidth, saidAttribute, saidMedia, said, bytesAt}
+use Rattle.sdp_same.specs.Sound.{FineIn, Rising, Sound}
+use Rattle.sdp_same.proofs.LinesLaws.{accepted-said, refused-said}
+use Rattle.sdp_same.proofs.SoundLaws.{read-sound}
+use Rattle.sdp_same.proofs.SameLaws.{read-is, read-then-write}
+use Rattle.sdp_same.proofs.WrittenLaws.{written-said}
+use Rattle.sdp_back.specs.Again.{again}
+use Rattle.sdp_back.specs.Back.{wrote, SaidAgain, ReadBack}
+use Rattle.sdp_back.proofs.PlainLaws.{read-plain}
+use Rattle.sdp_back.proofs.WholeLaws.{Ordered, written-back}
+
+-- ---- counts, numbers and owners of what is said
+rising-map : {X Y : Type 0} (h : X → Y) (owner : Y → ℕ) (most lo : ℕ) (xs : List X) → Rising (λ x. owner (h x)) most lo xs → Rising owner most lo (map h xs)
+rising-map h owner most lo [] r = tt
+rising-map h owner most lo (x ∷ xs) r = (r .0, r .1, rising-map h owner most (owner (h x)) xs (r .2))
+
+module _ (f : Span → List ℕ) (P : Span → Type 0) (s : Session Span) (sound : Sound P s) where
+  few : {X Y : Type 0} (h : X → Y) (xs : List X) (n : ℕ) → length xs ≤ n → length (map h xs) ≤ n
+  few h xs n l = omega (arith, length-map xs h)
+
+  said-ordered : Ordered (said f s)
+  said-ordered =
+      let T = sound .fits .tables in
+      let m : length (map (saidMedia f) (s .tables .medias)) ≡ length (s .tables .medias) = length-map (s .tables .medias) (saidMedia f) in
+      record {
+        within = record {
+          emails = few f (s .tables .emails) 16 (T .emails .few);
+          phones = few f (s .tables .phones) 16 (T .phones .few);
+          connections = few (saidMediaConnection f) (s .tables .connections) 64 (T .connections .few);
+          bandwidths = few (saidBandwidth f) (s .tables .bandwidths) 64 (T .bandwidths .few);
+          times = T .times .few;
+          repeats = T .repeats .few;
+          offsets = T .offsets .few;
+          zones = T .zones .few;
+          attributes = few (saidAttribute f) (s .tables .attributes) 512 (T .attributes .few);
+          medias = few (saidMedia f) (s .tables .medias) 32 (T .medias .few);
+        };
+        times = T .times .each;
+        repeats = T .repeats .each;
+        offsets = T .offsets .each;
+        zones = T .zones .each;
+        ownedConnections = rw m (rising-map (saidMediaConnection f) (λ (c : MediaConnection (List ℕ)). c .owner) _ 1 (s .tables .connections) (sound .owned .connections));
+        ownedBandwidths = rw m (rising-map (saidBandwidth f) (λ (b : Bandwidth (List ℕ)). b .owner) _ 0 (s .tables .bandwidths) (sound .owned .bandwidths));
+        ownedRepeats = sound .owned .repeats;
+        ownedOffsets = sound .owned .offsets;
+        ownedAttributes = rw m (rising-map (saidAttribute f) (λ (a : Attribute (List ℕ)). a .owner) _ 0 (s .tables .attributes) (sound .owned .attributes));
+      }
+
+-- ---- over texts
+module _ (t : List ℕ) (s : Session Span) (e : lines spanAt t ≡ accepted s) where
+  back : lines bytesAt (written (bytesOf t) s) ≡ accepted (again (said (bytesOf t) s))
+  back =
+      ap (lines bytesAt) (written-said (bytesOf t) s)
+      ∙ written-back (said (bytesOf t) s) (read-plain t (said (bytesOf t) s) (accepted-said t s e)) (said-ordered (bytesOf t) (FineIn t) s (read-sound t s e))
+
+-- a session whose strings are bytes, as the session with places
+at-places : (A : Type 0) (t : List ℕ) (s : Session (List ℕ)) → lines bytesAt t ≡ accepted s → ((r : Session Span) → lines spanAt t ≡ accepted r → said (bytesOf t) r ≡ s → A) → A
+at-places A t s e next = go (lines spanAt t) refl
+  where
+    go : (r : Verdict Span) → lines spanAt t ≡ r → A
+    go (accepted r) q = next r q (let z : accepted (said (bytesOf t) r) ≡ accepted s = sym (accepted-said t r q) ∙ e in cc)
+    go (refused x) q = absurd (let z : refused x ≡ accepted s = sym (refused-said t x q) ∙ e in let y : _≡_ {A = ℕ} 0 1 = cc in omega arith)
+
+-- reading again what is written of a text's session
+pub text-back : (t : List ℕ) (s : Session (List ℕ)) → lines bytesAt t ≡ accepted s → lines bytesAt (written id s) ≡ accepted (again s)
+text-back t s e =
+    at-places (lines bytesAt (written id s) ≡ accepted (again s)) t s e (λ r q z.
+    rw (← z) (ap (lines bytesAt) (sym (written-said (bytesOf t) r)) ∙ back t r q))
+
+-- ---- over the promises of read and write
+-- what reading accepted had room and was within the limit
+read-fits : (t a : List ℕ) → readText t a .answer .number ≡ 0 → (size ≤ length a) × (length t ≤ 32768)
+unfolding reader.readText
+read-fits t a = go (ltb (length a) size) (ltb 32768 (length t)) refl refl
+  where
+    go : (b c : Bool) → ltb (length a) size ≡ b → ltb 32768 (length t) ≡ c
+        → (let r : reader.Outcome = cond b (record { answer = answer 2 0 0; area = a }) (cond c (record { answer = answer 1 0 0; area = a }) (outcomeOf a (lines spanAt t))) in r .answer .number ≡ 0) → (size ≤ length a) × (length t ≤ 32768)
+    go true c p q n = absurd (let z : _≡_ {A = ℕ} 2 0 = n in omega arith)
+    go false true p q n = absurd (let z : _≡_ {A = ℕ} 1 0 = n in omega arith)
+    go false false p q n = (ltb-false (length a) size p, ltb-false 32768 (length t) q)
+
+wrote-fill : (w o : List ℕ) → fill w o .answer .number ≡ 0 → wrote (fill w o) ≡ w
+wrote-fill w o = go (ltb (length o) (length w))
+  where
+    go : (b : Bool) → (let r : writer.Outcome = cond b (record { answer = writer.answer 22 (length w); out = o }) (record { answer = writer.answer 0 (length w); out = w ++ drop (length w) o }) in r .answer .number ≡ 0 → wrote r ≡ w)
+    go true n = absurd (let z : _≡_ {A = ℕ} 22 0 = n in omega arith)
+    go false n = take-at w (drop (length w) o) (length w) refl
+
+-- "a session that the reader accepted, written with room and read back within the limit, is the same session"
+pub read-back : (t a o b : List ℕ) → ReadBack t a o b
+read-back t a o b h k l m =
+    let r = read-then-write t a o h in
+    let e : wrote (writeText t (readText t a .area) o) ≡ written (bytesOf t) (r .session) = ap wrote (r .outcome) ∙ wrote-fill (written (bytesOf t) (r .session)) o (rw (r .outcome) at k) in
+    let f = read-fits t a h in
+    let w : List ℕ = wrote (writeText t (readText t a .area) o) in
+    let q : lines bytesAt w ≡ accepted (again (said (bytesOf t) (r .session))) = ap (lines bytesAt) e ∙ back t (r .session) (r .read) in
+    at-places (SaidAgain t a w b) w _ q (λ second x y. record {
+      first = r .session;
+      second = second;
+      says = r .read;
+      saysAgain = x;
+      read = read-is t (f .1) (r .session) (r .read) a (f .0);
+      readAgain = read-is w l second x b m;
+      same = y;
+    })

@@ -1,0 +1,13 @@
+pub mod ByteLaws
+pub mod NumberLaws
+pub mod WordLaws
+pub mod FieldLaws
+pub mod AddressLaws
+pub mod PieceLaws
+pub mod TimeLaws
+pub mod PlainLaws
+pub mod LeadLaws
+pub mod LineLaws
+pub mod OffsetLaws
+pub mod WholeLaws
+pub mod BackLaws

@@ -1,0 +1,39 @@
+-- Demand 3: a session that the reader accepted, written with room and read back within the limit, is the same session, except that an empty
+-- time list has become one `0 0` entry.
+use mathlib.Core.Path.{_≡_}
+use mathlib.Core.List.{List}
+use Prim.Native.Nat.{ℕ, _≤_}
+use lib.ListN.{length, take}
+use Rattle.sdp_lines.specs.Strings.{bytesOf}
+use Rattle.sdp_lines.specs.declared.Span.{Span}
+use Rattle.sdp_area.specs.Session.{Session}
+use Rattle.sdp_area.specs.Area.{size}
+use Rattle.sdp_strings.specs.Strings.{spanAt}
+use Rattle.sdp_read.specs.Run.{accepted, outcomeOf, lines, readText}
+use Rattle.sdp_write.specs.Write as writer
+use Rattle.sdp_write.specs.Write.{writeText}
+use Rattle.sdp_same.specs.Said.{said}
+use Rattle.sdp_back.specs.Again.{again}
+
+-- the bytes that writing left in the output: "Acceptance is 0, for writing with the length"
+abbrev pub wrote : writer.Outcome → List ℕ
+wrote r = take (r .answer .len) (r .out)
+
+-- t was read into the area a, and w into the area b: both are accepted, and string by string w says again what t said
+pub record SaidAgain (t a w b : List ℕ) : Type 0 where
+  pub first : Session Span
+  pub second : Session Span
+  pub says : lines spanAt t ≡ accepted first
+  pub saysAgain : lines spanAt w ≡ accepted second
+  pub read : readText t a ≡ outcomeOf a (accepted first)
+  pub readAgain : readText w b ≡ outcomeOf b (accepted second)
+  pub same : said (bytesOf w) second ≡ again (said (bytesOf t) first)
+
+-- t read into the area a, the area written to the output o with room, and what was written read into the area b within the limit
+abbrev pub ReadBack : List ℕ → List ℕ → List ℕ → List ℕ → Type 0
+ReadBack t a o b =
+    readText t a .answer .number ≡ 0
+    → writeText t (readText t a .area) o .answer .number ≡ 0
+    → length (wrote (writeText t (readText t a .area) o)) ≤ 32768
+    → size ≤ length b
+    → SaidAgain t a (wrote (writeText t (readText t a .area) o)) b
