@@ -33,7 +33,7 @@ use Rattle.sdp_bound.proofs.CostLaws.{cost, timesCost, written-cost}
 use Rattle.sdp_bound.proofs.StepLaws.{Going, on, off, Grown, step-grown}
 
 -- ---- the lines of a text
-content-short : (r : Raw) → length (content r) ≤ length (r .body)
+pub content-short : (r : Raw) → length (content r) ≤ length (r .body)
 unfolding Lines.content Lines.chop
 content-short r = go (r .ended) (eqb (getD (r .body) (length (r .body) - 1) 0) 13)
   where
@@ -43,10 +43,10 @@ content-short r = go (r .ended) (eqb (getD (r .body) (length (r .body) - 1) 0) 1
     go false b = omega arith
 
 -- the lines with an LF each; the last one may lack it
-abbrev bodies : List Raw → ℕ
+abbrev pub bodies : List Raw → ℕ
 bodies rs = sum (λ r. length (r .body) + 1) rs
 
-bodies-short : (t : List ℕ) → bodies (split t) ≤ length t + 1
+pub bodies-short : (t : List ℕ) → bodies (split t) ≤ length t + 1
 unfolding Lines.split sum
 bodies-short [] = omega arith
 bodies-short (b ∷ t) = go (eqb b 10) (split t) (bodies-short t)

@@ -6,3 +6,4 @@ pub mod CostLaws
 pub mod StepLaws
 pub mod BoundLaws
 pub mod KeptSamples
+pub mod RoomLaws

@@ -1,0 +1,69 @@
+-- How many kept lines a text can have, and so how much room is always enough for what is written of it. Assumes nothing.
+use mathlib.Core.Path.{_≡_, refl}
+use mathlib.Core.List.{List, [], _∷_}
+use Prim.Native.Nat.{ℕ, _+_, _*_, _≤_}
+use native.Mathlib.Omega.{arith}
+use lib.ListN.{length}
+use Rattle.sdp_lines.specs.Lines.{Raw, split, content, formOf}
+use Rattle.sdp_lines.specs.declared.Form.{Form}
+use Rattle.sdp_lines.specs.declared.Form.the-variants.{Blank, Good, Bad}
+use Rattle.sdp_lines.proofs.LineLaws.{good-form}
+use Rattle.sdp_roles.specs.Roles.{roleAt}
+use Rattle.sdp_roles.specs.declared.Role.{Role}
+use Rattle.sdp_roles.specs.declared.Role.the-variants as role
+use Rattle.sdp_read.specs.Run.{readText}
+use Rattle.sdp_write.specs.Write.{textOf}
+use Rattle.sdp_bound.specs.Kept.{roleOf, uses, opens, usedFrom, fromVersion, keptLines, kept}
+use Rattle.sdp_bound.proofs.RowLaws.{sum}
+use Rattle.sdp_bound.proofs.BoundLaws.{content-short, bodies, bodies-short, write-bound}
+
+uses-once : (x : Role) → uses x ≤ 1
+uses-once role.Nothing = omega arith
+uses-once role.Media = omega arith
+uses-once role.Origin = omega arith
+uses-once role.Name = omega arith
+uses-once role.Description = omega arith
+uses-once role.Uri = omega arith
+uses-once role.Email = omega arith
+uses-once role.Phone = omega arith
+uses-once role.Connection = omega arith
+uses-once role.Bandwidth = omega arith
+uses-once role.Time = omega arith
+uses-once role.Repeat = omega arith
+uses-once role.Zone = omega arith
+uses-once role.Key = omega arith
+uses-once role.Attribute = omega arith
+uses-once role.MediaTitle = omega arith
+uses-once role.MediaConnection = omega arith
+uses-once role.MediaKey = omega arith
+
+-- a line with a use has a letter, an = and an LF
+line-three : (r : Raw) (medias : ℕ) → uses (roleOf medias (formOf (content r))) * 3 ≤ length (r .body) + 1
+line-three r medias = go (formOf (content r)) refl
+  where
+    go : (f : Form) → formOf (content r) ≡ f → uses (roleOf medias f) * 3 ≤ length (r .body) + 1
+    go Blank e = omega arith
+    go (Bad f) e = omega arith
+    go (Good l) e = omega (arith, uses-once (roleAt medias l), good-form (content r) l e, content-short r)
+
+used-few : (rs : List Raw) (medias : ℕ) → usedFrom medias rs * 3 ≤ bodies rs
+unfolding usedFrom sum
+used-few [] medias = omega arith
+used-few (r ∷ rs) medias =
+    omega (arith, line-three r medias, used-few rs (medias + opens (roleOf medias (formOf (content r)))))
+
+-- the version line takes one byte at least, whatever its form is
+kept-few : (rs : List Raw) → keptLines rs * 3 ≤ bodies rs + 2
+unfolding keptLines sum
+kept-few [] = omega arith
+kept-few (r ∷ rs) = go (formOf (content r)) (kept-few rs)
+  where
+    go : (f : Form) → keptLines rs * 3 ≤ bodies rs + 2 → fromVersion f (keptLines rs) (1 + usedFrom 0 rs) * 3 ≤ length (r .body) + 1 + bodies rs + 2
+    go Blank ih = omega arith
+    go (Good l) ih = omega (arith, used-few rs 0)
+    go (Bad f) ih = omega (arith, used-few rs 0)
+
+-- 43,727 bytes are enough for what is written of any accepted text
+pub room : (t a : List ℕ) → length t ≤ 32768 → readText t a .answer .number ≡ 0 → length (textOf t (readText t a .area)) ≤ 43727
+unfolding kept
+room t a short h = omega (arith, write-bound t a h, kept-few (split t), bodies-short t)
