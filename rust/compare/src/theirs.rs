@@ -108,20 +108,25 @@ fn owned(
     }));
 }
 
-/// Ours as the crate would have it: the casing folded, and the placeholder where there was no o line.
-pub fn comparable(mut ours: Seen<Vec<u8>>) -> Seen<Vec<u8>> {
-    let fold = |nettype: &mut Vec<u8>, addrtype: &mut Vec<u8>| {
-        *nettype = fold::nettype(nettype);
-        *addrtype = fold::addrtype(addrtype);
-    };
-    let origin = ours.origin.get_or_insert_with(|| Origin {
+/// What a missing o line stands for: `o=- 0 0 IN IP4 0.0.0.0`.
+pub fn placeholder() -> Origin<Vec<u8>> {
+    Origin {
         username: None,
         sess_id: b"0".to_vec(),
         sess_version: 0,
         nettype: b"IN".to_vec(),
         addrtype: b"IP4".to_vec(),
         unicast_address: b"0.0.0.0".to_vec(),
-    });
+    }
+}
+
+/// Ours as the crate would have it: the casing folded, and the placeholder where there was no o line.
+pub fn comparable(mut ours: Seen<Vec<u8>>) -> Seen<Vec<u8>> {
+    let fold = |nettype: &mut Vec<u8>, addrtype: &mut Vec<u8>| {
+        *nettype = fold::nettype(nettype);
+        *addrtype = fold::addrtype(addrtype);
+    };
+    let origin = ours.origin.get_or_insert_with(placeholder);
     fold(&mut origin.nettype, &mut origin.addrtype);
     let of_medias = ours.connections.iter_mut().map(|row| &mut row.connection);
     for connection in ours.connection.iter_mut().chain(of_medias) {

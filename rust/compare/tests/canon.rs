@@ -29,10 +29,16 @@ struct Run {
 
 impl Run {
     fn start() -> Self {
+        Self::start_with(&[])
+    }
+
+    /// With more in its environment.
+    fn start_with(more: &[(&str, &str)]) -> Self {
         // as cargo runs the tests: on x86-64 directly, else under the kit's emulator
         let runner = concat!(env!("CARGO_MANIFEST_DIR"), "/../run-x86");
         let mut child = Command::new(runner)
             .arg(program())
+            .envs(more.iter().copied())
             .stdin(Stdio::piped())
             .stdout(Stdio::piped())
             .stderr(Stdio::piped())
@@ -326,4 +332,41 @@ fn stopped_while_it_waits() {
     drop(run.input.take());
     run.signal("CONT");
     same(&run.finish(), &due, "stopped and continued");
+}
+
+/// Each read and each write fails once with EINTR, as when a signal comes, and then moves a few bytes only. A small library
+/// that is loaded before libc does this; it tells how many calls it interrupted.
+#[test]
+fn interrupted_calls() {
+    let here = env!("CARGO_MANIFEST_DIR");
+    let folder = env!("CARGO_TARGET_TMPDIR");
+    let (library, told) = (format!("{folder}/calls.so"), format!("{folder}/interrupted"));
+    let source = format!("{here}/tests/interrupted/calls.c");
+    let made = Command::new(format!("{here}/../link-x86"))
+        .args(["-shared", "-fPIC", "-Wall", "-Werror", "-o", &library, &source])
+        .status();
+    assert!(made.expect("the C compiler runs").success(), "{source} can be compiled");
+    let host = Command::new("uname").arg("-m").output().expect("uname").stdout;
+    let preload = format!("LD_PRELOAD={library}");
+    let before = if host.starts_with(b"x86_64") {
+        ("LD_PRELOAD", library.as_str())
+    } else {
+        ("QEMU_SET_ENV", preload.as_str())
+    };
+    let (mut runs, mut interrupted) = (0, 0);
+    let (longest, written) = grows_most();
+    let long = ("the longest text".to_string(), longest, written);
+    for (name, text, due) in texts().into_iter().chain([long]) {
+        let _ = fs::remove_file(&told);
+        let mut run = Run::start_with(&[before, ("INTERRUPTED", told.as_str())]);
+        run.feed(&text);
+        same(&run.finish(), &due, &name);
+        let count = fs::read_to_string(&told).expect("the library tells its count");
+        let count: usize = count.trim().parse().unwrap();
+        // a read for every seven bytes and one for the end, and the same for what is written
+        assert!(count >= text.len() / 7 + 1 + due.len() / 7, "{name}: {count} calls were interrupted");
+        runs += 1;
+        interrupted += count;
+    }
+    println!("canon: {interrupted} interrupted calls in {runs} runs");
 }

@@ -38,14 +38,7 @@ fn area_of(text: &[u8]) -> Option<Vec<u8>> {
 /// placeholder stands for a missing origin.
 fn meaning(text: &[u8], area: &[u8]) -> Seen<Vec<u8>> {
     let mut seen = decode(area).unwrap().strings(text).unwrap();
-    seen.origin.get_or_insert_with(|| Origin {
-        username: None,
-        sess_id: b"0".to_vec(),
-        sess_version: 0,
-        nettype: b"IN".to_vec(),
-        addrtype: b"IP4".to_vec(),
-        unicast_address: b"0.0.0.0".to_vec(),
-    });
+    seen.origin.get_or_insert_with(theirs::placeholder);
     seen
 }
 
