@@ -1,6 +1,6 @@
 // Document 01, "Forms we want to see": the crate's LineParser and Line, over the cursor by value.
 ghost use mathlib.Core.Path.{_≡_};
-ghost use Rattle.sdp_cutter.specs.Cutter.{standsAt, moveAt, standing};
+ghost use Rattle.sdp_cutter.specs.Cutter.{stands, standsAt, moveAt, standing};
 use sdp_lines::Cursor;
 use sdp_lines::Cut;
 use sdp_lines::Fault;
@@ -41,6 +41,17 @@ pub struct Moved {
     pub next: Next,
     pub at: Place,
     pub line: LineNumber,
+}
+
+impl Moved {
+    // Where the next line is due.
+    pub fn then(self) -> Cursor
+        ensures { λ r. ⌜ r ≡ stands self ⌝ }
+    {
+        let at = self.at;
+        let line = self.line;
+        Cursor { at, line }
+    }
 }
 
 // A line is made.

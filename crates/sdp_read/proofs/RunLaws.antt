@@ -8,8 +8,8 @@ use mathlib.Core.Bool.{Bool, true, false, _&&_, cond}
 use mathlib.Core.List.{List, [], _∷_}
 use lib.Dec.{ltb, eqb}
 use lib.ListN.{length, getD, take, drop, length-drop, length-take, drop-of-length-le}
-use lib.Seq.{drop-drop, take-nil}
-use native.Mathlib.Nat.{zero-add, suc-add}
+use lib.Seq.{drop-drop, take-nil, length-take-le}
+use native.Mathlib.Nat.{zero-add, suc-add, add-sub-cancel-left}
 use borrow.Author.Tests.{lt-ltb, ltb-true, ltb-false}
 use Rattle.sdp_bytes.specs.Runs
 use Rattle.sdp_bytes.specs.Runs.{indexOf}
@@ -36,6 +36,16 @@ drop-take : (k m : ℕ) (u : List ℕ) → drop k (take (k + m) u) ≡ take m (d
 drop-take zero m u = ap (λ (n : ℕ). take n u) (zero-add m)
 drop-take (suc k) m [] = ap (λ (l : List ℕ). drop (suc k) l) (take-nil (suc k + m)) ∙ sym (take-nil m)
 drop-take (suc k) m (x ∷ u) = ap (λ (n : ℕ). drop (suc k) (take n (x ∷ u))) (suc-add k m) ∙ drop-take k m u
+
+-- the part of a text that is a string's bytes, and that it stays within the limit
+pub part-is : (s : List ℕ) (x : Span) → take (x .at .0 + x .len - x .at .0) (drop (x .at .0) s) ≡ bytesOf s x
+part-is s x = ap (λ (k : ℕ). take k (drop (x .at .0) s)) (add-sub-cancel-left (x .at .0) (x .len))
+
+pub part-fits : (s : List ℕ) (x : Span) → length s ≤ 32768 → x .at .0 + x .len ≤ length s
+    → x .at .0 + length (take (x .at .0 + x .len - x .at .0) (drop (x .at .0) s)) ≤ 32768
+part-fits s x short inside =
+    let e : length (bytesOf s x) ≡ x .len = length-take-le (x .len) (drop (x .at .0) s) (omega (arith, inside, length-drop (x .at .0) s)) in
+    rw (part-is s x, e) (omega (arith, short, inside))
 
 after-same : (x : Stepped Span) (n : ℕ) (j k : Reading Span → Verdict Span) → ((τ : Reading Span) → j τ ≡ k τ) → after spanAt x n j ≡ after spanAt x n k
 after-same (goes τ) n j k h = h τ

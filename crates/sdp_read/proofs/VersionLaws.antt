@@ -1,50 +1,65 @@
 -- The version line.
 -- Assumes nothing.
 use Prim.Native.Nat.{ℕ, _+_, _-_, _≤_}
-use native.Mathlib.Omega.{arith}
-use mathlib.Core.Path.{_≡_, refl, sym, ap, _∙_}
-use mathlib.Core.Bool.{Bool, true, false, _&&_, cond}
+use mathlib.Core.Path.{_≡_, sym, _∙_, subst}
+use mathlib.Core.Bool.{Bool, true, false, cond}
 use mathlib.Core.List.{List}
 use lib.Dec.{eqb}
-use lib.ListN.{length, getD, take, drop, length-drop}
-use lib.Seq.{length-take-le, getD-take, getD-drop}
-use native.Mathlib.Nat.{add-zero}
+use lib.ListN.{length, getD, take, drop}
 use borrow.Author.Tests.{eq-eqb, ne-eqb}
 use Rattle.sdp_lines.specs.Lines.{start}
-use Rattle.sdp_lines.specs.declared.Span.{Span}
 use Rattle.sdp_lines.specs.declared.Cursor.{Cursor}
+use Rattle.sdp_lines.specs.declared.LineNumber.{LineNumber}
+use Rattle.sdp_lines.specs.declared.Span.{Span}
 use Rattle.sdp_lines.specs.Strings.{bytesOf}
+use Rattle.sdp_cutter.specs.Cutter.{moveAt, stands}
+use Rattle.sdp_cutter.specs.declared.Moved.{Moved}
+use Rattle.sdp_cutter.specs.declared.Next.the-variants.{Found}
+use Rattle.sdp_cutter.proofs.MoveLaws.{moved-told}
+use Rattle.sdp_read.proofs.RunLaws.{part-is, begin-line, line-moves}
 use Rattle.sdp_strings.specs.Strings.{spanAt}
 use Rattle.sdp_step.specs.Step.{fresh}
-use Rattle.sdp_read.specs.Run.{Verdict, refused, noVersion, badVersion, isZero, version}
-use Rattle.sdp_read.specs.From.{Reached, runAt, beginAt, versionLine, Begun}
+use Rattle.sdp_read.specs.Run.{refused, noVersion, badVersion, isZero, version}
+use Rattle.sdp_read.specs.From.{Reached, runAt, beginAt, openingOf, Begun}
+use Rattle.sdp_read.specs.declared.Opening.{Opening}
+use Rattle.sdp_read.specs.declared.Opening.the-variants as opening
 use Rattle.sdp_read.specs.declared.Version.{Version}
 use Rattle.sdp_read.specs.declared.Version.the-variants as found
 
--- the value's bytes by the text
-module _ (s : List ℕ) (x : Span) (fits : x .at .0 + x .len ≤ length s) where
-  pub length-bytes : length (bytesOf s x) ≡ x .len
-  length-bytes = length-take-le (x .len) (drop (x .at .0) s) (omega (arith, length-drop (x .at .0) s))
+-- the value that is `0`, by its length and its only byte
+module _ (v : List ℕ) where
+  pub zero-yes : length v ≡ 1 → getD v 0 0 ≡ 0x30 → isZero v ≡ true
+  zero-yes e f = rw (eq-eqb (length v) 1 e, eq-eqb (getD v 0 0) 0x30 f)
 
-  first-byte : x .len ≡ 1 → getD (bytesOf s x) 0 0 ≡ getD s (x .at .0) 0
-  first-byte e = getD-take (x .len) (drop (x .at .0) s) 0 0 (omega arith) ∙ getD-drop (x .at .0) s 0 0 ∙ ap (λ (k : ℕ). getD s k 0) (add-zero (x .at .0))
+  pub zero-other : length v ≡ 1 → (getD v 0 0 ≡ 0x30 → ⊥) → isZero v ≡ false
+  zero-other e f = rw (eq-eqb (length v) 1 e, ne-eqb (getD v 0 0) 0x30 f)
 
-  pub zero-yes : x .len ≡ 1 → getD s (x .at .0) 0 ≡ 0x30 → isZero (bytesOf s x) ≡ true
-  zero-yes e f = rw (eq-eqb (length (bytesOf s x)) 1 (length-bytes ∙ e), eq-eqb (getD (bytesOf s x) 0 0) 0x30 (first-byte e ∙ f))
+  pub zero-long : (length v ≡ 1 → ⊥) → isZero v ≡ false
+  zero-long e = rw (ne-eqb (length v) 1 e)
 
-  pub zero-other : x .len ≡ 1 → (getD s (x .at .0) 0 ≡ 0x30 → ⊥) → isZero (bytesOf s x) ≡ false
-  zero-other e f = rw (eq-eqb (length (bytesOf s x)) 1 (length-bytes ∙ e), ne-eqb (getD (bytesOf s x) 0 0) 0x30 (λ z. f (sym (first-byte e) ∙ z)))
-
-  pub zero-long : (x .len ≡ 1 → ⊥) → isZero (bytesOf s x) ≡ false
-  zero-long e = rw (ne-eqb (length (bytesOf s x)) 1 (λ z. e (sym length-bytes ∙ z)))
+-- the version line, and what follows it
+abbrev pub versionOf : Opening → Cursor → Version
+versionOf opening.Zero next = found.Found next
+versionOf (opening.Refused x) next = found.Refused x
 
 -- what the version line says is what the text says from there on
-pub begun-line : (s : List ℕ) (r : Version) (n p : ℕ) (v : List ℕ) (l : ℕ) (next : Cursor) → r ≡ versionLine n p v l next
-    → beginAt s start ≡ version spanAt n p v l (runAt s fresh next) → Reached s next → Begun s r
-begun-line s r n p v l next e b w = rw e (go (eqb l 0x76) (isZero v) b)
+pub begun-line : (s : List ℕ) (n p : ℕ) (v : List ℕ) (l : ℕ) (next : Cursor)
+    → beginAt s start ≡ version spanAt n p v l (runAt s fresh next) → Reached s next → Begun s (versionOf (openingOf p n l v) next)
+begun-line s n p v l next b w = go (eqb l 0x76) (isZero v) b
   where
     go : (x y : Bool) → beginAt s start ≡ cond x (cond y (runAt s fresh next) (refused (badVersion n p (length v)))) (refused noVersion)
-        → Begun s (cond x (cond y (found.Found next) (found.Refused (badVersion n p (length v)))) (found.Refused noVersion))
+        → Begun s (versionOf (cond x (cond y opening.Zero (opening.Refused (badVersion n p (length v)))) (opening.Refused noVersion)) next)
     go true true b = (b, w)
     go true false b = b
     go false y b = b
+
+-- the same by what the cutter found at c, and by the answer y of the code
+module _ (s : List ℕ) (short : length s ≤ 32768) (c : Cursor) (w : Reached s c) (k : Moved) (moved : k ≡ moveAt s (c .at) (c .line)) where
+  pub begun-found : (n : LineNumber) (l : ℕ) (v : Span) → k .next ≡ Found n l v → beginAt s start ≡ beginAt s c
+      → (o : Opening) → o ≡ openingOf (v .at .0) (n .0) l (take (v .at .0 + v .len - v .at .0) (drop (v .at .0) s)) → (y : Opening) → o ≡ y → Begun s (versionOf y (stands k))
+  begun-found n l v q b o e y f =
+      let cut = moved-told s c k moved (Found n l v) q in
+      let g : openingOf (v .at .0) (n .0) l (take (v .at .0 + v .len - v .at .0) (drop (v .at .0) s)) ≡ openingOf (v .at .0) (c .line .0) l (bytesOf s v) =
+              λ i. openingOf (v .at .0) (cut .1 i .0) l (part-is s v i) in
+      subst (λ (z : Opening). Begun s (versionOf z (stands k))) (sym g ∙ sym e ∙ f)
+      (begun-line s (c .line .0) (v .at .0) (bytesOf s v) l (stands k) (b ∙ begin-line s short c w l v (stands k) (cut .0)) (line-moves s short c w l v (stands k) (cut .0) .0))

@@ -14,6 +14,8 @@ use Rattle.sdp_step.specs.Step.{Reading, fresh}
 use Rattle.sdp_read.specs.Run.{Verdict, accepted, refused, noVersion, badVersion, isZero, run, begin}
 use Rattle.sdp_read.specs.declared.Ended.{Ended}
 use Rattle.sdp_read.specs.declared.Ended.the-variants.{Accepted, Stopped}
+use Rattle.sdp_read.specs.declared.Opening.{Opening}
+use Rattle.sdp_read.specs.declared.Opening.the-variants as opening
 use Rattle.sdp_read.specs.declared.Version.{Version}
 use Rattle.sdp_read.specs.declared.Version.the-variants as version
 
@@ -30,10 +32,9 @@ runAt s ρ c = run spanAt ρ (c .line .0) (c .at .0) (split (drop (c .at .0) s))
 unfoldable pub beginAt : List ℕ → Cursor → Verdict Span
 beginAt s c = begin spanAt (c .line .0) (c .at .0) (split (drop (c .at .0) s))
 
--- the version line with number n, its letter l and its value v at place p; next is due after it
-abbrev pub versionLine : ℕ → ℕ → List ℕ → ℕ → Cursor → Version
-versionLine n p v l next =
-    cond (eqb l 0x76) (cond (isZero v) (version.Found next) (version.Refused (badVersion n p (length v)))) (version.Refused noVersion)
+-- the first line that is not empty: its value v at place p, its number n, its letter l
+abbrev pub openingOf : ℕ → ℕ → ℕ → List ℕ → Opening
+openingOf p n l v = cond (eqb l 0x76) (cond (isZero v) opening.Zero (opening.Refused (badVersion n p (length v)))) (opening.Refused noVersion)
 
 -- what is found at a text's start: where the lines after the version are due, or the whole text's refusal
 abbrev pub Begun : List ℕ → Version → Type 0

@@ -6,7 +6,6 @@ ghost use Rattle.sdp_cells.specs.Bytes.{num};
 ghost use Rattle.sdp_cells.specs.Tables.{told, grown};
 ghost use Rattle.sdp_area.specs.Area.{size, offsetRow, timesAt, offsetsAt};
 ghost use Rattle.sdp_step.specs.Step.{step};
-ghost use Rattle.sdp_lines.specs.Strings.{bytesOf};
 ghost use Rattle.sdp_strings.specs.Strings.{spanAt};
 ghost use Rattle.sdp_step.specs.Hold.{Takes, Reads, storedOf};
 ghost use Rattle.sdp_step.specs.Repeats.{latestOf, repeatRoom, offsetRoom, roomAfter, areaAfter, Offsets};
@@ -62,7 +61,7 @@ use sdp_fields::repeat_offset;
 use sdp_judge::WholeRead;
 use sdp_judge::Wrong;
 use sdp_judge::whole;
-use sdp_lines::Span;
+use sdp_lines::Place;
 use sdp_roles::Role;
 use sdp_roles::role_at;
 use sdp_strings::maybe_of;
@@ -620,14 +619,12 @@ fn take_role(area: &mut [u8], v: &[u8], at: usize, marks: Marks, role: Role) -> 
     }
 }
 
-// A line of good form: its value is text[at..at + len].
-pub fn take_line(area: &mut [u8], text: &[u8], value: Span, marks: Marks, letter: u8) -> Taken
-    requires { ⌜ (size ≤ length (now area)) × ((value .at .0 + value .len ≤ length (now text)) × (length (now text) ≤ 32768)) ⌝ }
-    ensures { λ r. ⌜ Takes (λ ρ. step (spanAt (value .at .0) (bytesOf (now (text .entry)) value)) ρ (bytesOf (now (text .entry)) value) letter)
+// A line of good form, whose value stands at a place of the text.
+pub fn take_line(area: &mut [u8], at: Place, marks: Marks, letter: u8, value: &[u8]) -> Taken
+    requires { ⌜ (size ≤ length (now area)) × (at .0 + length (now value) ≤ 32768) ⌝ }
+    ensures { λ r. ⌜ Takes (λ ρ. step (spanAt (at .0) (now (value .entry))) ρ (now (value .entry)) letter)
         marks r (now (area .entry)) (now (area .exit)) ⌝ }
 {
-    let at = value.at.0;
-    let end = at + value.len;
     let role = role_at(medias(area), letter);
-    take_role(area, &text[at..end], at, marks, role)
+    take_role(area, value, at.0, marks, role)
 }
