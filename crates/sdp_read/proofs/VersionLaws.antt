@@ -60,6 +60,6 @@ module _ (s : List ℕ) (short : length s ≤ 32768) (c : Cursor) (w : Reached s
   begun-found n l v q b o e y f =
       let cut = moved-told s c k moved (Found n l v) q in
       let g : openingOf (v .at .0) (n .0) l (take (v .at .0 + v .len - v .at .0) (drop (v .at .0) s)) ≡ openingOf (v .at .0) (c .line .0) l (bytesOf s v) =
-              λ i. openingOf (v .at .0) (cut .1 i .0) l (part-is s v i) in
+      λ i. openingOf (v .at .0) (cut .1 i .0) l (part-is s v i) in
       subst (λ (z : Opening). Begun s (versionOf z (stands k))) (sym g ∙ sym e ∙ f)
       (begun-line s (c .line .0) (v .at .0) (bytesOf s v) l (stands k) (b ∙ begin-line s short c w l v (stands k) (cut .0)) (line-moves s short c w l v (stands k) (cut .0) .0))

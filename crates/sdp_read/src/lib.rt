@@ -210,16 +210,11 @@ fn find_version(text: &[u8]) -> Version
     }
 }
 
+// A refusal of the whole text, or 0.
 fn refusal(number: u64) -> Answer
     ensures { λ r. ⌜ r ≡ answer number 0 0 ⌝ }
 {
-    Answer {
-        number,
-        line: 0,
-        field: 0,
-        place: 0,
-        len: 0,
-    }
+    on_line(number, LineNumber(0), 0)
 }
 
 // Reads a text into the area that the caller lends.

@@ -57,7 +57,7 @@ loop-again-2 c = rw (c .before .before .before .before .before .before .before .
 )
 
 returns-3 : tie.Need-returns-3 Inv-loop μ-loop
-returns-3 c t e = 
+returns-3 c t e =
     let g = c .before .before .before .before .before .before .before .before .before .before .before .before .before .before .before .before .before .before .loop .inv .2 t e in
     let k = moved-told (c .before .before .before .before .before .before .before .before .before .before .before .before .before .before .before .before .before .before .before .before .before .args .text .now) (c .before .before .before .before .before .before .before .before .before .before .before .before .before .before .before .before .before .before .loop .c) _ (c .before .before .before .before .before .before .before .before .before .before .before .before .before .before .before .cut-line .ensures) _ (c .before .before .before .before .before .before .before .before .before .before .before .before .next2 .given .1) in
     rw (c .on-line2 .ensures, k .1) (going-refused (c .before .before .before .before .before .before .before .before .before .before .before .before .before .before .before .before .before .before .before .before .before .args .text .now) (c .before .before .before .before .before .before .before .before .before .before .before .before .before .before .before .before .before .before .before .before .before .pre .1 .0) (c .before .before .before .before .before .before .before .before .before .before .before .before .before .before .before .before .before .before .before .before .before .args .from) (c .before .before .before .before .before .before .before .before .before .before .before .before .before .before .before .before .before .before .loop .c) (c .before .before .before .before .before .before .before .before .before .before .before .before .before .before .before .before .before .before .loop .inv .1) (c .before .before .before .before .before .before .before .before .before .before .before .before .before .before .before .before .before .before .loop .marks) (c .before .before .before .before .before .before .before .before .before .before .before .before .before .before .before .before .before .before .loop .area) t (c .before .before .before .before .before .before .before .before .before .before .before .before .before .before .before .before .before .before .loop .inv .2 t e) _ _ _ (k .0) _ _ _ (rw (c .before .before .refusal .given .1, part-is (c .before .before .before .before .before .before .before .before .before .before .before .before .before .before .before .before .before .before .before .before .before .args .text .now) (c .before .before .before .before .before .before .before .before .before .before .before .before .next2 .given .0 .1 .1 .0)) at (c .before .before .before .before .before .before .take .ensures (g .so-far) t (g .holds))))
