@@ -1,3 +1,4 @@
 pub mod OneLaws
 pub mod Answers
 pub mod TakeLine
+pub mod Forms

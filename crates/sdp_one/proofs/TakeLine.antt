@@ -4,7 +4,6 @@ use mathlib.Core.List.{List}
 use Prim.Native.Nat.{ℕ}
 use lib.ListN.{drop}
 use denote.Ref.{now}
-use Rattle.sdp_lines.specs.Strings.{bytesOf}
 use Rattle.sdp_lines.specs.declared.Span.{Span}
 use Rattle.sdp_area.specs.Area.{size}
 use Rattle.sdp_strings.specs.Strings.{spanAt}
@@ -29,7 +28,7 @@ handled-once (stops n f) (Kept m) r′ a a′ t h k = absurd h
 handled-once (stops n f) (Refused i g) (Kept m) a a′ t h k = absurd k
 handled-once (stops n f) (Refused i g) (Refused j g′) a a′ t h k = (cc, same (h .2) (k .2))
 
-pub sdp-step-take-line : (ρ : Reading Span) (t : List ℕ) → OneWhere (λ κs a. Holds ρ (a .1 .1 .1 .0) (now (a .0)) t) (λ κs r e. seen r (now (e .0))) takeLine.Learnt
+pub sdp-step-take-line : (ρ : Reading Span) (t : List ℕ) → OneWhere (λ κs a. Holds ρ (a .1 .1 .0) (now (a .0)) t) (λ κs r e. seen r (now (e .0))) takeLine.Learnt
 sdp-step-take-line ρ t κs a r r′ e e′ h p q =
-    let v = bytesOf (now (a .1 .0)) (a .1 .1 .0) in
-    handled-once (step (spanAt (a .1 .1 .0 .at .0) v) ρ v (a .1 .1 .1 .1 .0)) r r′ (now (e .0)) (now (e′ .0)) t (p ρ t h) (q ρ t h)
+    let v = now (a .1 .1 .1 .1 .0) in
+    handled-once (step (spanAt (a .1 .0 .0) v) ρ v (a .1 .1 .1 .0)) r r′ (now (e .0)) (now (e′ .0)) t (p ρ t h) (q ρ t h)
