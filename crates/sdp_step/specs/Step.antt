@@ -92,6 +92,24 @@ timeIn t = record { startTime = t .«start_time»; stopTime = t .«stop_time» }
 abbrev pub zoneIn : zone.Zone → Zone
 zoneIn z = record { adjustmentTime = z .«adjustment_time»; offset = z .offset }
 
+abbrev pub repeatIn : ℕ → RepeatLine → Repeat
+repeatIn n r = record { owner = n; repeatInterval = r .interval; activeDuration = r .duration }
+
+-- ---- an r line: the session with the repeat q and its offsets ns
+abbrev pub withRepeat : {S : Type 0} → Session S → Repeat → List ℕ → Session S
+withRepeat s q ns =
+    withOffsets (withRepeats s (s .tables .repeats ++ (q ∷ [])))
+    (s .tables .offsets ++ map (λ (n : ℕ). record { owner = length (s .tables .repeats) + 1; offset = n }) ns)
+
+-- of two full tables the lower number is named
+abbrev pub repeatTaken : {S : Type 0} → Reading S → Repeat → List ℕ → Stepped S
+repeatTaken ρ q ns =
+    cond (ltb (length (ρ .session .tables .repeats)) 64)
+    (cond (leb (length (ρ .session .tables .offsets) + length ns) 256)
+    (goes (record { session = withRepeat (ρ .session) q ns; zoned = ρ .zoned }))
+    (stops 21 7))
+    (stops 21 6)
+
 -- ---- the steps
 module _ {S : Type 0} (mk : Piece → S) (ρ : Reading S) (v : List ℕ) where
   -- the session that goes on
@@ -102,20 +120,10 @@ module _ {S : Type 0} (mk : Piece → S) (ρ : Reading S) (v : List ℕ) where
   abbrev pub section : ℕ
   section = length (ρ .session .tables .medias)
 
-  -- an r line: "r belongs to the latest t"; of two full tables the lower number is named
-  abbrev pub withRepeat : RepeatLine → Session S
-  withRepeat r =
-      withOffsets
-      (withRepeats (ρ .session)
-      (ρ .session .tables .repeats ++ (record { owner = length (ρ .session .tables .times); repeatInterval = r .interval; activeDuration = r .duration } ∷ [])))
-      (ρ .session .tables .offsets ++ map (λ (n : ℕ). record { owner = length (ρ .session .tables .repeats) + 1; offset = n }) (r .offsets))
-
+  -- "r belongs to the latest t"
   abbrev pub repeated : Read RepeatLine → Stepped S
   repeated (refused w) = stopped w
-  repeated (got r) =
-      cond (ltb (length (ρ .session .tables .repeats)) 64)
-      (cond (leb (length (ρ .session .tables .offsets) + length (r .offsets)) 256) (goes (keep (withRepeat r))) (stops 21 7))
-      (stops 21 6)
+  repeated (got r) = repeatTaken ρ (repeatIn (length (ρ .session .tables .times)) r) (r .offsets)
 
   -- the z line: its being there is kept even where it has no pairs
   abbrev pub zonesTaken : List zone.Zone → Stepped S
