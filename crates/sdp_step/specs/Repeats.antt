@@ -14,7 +14,7 @@ use Rattle.sdp_area.specs.Area.{encode, size}
 use Rattle.sdp_cells.specs.declared.Pushed.{Pushed}
 use Rattle.sdp_cells.specs.declared.Pushed.the-variants.{Stored, Full}
 use Rattle.sdp_step.specs.Step.{Reading, Stepped, stopped, withRepeat, repeatTaken}
-use Rattle.sdp_step.specs.Hold.{marksOf, Holds, Handled}
+use Rattle.sdp_step.specs.Hold.{Holds, Handled}
 use Rattle.sdp_step.specs.declared.Marks.{Marks}
 use Rattle.sdp_step.specs.declared.Taken.{Taken}
 use Rattle.sdp_step.specs.declared.Latest.{Latest}

@@ -20,8 +20,9 @@ use Rattle.sdp_fields.specs.declared.Media as media
 use Rattle.sdp_judge.specs.Read.{Read, got, refused, wholeOf}
 use Rattle.sdp_fields.specs.Records.{originOf, connectionOf, bandwidthOf, timesOf, pairOf, mediaOf}
 use Rattle.sdp_fields.specs.Lists.{RepeatLine, repeatOf, zonesOf}
-use Rattle.sdp_area.specs.Session.{Origin, Connection, Key, MediaConnection, Bandwidth, Time, Repeat, Offset, Zone, Attribute, Media, Session, empty}
-use Rattle.sdp_area.specs.With.{withOrigin, withName, withDescription, withUri, withConnection, withKey, withEmails, withPhones, withConnections, withBandwidths, withTimes, withRepeats, withOffsets, withZones, withAttributes, withMedias, setLast, titled, keyed}
+use Rattle.sdp_area.specs.Session.{Origin, Connection, Key, MediaConnection, Bandwidth, Time, Repeat, Zone, Attribute, Media, Session, empty}
+use Rattle.sdp_area.specs.With.{withOrigin, withName, withDescription, withUri, withConnection, withKey, withMedias, setLast, titled, keyed}
+use Rattle.sdp_area.specs.With.{withEmails, withPhones, withConnections, withBandwidths, withTimes, withRepeats, withOffsets, withZones, withAttributes}
 use Rattle.sdp_area.specs.Latest.{given, lastTitled, lastKeyed}
 use Rattle.sdp_roles.specs.Roles.{roleAt}
 use Rattle.sdp_roles.specs.declared.Role.{Role}
@@ -60,7 +61,14 @@ module _ {S : Type 0} (mk : Piece → S) where
 
   abbrev pub originIn : origin.Origin → Origin S
   originIn o =
-      record { username = maybeIn (o .username); sessId = mk (o .«sess_id»); sessVersion = o .«sess_version»; nettype = mk (o .nettype); addrtype = mk (o .addrtype); unicastAddress = mk (o .«unicast_address») }
+      record {
+        username = maybeIn (o .username);
+        sessId = mk (o .«sess_id»);
+        sessVersion = o .«sess_version»;
+        nettype = mk (o .nettype);
+        addrtype = mk (o .addrtype);
+        unicastAddress = mk (o .«unicast_address»);
+      }
 
   abbrev pub connectionIn : connection.Connection → Connection S
   connectionIn c = record { nettype = mk (c .nettype); addrtype = mk (c .addrtype); connectionAddress = mk (c .«connection_address») }
@@ -82,7 +90,15 @@ module _ {S : Type 0} (mk : Piece → S) where
 
   abbrev pub mediaIn : media.Media → Media S
   mediaIn m =
-      record { media = mk (m .media); port = m .port; numPorts = portsIn (m .«num_ports»); proto = mk (m .proto); fmt = mk (m .fmt); mediaTitle = none; key = none }
+      record {
+        media = mk (m .media);
+        port = m .port;
+        numPorts = portsIn (m .«num_ports»);
+        proto = mk (m .proto);
+        fmt = mk (m .fmt);
+        mediaTitle = none;
+        key = none;
+      }
 
 -- records without strings
 abbrev pub timeIn : time.Time → Time
@@ -140,9 +156,11 @@ module _ {S : Type 0} (mk : Piece → S) (ρ : Reading S) (v : List ℕ) where
   stepRole role.Zone = once 17 (ρ .zoned) (zonesOf v) zonesTaken
   stepRole role.Key = once 19 (given (ρ .session .head .key)) (pairOf 25 26 v) (λ p. goes (keep (withKey (ρ .session) (keyIn mk p))))
   stepRole role.MediaTitle =
-      once 18 (lastTitled (ρ .session .tables .medias)) (wholeOf 33 v) (λ p. goes (keep (withMedias (ρ .session) (setLast (titled (mk p)) (ρ .session .tables .medias)))))
+      once 18 (lastTitled (ρ .session .tables .medias)) (wholeOf 33 v)
+      (λ p. goes (keep (withMedias (ρ .session) (setLast (titled (mk p)) (ρ .session .tables .medias)))))
   stepRole role.MediaKey =
-      once 19 (lastKeyed (ρ .session .tables .medias)) (pairOf 25 26 v) (λ p. goes (keep (withMedias (ρ .session) (setLast (keyed (keyIn mk p)) (ρ .session .tables .medias)))))
+      once 19 (lastKeyed (ρ .session .tables .medias)) (pairOf 25 26 v)
+      (λ p. goes (keep (withMedias (ρ .session) (setLast (keyed (keyIn mk p)) (ρ .session .tables .medias)))))
   stepRole role.Email =
       row 1 16 (length (ρ .session .tables .emails)) (wholeOf 37 v) (λ p. keep (withEmails (ρ .session) (ρ .session .tables .emails ++ (mk p ∷ []))))
   stepRole role.Phone =
