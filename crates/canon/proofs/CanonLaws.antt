@@ -16,16 +16,13 @@ use Rattle.sdp_valid.specs.Judge.{wellFormed}
 use Rattle.sdp_read.specs.Run.{readText}
 use Rattle.sdp_write.specs.Write as write
 use Rattle.sdp_write.specs.Write.{Outcome, answer, textOf, writeText}
-use Rattle.sdp_write.proofs.ShortLaws.{length-digits}
+use Rattle.sdp_write.proofs.ShortLaws.{digits-20}
 use Rattle.canon.specs.Canon.{refusedLine, shown, printed, Holds}
 
 -- ---- the line of a refusal
 take-all : (bs rest : List ℕ) → take (length bs) (bs ++ rest) ≡ bs
 take-all [] rest = refl
 take-all (b ∷ bs) rest = ap {B = List ℕ} (λ r. b ∷ r) (take-all bs rest)
-
-digits-20 : (v : ℕ) → v < 2 ^ 64 → length (digits v) ≤ 20
-digits-20 v h = length-digits 19 v (omega arith)
 
 pub length-refused : (x : Answer) → x .number < 2 ^ 64 → x .line < 2 ^ 64 → x .field < 2 ^ 64 → length (refusedLine x) ≤ 100
 length-refused x p q s =
