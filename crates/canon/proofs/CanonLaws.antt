@@ -5,27 +5,24 @@ use mathlib.Core.Path.{_≡_, refl, sym, ap, _∙_}
 use mathlib.Core.Bool.{Bool, true, false, cond}
 use mathlib.Core.List.{List, [], _∷_, _++_}
 use lib.ListN.{length, take, drop, length-append}
-use lib.Dec.{ltb, eqb}
+use lib.Dec.{ltb}
 use borrow.Author.Tests.{eq-eqb, ne-eqb}
 use Rattle.sdp_lines.specs.declared.Answer.{Answer}
 use Rattle.sdp_put.specs.Digits.{digits}
-use Rattle.sdp_put.specs.Out.{Put, put}
+use Rattle.sdp_put.specs.Out.{Put}
 use Rattle.sdp_put.proofs.OutLaws.{put-room, length-put}
 use Rattle.sdp_area.specs.Area.{size}
 use Rattle.sdp_valid.specs.Judge.{wellFormed}
 use Rattle.sdp_read.specs.Run.{readText}
 use Rattle.sdp_write.specs.Write as write
-use Rattle.sdp_write.specs.Write.{Outcome, answer, textOf, fill, writeText}
-use Rattle.sdp_write.proofs.ShortLaws.{length-digits}
-use Rattle.canon.specs.Canon.{refusedLine, wrote, printed, Holds}
+use Rattle.sdp_write.specs.Write.{Outcome, answer, textOf, writeText}
+use Rattle.sdp_write.proofs.ShortLaws.{digits-20}
+use Rattle.canon.specs.Canon.{refusedLine, shown, printed, Holds}
 
 -- ---- the line of a refusal
 take-all : (bs rest : List ℕ) → take (length bs) (bs ++ rest) ≡ bs
 take-all [] rest = refl
 take-all (b ∷ bs) rest = ap {B = List ℕ} (λ r. b ∷ r) (take-all bs rest)
-
-digits-20 : (v : ℕ) → v < 2 ^ 64 → length (digits v) ≤ 20
-digits-20 v h = length-digits 19 v (omega arith)
 
 pub length-refused : (x : Answer) → x .number < 2 ^ 64 → x .line < 2 ^ 64 → x .field < 2 ^ 64 → length (refusedLine x) ≤ 100
 length-refused x p q s =
@@ -75,27 +72,27 @@ said e h = record { within = h .within; first = h .first ∙ e }
 number-of : {x y : Answer} → x ≡ y → y .number ≡ x .number
 number-of e = sym (ap (λ (z : Answer). z .number) e)
 
-wrote-refused : (y : Outcome) (w : Answer) → w ≡ y .answer → (w .number ≡ 0 → ⊥) → refusedLine w ≡ wrote y
-wrote-refused y w e n = rw (ne-eqb (y .answer .number) 0 (λ z. n (sym (number-of e) ∙ z))) (ap refusedLine e)
+shown-refused : (y : Outcome) (w : Answer) → w ≡ y .answer → (w .number ≡ 0 → ⊥) → refusedLine w ≡ shown y
+shown-refused y w e n = rw (ne-eqb (y .answer .number) 0 (λ z. n (sym (number-of e) ∙ z))) (ap refusedLine e)
 
-wrote-text : (y : Outcome) (w : Answer) → w ≡ y .answer → w .number ≡ 0 → take (w .len) (y .out) ≡ wrote y
-wrote-text y w e z = rw (eq-eqb (y .answer .number) 0 (number-of e ∙ z)) (ap (λ (x : Answer). take (x .len) (y .out)) e)
+shown-text : (y : Outcome) (w : Answer) → w ≡ y .answer → w .number ≡ 0 → take (w .len) (y .out) ≡ shown y
+shown-text y w e z = rw (eq-eqb (y .answer .number) 0 (number-of e ∙ z)) (ap (λ (x : Answer). take (x .len) (y .out)) e)
 
 module _ (t a o o′ : List ℕ) (x : Answer) (ex : x ≡ readText t a .answer) where
   pub read-refused : (r : ℕ) → (x .number ≡ 0 → ⊥) → Holds (refusedLine x) o′ r → Holds (printed t a o) o′ r
   read-refused r n h = said (rw (ne-eqb (readText t a .answer .number) 0 (λ z. n (sym (number-of ex) ∙ z))) (ap refusedLine ex)) h
 
   module _ (z : x .number ≡ 0) (a′ : List ℕ) (ea : a′ ≡ readText t a .area) (w : Answer) (ew : w ≡ writeText t a′ o .answer) where
-    then-wrote : wrote (writeText t a′ o) ≡ printed t a o
-    then-wrote = rw (eq-eqb (readText t a .answer .number) 0 (number-of ex ∙ z)) (ap (λ (b : List ℕ). wrote (writeText t b o)) ea)
+    then-shown : shown (writeText t a′ o) ≡ printed t a o
+    then-shown = rw (eq-eqb (readText t a .answer .number) 0 (number-of ex ∙ z)) (ap (λ (b : List ℕ). shown (writeText t b o)) ea)
 
     pub write-refused : (r : ℕ) → (w .number ≡ 0 → ⊥) → Holds (refusedLine w) o′ r → Holds (printed t a o) o′ r
-    write-refused r n h = said (wrote-refused (writeText t a′ o) w ew n ∙ then-wrote) h
+    write-refused r n h = said (shown-refused (writeText t a′ o) w ew n ∙ then-shown) h
 
     pub all-written : w .number ≡ 0 → o′ ≡ writeText t a′ o .out → Holds (printed t a o) o′ (w .len)
     all-written v eo =
         let f = fit t a′ o (number-of ew ∙ v) in
         record {
           within = omega (arith, f, ap length eo, ap (λ (y : Answer). y .len) ew);
-          first = ap (take (w .len)) eo ∙ wrote-text (writeText t a′ o) w ew v ∙ then-wrote;
+          first = ap (take (w .len)) eo ∙ shown-text (writeText t a′ o) w ew v ∙ then-shown;
         }

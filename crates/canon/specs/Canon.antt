@@ -8,7 +8,7 @@ use lib.Dec.{eqb}
 use Rattle.sdp_lines.specs.declared.Answer.{Answer}
 use Rattle.sdp_put.specs.Digits.{digits}
 use Rattle.sdp_read.specs.Run.{readText}
-use Rattle.sdp_write.specs.Write.{Outcome, writeText}
+use Rattle.sdp_write.specs.Write.{Outcome, wrote, writeText}
 
 -- "refused N line L field F with the three numbers and LF"
 abbrev pub refusedLine : Answer → List ℕ
@@ -18,15 +18,15 @@ refusedLine a =
     ++ ((0x20 ∷ 0x66 ∷ 0x69 ∷ 0x65 ∷ 0x6c ∷ 0x64 ∷ 0x20 ∷ []) ++ (digits (a .field)
     ++ (0x0a ∷ []))))))
 
--- what writing left: the text, which has len bytes, or its refusal
-abbrev pub wrote : Outcome → List ℕ
-wrote x = cond (eqb (x .answer .number) 0) (take (x .answer .len) (x .out)) (refusedLine (x .answer))
+-- what writing left: the text or its refusal
+abbrev pub shown : Outcome → List ℕ
+shown x = cond (eqb (x .answer .number) 0) (wrote x) (refusedLine (x .answer))
 
 -- the text t is read into the area a and written into the output o
 abbrev pub printed : List ℕ → List ℕ → List ℕ → List ℕ
 printed t a o =
     cond (eqb (readText t a .answer .number) 0)
-    (wrote (writeText t (readText t a .area) o))
+    (shown (writeText t (readText t a .area) o))
     (refusedLine (readText t a .answer))
 
 -- the first r bytes of o are bs

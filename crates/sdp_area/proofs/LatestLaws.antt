@@ -1,7 +1,7 @@
 -- Laws of the latest media: whether there is one, its title and its key.
 -- Assumes nothing.
 use mathlib.Core.Path.{_≡_, refl, sym, ap, _∙_}
-use mathlib.Core.Bool.{Bool, true, false, and-false}
+use mathlib.Core.Bool.{true, false, and-false}
 use mathlib.Core.List.{List, [], _∷_, _++_, append-assoc, append-nil}
 use mathlib.Core.Option.{Option, some}
 use Prim.Native.Nat.{ℕ, _+_, _*_, _≤_, _<_}
@@ -15,7 +15,7 @@ use Rattle.sdp_cells.specs.Tables.{tab}
 use Rattle.sdp_area.specs.Session.{Key, Media, Session, Within}
 use Rattle.sdp_area.specs.With.{setLast, withMedias, titled, keyed}
 use Rattle.sdp_area.specs.Area.{span, opt, keyBytes, mediaRow, cat, segments, encode, mediasAt}
-use Rattle.sdp_area.specs.Latest.{anyMedia, latestAt, overLast, markLast, given, lastTitled, lastKeyed}
+use Rattle.sdp_area.specs.Latest.{anyMedia, latestAt, overLast, markLast, given, lastGiven, lastTitled, lastKeyed}
 use Rattle.sdp_cells.proofs.ByteLaws.{over-at, length-le}
 use Rattle.sdp_cells.proofs.TableLaws.{front, back, tab-count, length-front, last-view}
 use Rattle.sdp_area.proofs.SegmentLaws.{cat-view}
@@ -47,22 +47,17 @@ last-of x (y ∷ ys) =
     let r = last-of y ys in
     record { before = x ∷ r .before; last = r .last; is = ap (λ l. x ∷ l) (r .is); count = omega arith }
 
-set-last : {X : Type 0} (g : X → X) (us : List X) (x : X) → setLast g (us ++ (x ∷ [])) ≡ us ++ (g x ∷ [])
+pub set-last : {X : Type 0} (g : X → X) (us : List X) (x : X) → setLast g (us ++ (x ∷ [])) ≡ us ++ (g x ∷ [])
 unfolding setLast
 set-last g [] x = refl
 set-last g (u ∷ []) x = refl
 set-last g (u ∷ v ∷ us) x = ap (λ l. u ∷ l) (set-last g (v ∷ us) x)
 
--- what is asked of a list is asked of its last
-record OfLast {X : Type 0} (h : List X → Bool) (p : X → Bool) : Type 0 where
-  none : h [] ≡ false
-  one : (x : X) → h (x ∷ []) ≡ p x
-  more : (x y : X) (ys : List X) → h (x ∷ y ∷ ys) ≡ h (y ∷ ys)
-
-ask-last : {X : Type 0} {h : List X → Bool} {p : X → Bool} → OfLast h p → (us : List X) (x : X) → h (us ++ (x ∷ [])) ≡ p x
-ask-last o [] x = o .one x
-ask-last o (u ∷ []) x = o .more u x [] ∙ o .one x
-ask-last o (u ∷ v ∷ us) x = o .more u v (us ++ (x ∷ [])) ∙ ask-last o (v ∷ us) x
+pub last-given : {X Y : Type 0} (o : X → Option Y) (us : List X) (x : X) → lastGiven o (us ++ (x ∷ [])) ≡ given (o x)
+unfolding lastGiven
+last-given o [] x = refl
+last-given o (u ∷ []) x = refl
+last-given o (u ∷ v ∷ us) x = last-given o (v ∷ us) x
 
 -- ---- a part of a media's row that may be absent: o says what it is, and it stands at byte off
 record Part {Y : Type 0} (off w : ℕ) (f : Y → List ℕ) (o : Media Span → Option Y) : Type 0 where
@@ -122,12 +117,14 @@ module _ (p q : List ℕ) (here : length p ≡ mediasAt) where
 
   -- ---- the same of any list of medias
   module _ {Y : Type 0} {off w : ℕ} {f : Y → List ℕ} {o : Media Span → Option Y} (part : Part off w f o) where
-    any-mark : (h : List (Media Span) → Bool) → OfLast h (λ m. given (o m)) → (ms : List (Media Span)) → length ms ≤ 32 → markLast (all p q ms) off ≡ h ms
-    unfolding markLast
-    any-mark h asked [] within = rw (no-media, asked .none)
-    any-mark h asked (m ∷ ms) within =
+    any-mark : (ms : List (Media Span)) → length ms ≤ 32 → markLast (all p q ms) off ≡ lastGiven o ms
+    unfolding markLast lastGiven
+    any-mark [] within = rw no-media
+    any-mark (m ∷ ms) within =
         let r = last-of m ms in
-        rw (r .is, ask-last asked (r .before) (r .last)) (latest-mark (r .before) (omega arith) (r .last) part)
+        ap (λ (l : List (Media Span)). markLast (all p q l) off) (r .is)
+        ∙ latest-mark (r .before) (omega arith) (r .last) part
+        ∙ sym (ap (lastGiven o) (r .is) ∙ last-given o (r .before) (r .last))
 
     any-set : (g : Media Span → Media Span) (bs : List ℕ) → ((m : Media Span) → mediaRow (g m) ≡ part .before m ++ (bs ++ part .behind m)) → length bs ≡ 2 + w
         → (ms : List (Media Span)) → length ms ≤ 32 → overLast (all p q ms) off bs ≡ all p q (setLast g ms)
@@ -178,8 +175,8 @@ module _ (s : Session Span) (t : List ℕ) (ok : Within s) (a : List ℕ) (is : 
   with-medias ms = cat-view (segments (withMedias s ms)) 15 (lit< tt) t
 
   module _ {Y : Type 0} {off w : ℕ} {f : Y → List ℕ} {o : Media Span → Option Y} (part : Part off w f o) where
-    session-mark : (h : List (Media Span) → Bool) → OfLast h (λ m. given (o m)) → markLast a off ≡ h (s .tables .medias)
-    session-mark h asked = rw (is, with-medias (s .tables .medias)) (any-mark (area.before s 15) t (begins s 15) part h asked (s .tables .medias) (ok .medias))
+    session-mark : markLast a off ≡ lastGiven o (s .tables .medias)
+    session-mark = rw (is, with-medias (s .tables .medias)) (any-mark (area.before s 15) t (begins s 15) part (s .tables .medias) (ok .medias))
 
     session-set : (g : Media Span → Media Span) (bs : List ℕ) → ((m : Media Span) → mediaRow (g m) ≡ part .before m ++ (bs ++ part .behind m)) → length bs ≡ 2 + w
         → overLast a off bs ≡ encode (withMedias s (setLast g (s .tables .medias))) ++ t
@@ -196,9 +193,7 @@ module _ (s : Session Span) (t : List ℕ) (ok : Within s) (a : List ℕ) (is : 
   media-key-set x = session-set media-key (keyed x) (le 2 1 ++ keyBytes x) (λ m. key-row (keyed x m)) (length-opt 10 keyBytes length-key (some x))
 
   pub title-mark : markLast a 18 ≡ lastTitled (s .tables .medias)
-  unfolding lastTitled
-  title-mark = session-mark title lastTitled (record { none = refl; one = λ x. refl; more = λ x y ys. refl })
+  title-mark = session-mark title
 
   pub media-key-mark : markLast a 24 ≡ lastKeyed (s .tables .medias)
-  unfolding lastKeyed
-  media-key-mark = session-mark media-key lastKeyed (record { none = refl; one = λ x. refl; more = λ x y ys. refl })
+  media-key-mark = session-mark media-key

@@ -30,14 +30,16 @@ abbrev pub given : {X : Type 0} → Option X → Bool
 given none = false
 given (some x) = true
 
+-- whether o is present in the latest row
+unfoldable pub lastGiven : {X Y : Type 0} → (X → Option Y) → List X → Bool
+lastGiven o [] = false
+lastGiven o (x ∷ []) = given (o x)
+lastGiven o (x ∷ y ∷ ys) = lastGiven o (y ∷ ys)
+
 -- whether the latest media has a title
-unfoldable pub lastTitled : {S : Type 0} → List (Media S) → Bool
-lastTitled [] = false
-lastTitled (m ∷ []) = given (m .mediaTitle)
-lastTitled (m ∷ n ∷ ms) = lastTitled (n ∷ ms)
+abbrev pub lastTitled : {S : Type 0} → List (Media S) → Bool
+lastTitled {S} ms = lastGiven (λ (m : Media S). m .mediaTitle) ms
 
 -- and whether it has a key
-unfoldable pub lastKeyed : {S : Type 0} → List (Media S) → Bool
-lastKeyed [] = false
-lastKeyed (m ∷ []) = given (m .key)
-lastKeyed (m ∷ n ∷ ms) = lastKeyed (n ∷ ms)
+abbrev pub lastKeyed : {S : Type 0} → List (Media S) → Bool
+lastKeyed {S} ms = lastGiven (λ (m : Media S). m .key) ms

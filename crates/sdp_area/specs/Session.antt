@@ -120,5 +120,16 @@ pub record Within {S : Type 0} (s : Session S) : Type 0 where
 abbrev pub empty : {S : Type 0} → Session S
 empty = record {
   head = record { origin = none; name = none; description = none; uri = none; connection = none; key = none };
-  tables = record { emails = []; phones = []; connections = []; bandwidths = []; times = []; repeats = []; offsets = []; zones = []; attributes = []; medias = [] };
+  tables = record {
+    emails = [];
+    phones = [];
+    connections = [];
+    bandwidths = [];
+    times = [];
+    repeats = [];
+    offsets = [];
+    zones = [];
+    attributes = [];
+    medias = [];
+  };
 }

@@ -1,7 +1,8 @@
 -- A session with one field or one table replaced.
 use mathlib.Core.List.{List, [], _∷_}
-use mathlib.Core.Option.{Option, some}
-use Rattle.sdp_area.specs.Session.{Origin, Connection, Key, MediaConnection, Bandwidth, Time, Repeat, Offset, Zone, Attribute, Media, Head, Tables, Session}
+use mathlib.Core.Option.{some}
+use Rattle.sdp_area.specs.Session.{Origin, Connection, Key, Head, Session}
+use Rattle.sdp_area.specs.Session.{MediaConnection, Bandwidth, Time, Repeat, Offset, Zone, Attribute, Media, Tables}
 
 -- the latest row changed
 unfoldable pub setLast : {X : Type 0} → (X → X) → List X → List X
@@ -10,53 +11,175 @@ setLast g (x ∷ []) = g x ∷ []
 setLast g (x ∷ y ∷ ys) = x ∷ setLast g (y ∷ ys)
 
 module _ {S : Type 0} where
+  abbrev pub onHead : Session S → (Head S → Head S) → Session S
+  onHead s g = record { head = g (s .head); tables = s .tables }
+
+  abbrev pub onTables : Session S → (Tables S → Tables S) → Session S
+  onTables s g = record { head = s .head; tables = g (s .tables) }
+
   abbrev pub withOrigin : Session S → Origin S → Session S
-  withOrigin s x = record { head = record { origin = some x; name = s .head .name; description = s .head .description; uri = s .head .uri; connection = s .head .connection; key = s .head .key }; tables = s .tables }
+  withOrigin s x =
+      onHead s (λ h. record { origin = some x; name = h .name; description = h .description; uri = h .uri; connection = h .connection; key = h .key })
 
   abbrev pub withName : Session S → S → Session S
-  withName s x = record { head = record { origin = s .head .origin; name = some x; description = s .head .description; uri = s .head .uri; connection = s .head .connection; key = s .head .key }; tables = s .tables }
+  withName s x =
+      onHead s (λ h. record { origin = h .origin; name = some x; description = h .description; uri = h .uri; connection = h .connection; key = h .key })
 
   abbrev pub withDescription : Session S → S → Session S
-  withDescription s x = record { head = record { origin = s .head .origin; name = s .head .name; description = some x; uri = s .head .uri; connection = s .head .connection; key = s .head .key }; tables = s .tables }
+  withDescription s x =
+      onHead s (λ h. record { origin = h .origin; name = h .name; description = some x; uri = h .uri; connection = h .connection; key = h .key })
 
   abbrev pub withUri : Session S → S → Session S
-  withUri s x = record { head = record { origin = s .head .origin; name = s .head .name; description = s .head .description; uri = some x; connection = s .head .connection; key = s .head .key }; tables = s .tables }
+  withUri s x =
+      onHead s (λ h. record { origin = h .origin; name = h .name; description = h .description; uri = some x; connection = h .connection; key = h .key })
 
   abbrev pub withConnection : Session S → Connection S → Session S
-  withConnection s x = record { head = record { origin = s .head .origin; name = s .head .name; description = s .head .description; uri = s .head .uri; connection = some x; key = s .head .key }; tables = s .tables }
+  withConnection s x =
+      onHead s (λ h. record { origin = h .origin; name = h .name; description = h .description; uri = h .uri; connection = some x; key = h .key })
 
   abbrev pub withKey : Session S → Key S → Session S
-  withKey s x = record { head = record { origin = s .head .origin; name = s .head .name; description = s .head .description; uri = s .head .uri; connection = s .head .connection; key = some x }; tables = s .tables }
+  withKey s x =
+      onHead s (λ h. record { origin = h .origin; name = h .name; description = h .description; uri = h .uri; connection = h .connection; key = some x })
 
   abbrev pub withEmails : Session S → List S → Session S
-  withEmails s xs = record { head = s .head; tables = record { emails = xs; phones = s .tables .phones; connections = s .tables .connections; bandwidths = s .tables .bandwidths; times = s .tables .times; repeats = s .tables .repeats; offsets = s .tables .offsets; zones = s .tables .zones; attributes = s .tables .attributes; medias = s .tables .medias } }
+  withEmails s xs = onTables s (λ t. record {
+    emails = xs;
+    phones = t .phones;
+    connections = t .connections;
+    bandwidths = t .bandwidths;
+    times = t .times;
+    repeats = t .repeats;
+    offsets = t .offsets;
+    zones = t .zones;
+    attributes = t .attributes;
+    medias = t .medias;
+  })
 
   abbrev pub withPhones : Session S → List S → Session S
-  withPhones s xs = record { head = s .head; tables = record { emails = s .tables .emails; phones = xs; connections = s .tables .connections; bandwidths = s .tables .bandwidths; times = s .tables .times; repeats = s .tables .repeats; offsets = s .tables .offsets; zones = s .tables .zones; attributes = s .tables .attributes; medias = s .tables .medias } }
+  withPhones s xs = onTables s (λ t. record {
+    emails = t .emails;
+    phones = xs;
+    connections = t .connections;
+    bandwidths = t .bandwidths;
+    times = t .times;
+    repeats = t .repeats;
+    offsets = t .offsets;
+    zones = t .zones;
+    attributes = t .attributes;
+    medias = t .medias;
+  })
 
   abbrev pub withConnections : Session S → List (MediaConnection S) → Session S
-  withConnections s xs = record { head = s .head; tables = record { emails = s .tables .emails; phones = s .tables .phones; connections = xs; bandwidths = s .tables .bandwidths; times = s .tables .times; repeats = s .tables .repeats; offsets = s .tables .offsets; zones = s .tables .zones; attributes = s .tables .attributes; medias = s .tables .medias } }
+  withConnections s xs = onTables s (λ t. record {
+    emails = t .emails;
+    phones = t .phones;
+    connections = xs;
+    bandwidths = t .bandwidths;
+    times = t .times;
+    repeats = t .repeats;
+    offsets = t .offsets;
+    zones = t .zones;
+    attributes = t .attributes;
+    medias = t .medias;
+  })
 
   abbrev pub withBandwidths : Session S → List (Bandwidth S) → Session S
-  withBandwidths s xs = record { head = s .head; tables = record { emails = s .tables .emails; phones = s .tables .phones; connections = s .tables .connections; bandwidths = xs; times = s .tables .times; repeats = s .tables .repeats; offsets = s .tables .offsets; zones = s .tables .zones; attributes = s .tables .attributes; medias = s .tables .medias } }
+  withBandwidths s xs = onTables s (λ t. record {
+    emails = t .emails;
+    phones = t .phones;
+    connections = t .connections;
+    bandwidths = xs;
+    times = t .times;
+    repeats = t .repeats;
+    offsets = t .offsets;
+    zones = t .zones;
+    attributes = t .attributes;
+    medias = t .medias;
+  })
 
   abbrev pub withTimes : Session S → List Time → Session S
-  withTimes s xs = record { head = s .head; tables = record { emails = s .tables .emails; phones = s .tables .phones; connections = s .tables .connections; bandwidths = s .tables .bandwidths; times = xs; repeats = s .tables .repeats; offsets = s .tables .offsets; zones = s .tables .zones; attributes = s .tables .attributes; medias = s .tables .medias } }
+  withTimes s xs = onTables s (λ t. record {
+    emails = t .emails;
+    phones = t .phones;
+    connections = t .connections;
+    bandwidths = t .bandwidths;
+    times = xs;
+    repeats = t .repeats;
+    offsets = t .offsets;
+    zones = t .zones;
+    attributes = t .attributes;
+    medias = t .medias;
+  })
 
   abbrev pub withRepeats : Session S → List Repeat → Session S
-  withRepeats s xs = record { head = s .head; tables = record { emails = s .tables .emails; phones = s .tables .phones; connections = s .tables .connections; bandwidths = s .tables .bandwidths; times = s .tables .times; repeats = xs; offsets = s .tables .offsets; zones = s .tables .zones; attributes = s .tables .attributes; medias = s .tables .medias } }
+  withRepeats s xs = onTables s (λ t. record {
+    emails = t .emails;
+    phones = t .phones;
+    connections = t .connections;
+    bandwidths = t .bandwidths;
+    times = t .times;
+    repeats = xs;
+    offsets = t .offsets;
+    zones = t .zones;
+    attributes = t .attributes;
+    medias = t .medias;
+  })
 
   abbrev pub withOffsets : Session S → List Offset → Session S
-  withOffsets s xs = record { head = s .head; tables = record { emails = s .tables .emails; phones = s .tables .phones; connections = s .tables .connections; bandwidths = s .tables .bandwidths; times = s .tables .times; repeats = s .tables .repeats; offsets = xs; zones = s .tables .zones; attributes = s .tables .attributes; medias = s .tables .medias } }
+  withOffsets s xs = onTables s (λ t. record {
+    emails = t .emails;
+    phones = t .phones;
+    connections = t .connections;
+    bandwidths = t .bandwidths;
+    times = t .times;
+    repeats = t .repeats;
+    offsets = xs;
+    zones = t .zones;
+    attributes = t .attributes;
+    medias = t .medias;
+  })
 
   abbrev pub withZones : Session S → List Zone → Session S
-  withZones s xs = record { head = s .head; tables = record { emails = s .tables .emails; phones = s .tables .phones; connections = s .tables .connections; bandwidths = s .tables .bandwidths; times = s .tables .times; repeats = s .tables .repeats; offsets = s .tables .offsets; zones = xs; attributes = s .tables .attributes; medias = s .tables .medias } }
+  withZones s xs = onTables s (λ t. record {
+    emails = t .emails;
+    phones = t .phones;
+    connections = t .connections;
+    bandwidths = t .bandwidths;
+    times = t .times;
+    repeats = t .repeats;
+    offsets = t .offsets;
+    zones = xs;
+    attributes = t .attributes;
+    medias = t .medias;
+  })
 
   abbrev pub withAttributes : Session S → List (Attribute S) → Session S
-  withAttributes s xs = record { head = s .head; tables = record { emails = s .tables .emails; phones = s .tables .phones; connections = s .tables .connections; bandwidths = s .tables .bandwidths; times = s .tables .times; repeats = s .tables .repeats; offsets = s .tables .offsets; zones = s .tables .zones; attributes = xs; medias = s .tables .medias } }
+  withAttributes s xs = onTables s (λ t. record {
+    emails = t .emails;
+    phones = t .phones;
+    connections = t .connections;
+    bandwidths = t .bandwidths;
+    times = t .times;
+    repeats = t .repeats;
+    offsets = t .offsets;
+    zones = t .zones;
+    attributes = xs;
+    medias = t .medias;
+  })
 
   abbrev pub withMedias : Session S → List (Media S) → Session S
-  withMedias s xs = record { head = s .head; tables = record { emails = s .tables .emails; phones = s .tables .phones; connections = s .tables .connections; bandwidths = s .tables .bandwidths; times = s .tables .times; repeats = s .tables .repeats; offsets = s .tables .offsets; zones = s .tables .zones; attributes = s .tables .attributes; medias = xs } }
+  withMedias s xs = onTables s (λ t. record {
+    emails = t .emails;
+    phones = t .phones;
+    connections = t .connections;
+    bandwidths = t .bandwidths;
+    times = t .times;
+    repeats = t .repeats;
+    offsets = t .offsets;
+    zones = t .zones;
+    attributes = t .attributes;
+    medias = xs;
+  })
 
   -- the latest media with a title, and with a key
   abbrev pub titled : S → Media S → Media S

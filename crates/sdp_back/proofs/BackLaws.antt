@@ -17,7 +17,7 @@ use Rattle.sdp_read.specs.Run as reader
 use Rattle.sdp_read.specs.Run.{Verdict, accepted, refused, answer, outcomeOf, lines, readText}
 use Rattle.sdp_row.specs.Written.{written}
 use Rattle.sdp_write.specs.Write as writer
-use Rattle.sdp_write.specs.Write.{fill, writeText}
+use Rattle.sdp_write.specs.Write.{wrote, fill, writeText}
 use Rattle.sdp_bound.specs.Kept.{id}
 use Rattle.sdp_same.specs.Said.{saidMediaConnection, saidBandwidth, saidAttribute, saidMedia, said, bytesAt}
 use Rattle.sdp_same.specs.Sound.{FineIn, Rising, Sound}
@@ -26,7 +26,7 @@ use Rattle.sdp_same.proofs.SoundLaws.{read-sound}
 use Rattle.sdp_same.proofs.SameLaws.{read-is, read-then-write}
 use Rattle.sdp_same.proofs.WrittenLaws.{written-said}
 use Rattle.sdp_back.specs.Again.{again}
-use Rattle.sdp_back.specs.Back.{wrote, SaidAgain, ReadBack}
+use Rattle.sdp_back.specs.Back.{SaidAgain, ReadBack}
 use Rattle.sdp_back.proofs.PlainLaws.{read-plain}
 use Rattle.sdp_back.proofs.WholeLaws.{Ordered, written-back}
 

@@ -2,7 +2,6 @@
 use mathlib.Core.Path.{_≡_, refl, sym, ap, _∙_}
 use mathlib.Core.Bool.{Bool, true, false, cond}
 use mathlib.Core.List.{List, [], _∷_, _++_, map}
-use mathlib.Core.Option.{some}
 use Prim.Native.Nat.{ℕ, _+_, _^_, _≤_, _<_}
 use native.Mathlib.Omega.{arith}
 use lib.ListN.{length, length-map}
@@ -13,10 +12,9 @@ use Rattle.sdp_judge.specs.Read.{Read, got, refused}
 use Rattle.sdp_fields.specs.Lists.{zonesOf}
 use Rattle.sdp_fields.specs.declared.Zone as zone
 use Rattle.sdp_area.specs.Session.{Origin, Connection, Key, MediaConnection, Bandwidth, Time, Repeat, Zone, Attribute, Media, Session}
-use Rattle.sdp_area.specs.With as change
 use Rattle.sdp_area.specs.With.{withOrigin, withName, withDescription, withUri, withConnection, withKey, withEmails, withPhones, withConnections, withBandwidths, withTimes, withRepeats, withOffsets, withZones, withAttributes, withMedias, setLast, titled, keyed}
-use Rattle.sdp_area.specs.Latest as latest
 use Rattle.sdp_area.specs.Latest.{given, lastTitled, lastKeyed}
+use Rattle.sdp_area.proofs.LatestLaws.{set-last, last-given}
 use Rattle.sdp_roles.specs.Roles as roles
 use Rattle.sdp_roles.specs.Roles.{beforeMedia, fromMedia}
 use Rattle.sdp_roles.specs.declared.Role.{Role}
@@ -51,26 +49,6 @@ module _ {A X : Type 0} (read : List ℕ → Read A) (mk : List ℕ → A → X)
       go : (r : Read A) → mapRead (mk v) r ≡ got x → row table cap c r (λ a. k (mk v a)) ≡ goes (k x)
       go (got a) q = let z : mk v a ≡ x = cc in rw (lt-ltb c cap l) (ap (λ y. goes (k y)) z)
       go (refused w) q = absurd (let z : _≡_ {A = ℕ} 0 1 = cc in omega arith)
-
--- ---- the latest of some rows
-module _ {S : Type 0} where
-  set-last : (g : Media S → Media S) (ms : List (Media S)) (m : Media S) → setLast g (ms ++ (m ∷ [])) ≡ ms ++ (g m ∷ [])
-  unfolding change.setLast
-  set-last g [] m = refl
-  set-last g (x ∷ []) m = refl
-  set-last g (x ∷ y ∷ ms) m = ap (λ ns. x ∷ ns) (set-last g (y ∷ ms) m)
-
-  last-titled : (ms : List (Media S)) (m : Media S) → lastTitled (ms ++ (m ∷ [])) ≡ given (m .mediaTitle)
-  unfolding latest.lastTitled
-  last-titled [] m = refl
-  last-titled (x ∷ []) m = refl
-  last-titled (x ∷ y ∷ ms) m = last-titled (y ∷ ms) m
-
-  last-keyed : (ms : List (Media S)) (m : Media S) → lastKeyed (ms ++ (m ∷ [])) ≡ given (m .key)
-  unfolding latest.lastKeyed
-  last-keyed [] m = refl
-  last-keyed (x ∷ []) m = refl
-  last-keyed (x ∷ y ∷ ms) m = last-keyed (y ∷ ms) m
 
 module _ (ρ : Reading (List ℕ)) where
   abbrev s : Session (List ℕ)
@@ -195,12 +173,12 @@ module _ (ρ : Reading (List ℕ)) where
       unfolding roles.fromMedia steps.stepRole
       title-leads x b g =
           from-leads 0x69 _ role.MediaTitle _ refl (b 33 .bare) refl
-          (once-steps _ _ _ _ (b 33) 18 _ (ap lastTitled e ∙ last-titled ms m ∙ g) (λ x. to (withMedias s (setLast (titled x) (s .tables .medias))))
+          (once-steps _ _ _ _ (b 33) 18 _ (ap lastTitled e ∙ last-given (λ n. n .mediaTitle) ms m ∙ g) (λ x. to (withMedias s (setLast (titled x) (s .tables .medias))))
           ∙ ap (λ ns. goes (to (withMedias s ns))) (ap (setLast (titled x)) e ∙ set-last (titled x) ms m))
 
       pub media-key-leads : (k : Key (List ℕ)) → KeyBack k → given (m .key) ≡ false → Leads ρ (keyLine id k) (to (withMedias s (ms ++ (keyed k m ∷ []))))
       unfolding roles.fromMedia steps.stepRole form.pairLine
       media-key-leads k b g =
           from-leads 0x6b _ role.MediaKey _ refl (b 25 26 .bare) refl
-          (once-steps _ _ _ _ (b 25 26) 19 _ (ap lastKeyed e ∙ last-keyed ms m ∙ g) (λ p. to (withMedias s (setLast (keyed (record { method = p .0; encryptionKey = p .1 })) (s .tables .medias))))
+          (once-steps _ _ _ _ (b 25 26) 19 _ (ap lastKeyed e ∙ last-given (λ n. n .key) ms m ∙ g) (λ p. to (withMedias s (setLast (keyed (record { method = p .0; encryptionKey = p .1 })) (s .tables .medias))))
           ∙ ap (λ ns. goes (to (withMedias s ns))) (ap (setLast (keyed k)) e ∙ set-last (keyed k) ms m))

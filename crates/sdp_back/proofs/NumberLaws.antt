@@ -17,11 +17,12 @@ use Rattle.sdp_number.specs.Number.{allDigits, value, digitsBelow, dropPlus, wh
 use Rattle.sdp_number.specs.declared.Number.the-variants.{Value}
 use Rattle.sdp_number.proofs.NumberLaws.{typed-plain, typed-unit}
 use Rattle.sdp_judge.specs.Offset as signed-offset
-use Rattle.sdp_judge.specs.Offset.{signed, offsetOf}
+use Rattle.sdp_judge.specs.Offset.{offsetOf}
 use Rattle.sdp_judge.specs.Read.{got}
 use Rattle.sdp_put.specs.Digits.{digits, timeText}
 use Rattle.sdp_put.proofs.DigitLaws.{digits-one, digits-more, time-zero, time-day, time-hour, time-minute, time-plain, offset-minus, offset-plain}
 use Rattle.sdp_row.specs.Written.{signedText}
+use Rattle.sdp_bound.proofs.NumberLaws.{digits-some}
 use Rattle.sdp_back.proofs.ByteLaws.{every, every-append, last-byte, but-last}
 
 -- ---- digits
@@ -39,9 +40,8 @@ digit-is : (d : ℕ) → d < 10 → allDigits ((0x30 + d) ∷ []) ≡ true
 unfolding number.allDigits
 digit-is d h = rw (le-leb 0x30 (0x30 + d) (omega arith), le-leb (0x30 + d) 0x39 (omega arith))
 
--- the digits of v: some, all of them digits, that say v
+-- the digits of v: all of them digits, that say v
 record Digits (v : ℕ) (s : List ℕ) : Type 0 where
-  some : 0 < length s
   all : allDigits s ≡ true
   says : value 0 s ≡ v
 
@@ -54,23 +54,19 @@ digits-in (suc n) v h = go (ltb v 10) refl (λ g. digits-in n (v / 10) (omega ar
     go true e ih =
         let l = ltb-true v 10 e in
         let s : value 0 ((0x30 + v) ∷ []) ≡ v = omega arith in
-        rw (digits-one v l) (record { some = omega arith; all = digit-is v l; says = s })
+        rw (digits-one v l) (record { all = digit-is v l; says = s })
     go false e ih =
         let l = ltb-false v 10 e in
         let i = ih l in
         let d : List ℕ = (0x30 + v % 10) ∷ [] in
         let k : value (v / 10) d ≡ v = omega arith in
         rw (digits-more v l) (record {
-          some = omega (arith, length-append (digits (v / 10)) d);
           all = rw (all-append (digits (v / 10)) d, i .all) (digit-is (v % 10) (omega arith));
           says = value-append 0 (digits (v / 10)) d ∙ ap (λ (n : ℕ). value n d) (i .says) ∙ k;
         })
 
 digits-are : (v : ℕ) → Digits v (digits v)
 digits-are v = digits-in (suc v) v (omega arith)
-
-pub digits-some : (v : ℕ) → 0 < length (digits v)
-digits-some v = digits-are v .some
 
 -- a test that digits pass
 module _ (p : ℕ → Bool) (h : (b : ℕ) → 0x30 ≤ b → b ≤ 0x39 → p b ≡ true) where
@@ -106,7 +102,7 @@ pub number-back : (w v : ℕ) → v < 2 ^ w → wholeNumber w (digits v) ≡ Val
 unfolding number.wholeNumber number.numeral number.digitsBelow
 number-back w v h =
     let s = digits-are v in
-    rw (ascii-utf8 (digits v) (digits-ascii v), no-plus (digits v) (s .all), lt-ltb 0 (length (digits v)) (s .some), s .all, s .says, lt-ltb v (2 ^ w) h)
+    rw (ascii-utf8 (digits v) (digits-ascii v), no-plus (digits v) (s .all), lt-ltb 0 (length (digits v)) (digits-some v), s .all, s .says, lt-ltb v (2 ^ w) h)
 
 -- ---- times
 no-unit : (d : ℕ) → d < 10 → unitOf (0x30 + d) ≡ 0

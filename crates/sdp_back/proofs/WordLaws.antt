@@ -21,7 +21,8 @@ use Rattle.sdp_put.specs.Digits.{digits, timeText}
 use Rattle.sdp_row.specs.Written.{spaced}
 use Rattle.sdp_same.specs.Fits.{Each}
 use Rattle.sdp_back.proofs.ByteLaws.{every, every-append, every-take, lacks, before-lacks, bare}
-use Rattle.sdp_back.proofs.NumberLaws.{digits-some, digits-pass, time-some, time-pass}
+use Rattle.sdp_bound.proofs.NumberLaws.{digits-some}
+use Rattle.sdp_back.proofs.NumberLaws.{digits-pass, time-some, time-pass}
 
 index-append : (c : ℕ) (a r : List ℕ) → lacks c a ≡ true → indexOf c (a ++ r) ≡ length a + indexOf c r
 unfolding runs.indexOf every

@@ -3,21 +3,16 @@
 use mathlib.Core.Path.{_≡_}
 use mathlib.Core.List.{List}
 use Prim.Native.Nat.{ℕ, _≤_}
-use lib.ListN.{length, take}
+use lib.ListN.{length}
 use Rattle.sdp_lines.specs.Strings.{bytesOf}
 use Rattle.sdp_lines.specs.declared.Span.{Span}
 use Rattle.sdp_area.specs.Session.{Session}
 use Rattle.sdp_area.specs.Area.{size}
 use Rattle.sdp_strings.specs.Strings.{spanAt}
 use Rattle.sdp_read.specs.Run.{accepted, outcomeOf, lines, readText}
-use Rattle.sdp_write.specs.Write as writer
-use Rattle.sdp_write.specs.Write.{writeText}
+use Rattle.sdp_write.specs.Write.{wrote, writeText}
 use Rattle.sdp_same.specs.Said.{said}
 use Rattle.sdp_back.specs.Again.{again}
-
--- the bytes that writing left in the output: "Acceptance is 0, for writing with the length"
-abbrev pub wrote : writer.Outcome → List ℕ
-wrote r = take (r .answer .len) (r .out)
 
 -- t was read into the area a, and w into the area b: both are accepted, and string by string w says again what t said
 pub record SaidAgain (t a w b : List ℕ) : Type 0 where

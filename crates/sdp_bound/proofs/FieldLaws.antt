@@ -4,7 +4,7 @@ use mathlib.Core.Bool.{Bool, true, false, cond}
 use mathlib.Core.List.{List, [], _∷_}
 use Prim.Native.Nat.{ℕ, zero, suc, _+_, _-_, _≤_, _<_}
 use native.Mathlib.Omega.{arith}
-use lib.ListN.{length, take, drop, length-take, length-drop, length-append}
+use lib.ListN.{length, take, drop, length-take, length-drop}
 use lib.Dec.{eqb}
 use Rattle.sdp_bytes.specs.Runs
 use Rattle.sdp_bytes.specs.Runs.{indexOf}
@@ -28,7 +28,6 @@ use Rattle.sdp_split.proofs.SplitLaws.{chosen}
 use Rattle.sdp_fields.proofs.WordLaws.{word-next}
 use Rattle.sdp_judge.proofs.ReadLaws.{Every, never}
 use Rattle.sdp_put.specs.Digits.{digits, timeText}
-use Rattle.sdp_put.specs.Strings
 use Rattle.sdp_bound.proofs.NumberLaws.{number-short, time-short}
 use Rattle.sdp_bound.proofs.RowLaws.{sum}
 

@@ -21,6 +21,7 @@ use Rattle.sdp_judge.specs.Read.{got, refused}
 use Rattle.sdp_put.specs.Digits.{digits, timeText}
 use Rattle.sdp_put.proofs.DigitLaws.{digits-one, digits-more, time-zero, time-day, time-hour, time-minute, time-plain, offset-minus, offset-plain}
 use Rattle.sdp_row.specs.Written.{signedText}
+use Rattle.sdp_write.proofs.ShortLaws.{length-digits}
 
 -- ---- digits
 -- the digits of a number of two or more
@@ -30,20 +31,12 @@ more-digits v h = ap length (digits-more v h) ∙ length-append (digits (v / 10)
 one-digit : (v : ℕ) → v < 10 → length (digits v) ≡ 1
 one-digit v h = ap length (digits-one v h)
 
-digits-some : (v : ℕ) → 0 < length (digits v)
+pub digits-some : (v : ℕ) → 0 < length (digits v)
 digits-some v = go (ltb v 10) refl
   where
     go : (b : Bool) → ltb v 10 ≡ b → 0 < length (digits v)
     go true e = omega (arith, one-digit v (ltb-true v 10 e))
     go false e = omega (arith, more-digits v (ltb-false v 10 e))
-
-digits-short : (n v : ℕ) → v < 10 ^ suc n → length (digits v) ≤ suc n
-digits-short zero v h = let l : v < 10 = h in omega (arith, one-digit v l)
-digits-short (suc n) v h = go (ltb v 10) refl (let e : v < 10 ^ suc n * 10 = rw (← (pow-suc 10 (suc n))) h in digits-short n (v / 10) (omega arith))
-  where
-    go : (b : Bool) → ltb v 10 ≡ b → length (digits (v / 10)) ≤ suc n → length (digits v) ≤ suc (suc n)
-    go true e ih = omega (arith, one-digit v (ltb-true v 10 e))
-    go false e ih = omega (arith, more-digits v (ltb-false v 10 e))
 
 -- more digits for a larger number
 digits-mono : (n a b : ℕ) → b < n → a ≤ b → length (digits a) ≤ length (digits b)
@@ -86,7 +79,7 @@ below-short n (b ∷ s) v e = go (ltb 0 (length (b ∷ s))) (allDigits (b ∷ s)
     go : (o p q : Bool) → allDigits (b ∷ s) ≡ p → cond (o && (p && q)) (Value (value 0 (b ∷ s))) Format ≡ Value v → length (digits v) ≤ suc (length s)
     go true true true f e =
         let z : value 0 (b ∷ s) ≡ v = cc in
-        digits-short (length s) v (omega (arith, value-below (b ∷ s) 0 f))
+        length-digits (length s) v (omega (arith, value-below (b ∷ s) 0 f))
     go true true false f e = absurd (let z : _≡_ {A = ℕ} 0 1 = cc in omega arith)
     go true false q f e = absurd (let z : _≡_ {A = ℕ} 0 1 = cc in omega arith)
     go false p q f e = absurd (let z : _≡_ {A = ℕ} 0 1 = cc in omega arith)

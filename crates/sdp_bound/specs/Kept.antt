@@ -6,7 +6,8 @@ use Rattle.sdp_lines.specs.declared.Form.{Form}
 use Rattle.sdp_lines.specs.declared.Form.the-variants.{Blank, Good, Bad}
 use Rattle.sdp_roles.specs.Roles.{roleAt}
 use Rattle.sdp_roles.specs.declared.Role.{Role}
-use Rattle.sdp_roles.specs.declared.Role.the-variants.{Origin, Name, Description, Uri, Email, Phone, Connection, Bandwidth, Time, Repeat, Zone, Key, Attribute, Media, MediaTitle, MediaConnection, MediaKey, Nothing}
+use Rattle.sdp_roles.specs.declared.Role.the-variants.{Origin, Name, Description, Uri, Email, Phone, Connection, Bandwidth, Time, Repeat, Zone, Key}
+use Rattle.sdp_roles.specs.declared.Role.the-variants.{Attribute, Media, MediaTitle, MediaConnection, MediaKey, Nothing}
 
 -- the role of a line by its form, after that many medias; a line that is empty or of bad form has none
 abbrev pub roleOf : ℕ → Form → Role

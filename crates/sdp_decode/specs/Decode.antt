@@ -5,7 +5,8 @@ use Prim.Native.Nat.{ℕ, _+_}
 use Rattle.sdp_lines.specs.declared.Span.{Span}
 use Rattle.sdp_cells.specs.Bytes.{num}
 use Rattle.sdp_area.specs.Session.{Origin, Connection, Key, MediaConnection, Bandwidth, Time, Repeat, Offset, Zone, Attribute, Media, Session}
-use Rattle.sdp_area.specs.Area.{originAt, nameAt, descriptionAt, uriAt, connectionAt, keyAt, emailsAt, phonesAt, connectionsAt, bandwidthsAt, timesAt, repeatsAt, offsetsAt, zonesAt, attributesAt, mediasAt}
+use Rattle.sdp_area.specs.Area.{originAt, nameAt, descriptionAt, uriAt, connectionAt, keyAt}
+use Rattle.sdp_area.specs.Area.{emailsAt, phonesAt, connectionsAt, bandwidthsAt, timesAt, repeatsAt, offsetsAt, zonesAt, attributesAt, mediasAt}
 use Rattle.sdp_decode.specs.Rows.{table, marked}
 
 -- a number of 2 bytes
@@ -19,7 +20,14 @@ spanOf a p = record { at = record { 0 = num 2 a p }; len = num 2 a (p + 2) }
 -- the o line, 30 bytes
 abbrev pub originOf : List ℕ → ℕ → Origin Span
 originOf a p =
-    record { username = marked spanOf a p; sessId = spanOf a (p + 6); sessVersion = num 8 a (p + 10); nettype = spanOf a (p + 18); addrtype = spanOf a (p + 22); unicastAddress = spanOf a (p + 26) }
+    record {
+      username = marked spanOf a p;
+      sessId = spanOf a (p + 6);
+      sessVersion = num 8 a (p + 10);
+      nettype = spanOf a (p + 18);
+      addrtype = spanOf a (p + 22);
+      unicastAddress = spanOf a (p + 26);
+    }
 
 -- a c line, 12 bytes
 abbrev pub connectionOf : List ℕ → ℕ → Connection Span
@@ -61,7 +69,15 @@ attributeOf a p = record { owner = num 2 a p; attribute = spanOf a (p + 2); valu
 -- 36 bytes
 abbrev pub mediaOf : List ℕ → ℕ → Media Span
 mediaOf a p =
-    record { media = spanOf a p; port = num 2 a (p + 4); numPorts = marked num2 a (p + 6); proto = spanOf a (p + 10); fmt = spanOf a (p + 14); mediaTitle = marked spanOf a (p + 18); key = marked keyOf a (p + 24) }
+    record {
+      media = spanOf a p;
+      port = num 2 a (p + 4);
+      numPorts = marked num2 a (p + 6);
+      proto = spanOf a (p + 10);
+      fmt = spanOf a (p + 14);
+      mediaTitle = marked spanOf a (p + 18);
+      key = marked keyOf a (p + 24);
+    }
 
 -- ---- the whole
 unfoldable pub decode : List ℕ → Session Span

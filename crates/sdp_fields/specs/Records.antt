@@ -1,5 +1,5 @@
 -- Document 01, "Fields": one reader for each record. "Fields are judged left to right".
-use Prim.Native.Nat.{ℕ, _+_, _-_}
+use Prim.Native.Nat.{ℕ, _+_}
 use mathlib.Core.Bool.{true, false, _&&_, cond}
 use mathlib.Core.List.{List}
 use lib.ListN.{length, getD, take, drop}
@@ -10,7 +10,8 @@ use Rattle.sdp_number.specs.Number.{wholeNumber}
 use Rattle.sdp_number.specs.declared.Number.{Number}
 use Rattle.sdp_number.specs.declared.Number.the-variants.{Value, Encoding, Format}
 use Rattle.sdp_split.specs.Split.{part, wordAt, firstPiece, pieceAfter, restAfter}
-use Rattle.sdp_judge.specs.Read.{Read, got, refused, encoding, format, missing, textOf, tokenOf, numberOf, timeOf, choiceOf, afterText, afterAmount, afterChoice, ending, andThen}
+use Rattle.sdp_judge.specs.Read.{Read, got, refused, encoding, format, missing, textOf, tokenOf, numberOf, timeOf, choiceOf}
+use Rattle.sdp_judge.specs.Read.{afterText, afterAmount, afterChoice, ending, andThen}
 use Rattle.sdp_split.specs.declared.Piece.{Piece}
 use Rattle.sdp_judge.specs.declared.MaybePiece.{MaybePiece}
 use Rattle.sdp_fields.specs.declared.MaybeNumber.{MaybeNumber}
@@ -48,7 +49,14 @@ originOf v =
     afterText (textOf 2 v (wordAt v e)) (λ id e.
     afterAmount (numberOf 3 v (wordAt v e)) (λ version e.
     andThen (addressOf 4 v e) (λ place.
-    got (record { username = usernameOf v user; «sess_id» = id; «sess_version» = version; nettype = place .nettype; addrtype = place .addrtype; «unicast_address» = place .«connection_address» })))))
+    got (record {
+      username = usernameOf v user;
+      «sess_id» = id;
+      «sess_version» = version;
+      nettype = place .nettype;
+      addrtype = place .addrtype;
+      «unicast_address» = place .«connection_address»;
+    })))))
 
 -- c: nettype, addrtype, connection-address
 unfoldable pub connectionOf : List ℕ → Read Connection

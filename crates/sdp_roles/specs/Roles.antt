@@ -1,9 +1,10 @@
 -- Document 01, "Lines": which letters have a use at a place. This is the one table of them.
 use Prim.Native.Nat.{ℕ}
-use mathlib.Core.Bool.{Bool, cond}
+use mathlib.Core.Bool.{cond}
 use lib.Dec.{eqb}
 use Rattle.sdp_roles.specs.declared.Role.{Role}
-use Rattle.sdp_roles.specs.declared.Role.the-variants.{Origin, Name, Description, Uri, Email, Phone, Connection, Bandwidth, Time, Repeat, Zone, Key, Attribute, Media, MediaTitle, MediaConnection, MediaKey, Nothing}
+use Rattle.sdp_roles.specs.declared.Role.the-variants.{Origin, Name, Description, Uri, Email, Phone, Connection, Bandwidth, Time, Repeat, Zone, Key}
+use Rattle.sdp_roles.specs.declared.Role.the-variants.{Attribute, Media, MediaTitle, MediaConnection, MediaKey, Nothing}
 
 -- "Before the first `m`, letters o s i u e p c b t r z k a have a use"; "an `m` line always has a use, the first one too"
 unfoldable pub beforeMedia : ℕ → Role

@@ -162,9 +162,9 @@ module _ (v : List ℕ) (mk : Piece → Span) (P : Span → Type 0) (fine : (p :
   unfolding steps.stepRole
   repeats-kept = go (eqb (length (s .tables .times)) 0) refl (repeatOf v) (repeat-fit v)
     where
-      taken : (r : RepeatLine) → FitLine r → 1 ≤ length (s .tables .times) → length (s .tables .repeats) < 64 → length (s .tables .offsets) + length (r .offsets) ≤ 256 → Sound P (steps.withRepeat mk ρ v r)
+      taken : (r : RepeatLine) → FitLine r → 1 ≤ length (s .tables .times) → length (s .tables .repeats) < 64 → length (s .tables .offsets) + length (r .offsets) ≤ 256 → Sound P (steps.withRepeat s (steps.repeatIn (length (s .tables .times)) r) (r .offsets))
       taken r f some room rooms =
-          let R : Repeat = record { owner = length (s .tables .times); repeatInterval = r .interval; activeDuration = r .duration } in
+          let R : Repeat = steps.repeatIn (length (s .tables .times)) r in
           let n : ℕ = length (s .tables .repeats) + 1 in
           let e : n ≡ length (s .tables .repeats ++ (R ∷ [])) = sym (length-append (s .tables .repeats) (R ∷ [])) in
           let l : length (s .tables .times) ≤ 32 = T .times .few in
@@ -175,7 +175,7 @@ module _ (v : List ℕ) (mk : Piece → Span) (P : Span → Type 0) (fine : (p :
           (record { connections = O .connections; bandwidths = O .bandwidths; repeats = rising-append (λ (r : Repeat). r .owner) _ (s .tables .repeats) 1 some (O .repeats) _ (refl, tt); offsets = rising-append (λ (o : Offset). o .owner) _ (s .tables .offsets) 1 (omega arith) (rising-more (λ (o : Offset). o .owner) _ _ (omega arith) (s .tables .offsets) 1 (O .offsets)) (map new (r .offsets)) (each-map _ (λ (k : ℕ). k < 2 ^ 64) new (λ k b. e) (r .offsets) (f .offsets)); attributes = O .attributes })
 
       fits : (a b : Bool) (r : RepeatLine) → FitLine r → 1 ≤ length (s .tables .times) → ltb (length (s .tables .repeats)) 64 ≡ a → leb (length (s .tables .offsets) + length (r .offsets)) 256 ≡ b
-          → Goes Kept (cond a (cond b (goes (record { session = steps.withRepeat mk ρ v r; zoned = ρ .zoned })) (stops 21 7)) (stops 21 6))
+          → Goes Kept (cond a (cond b (goes (record { session = steps.withRepeat s (steps.repeatIn (length (s .tables .times)) r) (r .offsets); zoned = ρ .zoned })) (stops 21 7)) (stops 21 6))
       fits true b r f some p q = room-goes Kept b 7 _ (λ e. taken r f some (ltb-true _ _ p) (leb-true _ _ (rw (← q) at e)))
       fits false b r f some p q = lit< tt
 

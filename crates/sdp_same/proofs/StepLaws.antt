@@ -22,7 +22,7 @@ use Rattle.sdp_area.specs.Session.{Media, Session}
 use Rattle.sdp_area.specs.With as change
 use Rattle.sdp_area.specs.With.{withOrigin, withName, withDescription, withUri, withConnection, withKey, withEmails, withPhones, withConnections, withBandwidths, withZones, withAttributes, withMedias, setLast, titled, keyed}
 use Rattle.sdp_area.specs.Latest as latest
-use Rattle.sdp_area.specs.Latest.{given, lastTitled, lastKeyed}
+use Rattle.sdp_area.specs.Latest.{given, lastGiven}
 use Rattle.sdp_step.specs.Step as steps
 use Rattle.sdp_step.specs.Step.{Reading, Stepped, goes, stops, once, row, maybeIn, originIn, connectionIn, keyIn, mediaIn, zoneIn, repeated, zonesTaken, stepRole, step}
 use Rattle.sdp_roles.specs.Roles.{roleAt}
@@ -46,19 +46,14 @@ last-said h g k e [] = refl
 last-said h g k e (x ∷ []) = ap (λ y. y ∷ []) (e x)
 last-said h g k e (x ∷ y ∷ ys) = ap (λ l. h x ∷ l) (last-said h g k e (y ∷ ys))
 
+-- and asked
+last-given-said : {X Y A B : Type 0} (h : X → Y) (o : X → Option A) (p : Y → Option B) → ((x : X) → given (o x) ≡ given (p (h x))) → (xs : List X) → lastGiven o xs ≡ lastGiven p (map h xs)
+unfolding latest.lastGiven
+last-given-said h o p e [] = refl
+last-given-said h o p e (x ∷ []) = e x
+last-given-said h o p e (x ∷ y ∷ ys) = last-given-said h o p e (y ∷ ys)
+
 module _ {S T : Type 0} (f : S → T) where
-  titled-said : (ms : List (Media S)) → lastTitled ms ≡ lastTitled (map (saidMedia f) ms)
-  unfolding latest.lastTitled
-  titled-said [] = refl
-  titled-said (m ∷ []) = given-said f (m .mediaTitle)
-  titled-said (m ∷ n ∷ ms) = titled-said (n ∷ ms)
-
-  keyed-said : (ms : List (Media S)) → lastKeyed ms ≡ lastKeyed (map (saidMedia f) ms)
-  unfolding latest.lastKeyed
-  keyed-said [] = refl
-  keyed-said (m ∷ []) = given-said (saidKey f) (m .key)
-  keyed-said (m ∷ n ∷ ms) = keyed-said (n ∷ ms)
-
   -- ---- the shapes of a step
   once-said : {A : Type 0} (n : ℕ) (b b′ : Bool) → b ≡ b′ → (r : Read A) (k : A → Stepped S) (k′ : A → Stepped T) → Every (λ x. saidStep f (k x) ≡ k′ x) r → saidStep f (once n b r k) ≡ once n b′ r k′
   once-said n b b′ e r k k′ h = go b r h ∙ ap (λ (c : Bool). once n c r k′) e
@@ -134,10 +129,10 @@ module _ {S T : Type 0} (f : S → T) where
       step-said role.Key =
           once-said 19 _ _ (given-said (saidKey f) (s .head .key)) (pairOf 25 26 v) _ _ (λ p q. ap (λ y. goes (keep (withKey (τ .session) y))) (key-said p (pair-within 25 26 v p q)))
       step-said role.MediaTitle =
-          once-said 18 _ _ (titled-said (s .tables .medias)) (wholeOf 33 v) _ _
+          once-said 18 _ _ (last-given-said (saidMedia f) (λ m. m .mediaTitle) (λ m. m .mediaTitle) (λ m. given-said f (m .mediaTitle)) (s .tables .medias)) (wholeOf 33 v) _ _
           (λ p q. ap (λ y. goes (keep (withMedias (τ .session) y))) (last-said (saidMedia f) (titled (mk p)) (titled (mk′ p)) (λ m. ap (λ y. titled y (saidMedia f m)) (same p (whole-within 33 v p q))) (s .tables .medias)))
       step-said role.MediaKey =
-          once-said 19 _ _ (keyed-said (s .tables .medias)) (pairOf 25 26 v) _ _
+          once-said 19 _ _ (last-given-said (saidMedia f) (λ m. m .key) (λ m. m .key) (λ m. given-said (saidKey f) (m .key)) (s .tables .medias)) (pairOf 25 26 v) _ _
           (λ p q. ap (λ y. goes (keep (withMedias (τ .session) y))) (last-said (saidMedia f) (keyed (keyIn mk p)) (keyed (keyIn mk′ p)) (λ m. ap (λ y. keyed y (saidMedia f m)) (key-said p (pair-within 25 26 v p q))) (s .tables .medias)))
       step-said role.Email =
           row-said 1 16 _ _ (sym (length-map (s .tables .emails) f)) (wholeOf 37 v) _ _

@@ -7,9 +7,8 @@ use mathlib.Core.Bool.{Bool, true, false, cond}
 use mathlib.Core.List.{List, [], _∷_, _++_, append-assoc, append-nil, map}
 use lib.Dec.{ltb}
 use lib.ListN.{length, length-append}
-use borrow.Author.Tests.{lt-ltb, ltb-true, ltb-false}
+use borrow.Author.Tests.{lt-ltb, ltb-true}
 use Rattle.sdp_judge.specs.Read.{Read, got, refused, andThen}
-use Rattle.sdp_judge.specs.declared.Wrong.{Wrong}
 use Rattle.sdp_cells.specs.Tables.{add}
 
 module _ {A : Type 0} where

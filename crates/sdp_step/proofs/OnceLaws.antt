@@ -2,17 +2,17 @@
 -- Assumes nothing.
 use Prim.Native.Nat.{ℕ, suc}
 use native.Mathlib.Omega.{arith}
-use mathlib.Core.Path.{_≡_, refl, sym, ap, _∙_}
+use mathlib.Core.Path.{_≡_, refl, ap}
 use mathlib.Core.List.{List, [], _∷_, _++_}
 use lib.ListN.{length}
 use Rattle.sdp_lines.specs.declared.Span.{Span}
-use Rattle.sdp_area.specs.Session.{Head, Media, Session}
+use Rattle.sdp_area.specs.Session.{Head, Media}
 use Rattle.sdp_area.specs.With
 use Rattle.sdp_area.specs.With.{withMedias, setLast}
 use Rattle.sdp_area.specs.Area.{encode}
 use Rattle.sdp_area.specs.Latest.{given}
 use Rattle.sdp_step.specs.Step.{Reading}
-use Rattle.sdp_step.specs.Hold.{marksOf, Holds}
+use Rattle.sdp_step.specs.Hold.{Holds}
 use Rattle.sdp_step.specs.declared.Marks.{Marks}
 use Rattle.sdp_step.proofs.WithinLaws.{within-head, within-medias}
 

@@ -27,9 +27,9 @@ use Rattle.sdp_area.specs.Area.{encode, size, offsetRow, offsetsAt}
 use Rattle.sdp_cells.specs.declared.Pushed.{Pushed}
 use Rattle.sdp_cells.specs.declared.Pushed.the-variants.{Stored, Full}
 use Rattle.sdp_area.proofs.GrownLaws.{offsets-grown}
-use Rattle.sdp_step.specs.Step.{Reading, stopped, repeated}
+use Rattle.sdp_step.specs.Step.{Reading, stopped, withRepeat, repeated}
 use Rattle.sdp_step.specs.Hold.{Holds, Handled}
-use Rattle.sdp_step.specs.Repeats.{latestOf, repeatRoom, roomAfter, areaAfter, repeatRows, RoomHolds, offsetsStep}
+use Rattle.sdp_step.specs.Repeats.{latestOf, repeatRoom, roomAfter, areaAfter, RoomHolds, offsetsStep}
 use Rattle.sdp_step.specs.declared.Marks.{Marks}
 use Rattle.sdp_step.specs.declared.Taken.the-variants.{Kept, Refused}
 use Rattle.sdp_step.specs.declared.Latest.the-variants as latest
@@ -54,7 +54,7 @@ abbrev offsetIn : Session Span → ℕ → Offset
 offsetIn s n = record { owner = length (s .tables .repeats) + 1; offset = n }
 
 module _ (s : Session Span) (ok : Within s) (q : Repeat) (ns : List ℕ) (n : ℕ) (a t : List ℕ) where
-  within-rows : length (s .tables .repeats) < 64 → length (s .tables .offsets) + length ns ≤ 256 → Within (repeatRows s q ns)
+  within-rows : length (s .tables .repeats) < 64 → length (s .tables .offsets) + length ns ≤ 256 → Within (withRepeat s q ns)
   within-rows r l =
       within-offsets (withRepeats s (s .tables .repeats ++ (q ∷ [])))
       (within-repeats s ok (s .tables .repeats ++ (q ∷ [])) (omega (arith, length-append (s .tables .repeats) (q ∷ []))))
@@ -72,14 +72,14 @@ module _ (s : Session Span) (ok : Within s) (q : Repeat) (ns : List ℕ) (n : �
       → RoomHolds s q (ns ++ (n ∷ [])) (roomAfter Open (told a offsetsAt 256)) (grown a offsetsAt 256 (offsetRow (offsetIn s n))) t
   room-open h =
       let w = within-rows (h .0) (h .1) in
-      let g = offsets-grown (repeatRows s q ns) t w a (h .2) (offsetIn s n) in
+      let g = offsets-grown (withRepeat s q ns) t w a (h .2) (offsetIn s n) in
       rw (g .0, g .1) (go (ltb (length (s .tables .offsets ++ map (offsetIn s) ns)) 256) refl)
     where
       go : (b : Bool) → ltb (length (s .tables .offsets ++ map (offsetIn s) ns)) 256 ≡ b
           → RoomHolds s q (ns ++ (n ∷ [])) (roomAfter Open (cond b Stored Full))
-          (encode (withOffsets (repeatRows s q ns) (cond b ((s .tables .offsets ++ map (offsetIn s) ns) ++ (offsetIn s n ∷ [])) (s .tables .offsets ++ map (offsetIn s) ns))) ++ t) t
-      go true e = (h .0, omega (arith, ltb-true (length (s .tables .offsets ++ map (offsetIn s) ns)) 256 e, count-rows, lists.length-more ns n), ap (λ (l : List Offset). encode (withOffsets (repeatRows s q ns) l) ++ t) rows-more)
-      go false e = (h .0, omega (arith, ltb-false (length (s .tables .offsets ++ map (offsetIn s) ns)) 256 e, count-rows, lists.length-more ns n), behind (withOffsets (repeatRows s q ns) (s .tables .offsets ++ map (offsetIn s) ns)) t)
+          (encode (withOffsets (withRepeat s q ns) (cond b ((s .tables .offsets ++ map (offsetIn s) ns) ++ (offsetIn s n ∷ [])) (s .tables .offsets ++ map (offsetIn s) ns))) ++ t) t
+      go true e = (h .0, omega (arith, ltb-true (length (s .tables .offsets ++ map (offsetIn s) ns)) 256 e, count-rows, lists.length-more ns n), ap (λ (l : List Offset). encode (withOffsets (withRepeat s q ns) l) ++ t) rows-more)
+      go false e = (h .0, omega (arith, ltb-false (length (s .tables .offsets ++ map (offsetIn s) ns)) 256 e, count-rows, lists.length-more ns n), behind (withOffsets (withRepeat s q ns) (s .tables .offsets ++ map (offsetIn s) ns)) t)
 
   pub room-next : (room : Room) → RoomHolds s q ns room a t
       → RoomHolds s q (ns ++ (n ∷ [])) (roomAfter room (told a offsetsAt 256)) (areaAfter room a (grown a offsetsAt 256 (offsetRow (offsetIn s n)))) t
@@ -105,7 +105,7 @@ module _ (v : List ℕ) (from : ℕ) (s : Session Span) (ok : Within s) (q : Rep
 
 -- the bytes behind the session stay
 pub room-tail : (s : Session Span) (q : Repeat) (ns : List ℕ) (room : Room) (a t : List ℕ) → RoomHolds s q ns room a t → drop size a ≡ t
-room-tail s q ns Open a t h = ap (drop size) (h .2) ∙ behind (repeatRows s q ns) t
+room-tail s q ns Open a t h = ap (drop size) (h .2) ∙ behind (withRepeat s q ns) t
 room-tail s q ns NoRepeats a t h = h .1
 room-tail s q ns NoOffsets a t h = h .2
 

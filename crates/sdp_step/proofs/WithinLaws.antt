@@ -1,6 +1,6 @@
 -- A session with one part replaced still fits the tables.
 -- Assumes nothing.
-use Prim.Native.Nat.{ℕ, _≤_}
+use Prim.Native.Nat.{_≤_}
 use mathlib.Core.List.{List}
 use lib.ListN.{length}
 use Rattle.sdp_lines.specs.declared.Span.{Span}

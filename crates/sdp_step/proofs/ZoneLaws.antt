@@ -3,13 +3,13 @@
 use Prim.Native.Nat.{ℕ, _+_, _≤_, _<_}
 use native.Mathlib.Omega.{arith}
 use mathlib.Core.Path.{_≡_, refl, sym, ap, _∙_}
-use mathlib.Core.Bool.{true, false, false≢true}
+use mathlib.Core.Bool.{true, false≢true}
 use mathlib.Core.List.{List, [], _∷_, _++_, map}
 use lib.ListN.{length, drop}
 use borrow.Author.Tests.{le-leb, lt-leb}
 use Rattle.sdp_lines.specs.declared.Span.{Span}
 use Rattle.sdp_split.specs.Split.{words}
-use Rattle.sdp_judge.specs.Read.{Read, got, refused, andThen}
+use Rattle.sdp_judge.specs.Read.{got, refused, andThen}
 use Rattle.sdp_fields.specs.Lists
 use Rattle.sdp_fields.specs.Lists.{pairsOf, zonesOf}
 use Rattle.sdp_fields.specs.Answers.{zoneAt}
@@ -63,9 +63,6 @@ module _ (v : List ℕ) (s : Session Span) (ok : Within s) (t a : List ℕ) (i n
         kept = lists.kept-more zoneIn 64 (z .rows) (z .done) x (z .kept);
         bytes = b ∙ zones-grown (withZones s (z .rows)) t (within-zones s ok (z .rows) (z .kept .fits)) a (z .bytes) (zoneIn x) .1;
       }
-
-  pub zoning-moves : (x : field.Zone) (e : ℕ) → zoneAt v i ≡ zones.Got x e → (i < e) × (e ≤ length v)
-  zoning-moves x e q = zone-next v i x e q .1
 
   pub zoning-wrong : (w : Wrong) → zoneAt v i ≡ zones.Refused w → zonesOf v ≡ refused w
   zoning-wrong w q = z .left ∙ rw (zone-refused v i w q)

@@ -1,11 +1,11 @@
 -- What the functions that take a line promise, for every session that the area holds: the step's answer, and the area for it.
 use mathlib.Core.Path.{_≡_}
-use mathlib.Core.Bool.{Bool, true, false}
+use mathlib.Core.Bool.{false}
 use mathlib.Core.List.{List, [], _++_}
 use Prim.Native.Nat.{ℕ}
 use lib.ListN.{drop}
 use Rattle.sdp_lines.specs.declared.Span.{Span}
-use Rattle.sdp_area.specs.Session.{Session, Within}
+use Rattle.sdp_area.specs.Session.{Within}
 use Rattle.sdp_area.specs.Area.{encode, size}
 use Rattle.sdp_area.specs.Latest.{given}
 use Rattle.sdp_cells.specs.declared.Pushed.{Pushed}

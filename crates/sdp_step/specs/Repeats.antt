@@ -2,20 +2,19 @@
 use Prim.Native.Nat.{ℕ, _+_, _≤_, _<_}
 use mathlib.Core.Path.{_≡_}
 use mathlib.Core.Bool.{cond}
-use mathlib.Core.List.{List, [], _∷_, _++_, map}
-use lib.Dec.{ltb, leb, eqb}
+use mathlib.Core.List.{List, [], _++_}
+use lib.Dec.{eqb}
 use lib.ListN.{length, drop}
 use Rattle.sdp_lines.specs.declared.Span.{Span}
 use Rattle.sdp_split.specs.Split.{words}
 use Rattle.sdp_judge.specs.Read.{Read, got, refused}
 use Rattle.sdp_fields.specs.Lists.{offsetsOf}
-use Rattle.sdp_area.specs.Session.{Repeat, Offset, Session}
-use Rattle.sdp_area.specs.With.{withRepeats, withOffsets}
+use Rattle.sdp_area.specs.Session.{Repeat, Session}
 use Rattle.sdp_area.specs.Area.{encode, size}
 use Rattle.sdp_cells.specs.declared.Pushed.{Pushed}
 use Rattle.sdp_cells.specs.declared.Pushed.the-variants.{Stored, Full}
-use Rattle.sdp_step.specs.Step.{Reading, Stepped, goes, stops, stopped}
-use Rattle.sdp_step.specs.Hold.{marksOf, Holds, Handled}
+use Rattle.sdp_step.specs.Step.{Reading, Stepped, stopped, withRepeat, repeatTaken}
+use Rattle.sdp_step.specs.Hold.{Holds, Handled}
 use Rattle.sdp_step.specs.declared.Marks.{Marks}
 use Rattle.sdp_step.specs.declared.Taken.{Taken}
 use Rattle.sdp_step.specs.declared.Latest.{Latest}
@@ -49,16 +48,10 @@ areaAfter Open a b = b
 areaAfter NoRepeats a b = a
 areaAfter NoOffsets a b = a
 
--- the session with the repeat q and its offsets ns
-abbrev pub repeatRows : Session Span → Repeat → List ℕ → Session Span
-repeatRows s q ns =
-    withOffsets (withRepeats s (s .tables .repeats ++ (q ∷ [])))
-    (s .tables .offsets ++ map (λ (n : ℕ). record { owner = length (s .tables .repeats) + 1; offset = n }) ns)
-
 -- what the area holds after the offsets ns
 abbrev pub RoomHolds : Session Span → Repeat → List ℕ → Room → List ℕ → List ℕ → Type 0
 RoomHolds s q ns Open a t =
-    (length (s .tables .repeats) < 64) × (length (s .tables .offsets) + length ns ≤ 256) × (a ≡ encode (repeatRows s q ns) ++ t)
+    (length (s .tables .repeats) < 64) × (length (s .tables .offsets) + length ns ≤ 256) × (a ≡ encode (withRepeat s q ns) ++ t)
 RoomHolds s q ns NoRepeats a t = (64 ≤ length (s .tables .repeats)) × (drop size a ≡ t)
 RoomHolds s q ns NoOffsets a t =
     (length (s .tables .repeats) < 64) × (256 < length (s .tables .offsets) + length ns) × (drop size a ≡ t)
@@ -66,12 +59,7 @@ RoomHolds s q ns NoOffsets a t =
 -- the step of an r line whose repeat is q
 abbrev pub offsetsStep : Reading Span → Repeat → Read (List ℕ) → Stepped Span
 offsetsStep ρ q (refused w) = stopped w
-offsetsStep ρ q (got ns) =
-    cond (ltb (length (ρ .session .tables .repeats)) 64)
-    (cond (leb (length (ρ .session .tables .offsets) + length ns) 256)
-    (goes (record { session = repeatRows (ρ .session) q ns; zoned = ρ .zoned }))
-    (stops 21 7))
-    (stops 21 6)
+offsetsStep ρ q (got ns) = repeatTaken ρ q ns
 
 -- what taking the offsets promises. a₀ held the session before the line
 abbrev pub Offsets : List ℕ → ℕ → ℕ → Room → Marks → Taken → List ℕ → List ℕ → Type 0

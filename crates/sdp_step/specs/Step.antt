@@ -20,8 +20,9 @@ use Rattle.sdp_fields.specs.declared.Media as media
 use Rattle.sdp_judge.specs.Read.{Read, got, refused, wholeOf}
 use Rattle.sdp_fields.specs.Records.{originOf, connectionOf, bandwidthOf, timesOf, pairOf, mediaOf}
 use Rattle.sdp_fields.specs.Lists.{RepeatLine, repeatOf, zonesOf}
-use Rattle.sdp_area.specs.Session.{Origin, Connection, Key, MediaConnection, Bandwidth, Time, Repeat, Offset, Zone, Attribute, Media, Session, empty}
-use Rattle.sdp_area.specs.With.{withOrigin, withName, withDescription, withUri, withConnection, withKey, withEmails, withPhones, withConnections, withBandwidths, withTimes, withRepeats, withOffsets, withZones, withAttributes, withMedias, setLast, titled, keyed}
+use Rattle.sdp_area.specs.Session.{Origin, Connection, Key, MediaConnection, Bandwidth, Time, Repeat, Zone, Attribute, Media, Session, empty}
+use Rattle.sdp_area.specs.With.{withOrigin, withName, withDescription, withUri, withConnection, withKey, withMedias, setLast, titled, keyed}
+use Rattle.sdp_area.specs.With.{withEmails, withPhones, withConnections, withBandwidths, withTimes, withRepeats, withOffsets, withZones, withAttributes}
 use Rattle.sdp_area.specs.Latest.{given, lastTitled, lastKeyed}
 use Rattle.sdp_roles.specs.Roles.{roleAt}
 use Rattle.sdp_roles.specs.declared.Role.{Role}
@@ -60,7 +61,14 @@ module _ {S : Type 0} (mk : Piece → S) where
 
   abbrev pub originIn : origin.Origin → Origin S
   originIn o =
-      record { username = maybeIn (o .username); sessId = mk (o .«sess_id»); sessVersion = o .«sess_version»; nettype = mk (o .nettype); addrtype = mk (o .addrtype); unicastAddress = mk (o .«unicast_address») }
+      record {
+        username = maybeIn (o .username);
+        sessId = mk (o .«sess_id»);
+        sessVersion = o .«sess_version»;
+        nettype = mk (o .nettype);
+        addrtype = mk (o .addrtype);
+        unicastAddress = mk (o .«unicast_address»);
+      }
 
   abbrev pub connectionIn : connection.Connection → Connection S
   connectionIn c = record { nettype = mk (c .nettype); addrtype = mk (c .addrtype); connectionAddress = mk (c .«connection_address») }
@@ -82,7 +90,15 @@ module _ {S : Type 0} (mk : Piece → S) where
 
   abbrev pub mediaIn : media.Media → Media S
   mediaIn m =
-      record { media = mk (m .media); port = m .port; numPorts = portsIn (m .«num_ports»); proto = mk (m .proto); fmt = mk (m .fmt); mediaTitle = none; key = none }
+      record {
+        media = mk (m .media);
+        port = m .port;
+        numPorts = portsIn (m .«num_ports»);
+        proto = mk (m .proto);
+        fmt = mk (m .fmt);
+        mediaTitle = none;
+        key = none;
+      }
 
 -- records without strings
 abbrev pub timeIn : time.Time → Time
@@ -91,6 +107,24 @@ timeIn t = record { startTime = t .«start_time»; stopTime = t .«stop_time» }
 -- the offset is the 64 bits of a signed number
 abbrev pub zoneIn : zone.Zone → Zone
 zoneIn z = record { adjustmentTime = z .«adjustment_time»; offset = z .offset }
+
+abbrev pub repeatIn : ℕ → RepeatLine → Repeat
+repeatIn n r = record { owner = n; repeatInterval = r .interval; activeDuration = r .duration }
+
+-- ---- an r line: the session with the repeat q and its offsets ns
+abbrev pub withRepeat : {S : Type 0} → Session S → Repeat → List ℕ → Session S
+withRepeat s q ns =
+    withOffsets (withRepeats s (s .tables .repeats ++ (q ∷ [])))
+    (s .tables .offsets ++ map (λ (n : ℕ). record { owner = length (s .tables .repeats) + 1; offset = n }) ns)
+
+-- of two full tables the lower number is named
+abbrev pub repeatTaken : {S : Type 0} → Reading S → Repeat → List ℕ → Stepped S
+repeatTaken ρ q ns =
+    cond (ltb (length (ρ .session .tables .repeats)) 64)
+    (cond (leb (length (ρ .session .tables .offsets) + length ns) 256)
+    (goes (record { session = withRepeat (ρ .session) q ns; zoned = ρ .zoned }))
+    (stops 21 7))
+    (stops 21 6)
 
 -- ---- the steps
 module _ {S : Type 0} (mk : Piece → S) (ρ : Reading S) (v : List ℕ) where
@@ -102,20 +136,10 @@ module _ {S : Type 0} (mk : Piece → S) (ρ : Reading S) (v : List ℕ) where
   abbrev pub section : ℕ
   section = length (ρ .session .tables .medias)
 
-  -- an r line: "r belongs to the latest t"; of two full tables the lower number is named
-  abbrev pub withRepeat : RepeatLine → Session S
-  withRepeat r =
-      withOffsets
-      (withRepeats (ρ .session)
-      (ρ .session .tables .repeats ++ (record { owner = length (ρ .session .tables .times); repeatInterval = r .interval; activeDuration = r .duration } ∷ [])))
-      (ρ .session .tables .offsets ++ map (λ (n : ℕ). record { owner = length (ρ .session .tables .repeats) + 1; offset = n }) (r .offsets))
-
+  -- "r belongs to the latest t"
   abbrev pub repeated : Read RepeatLine → Stepped S
   repeated (refused w) = stopped w
-  repeated (got r) =
-      cond (ltb (length (ρ .session .tables .repeats)) 64)
-      (cond (leb (length (ρ .session .tables .offsets) + length (r .offsets)) 256) (goes (keep (withRepeat r))) (stops 21 7))
-      (stops 21 6)
+  repeated (got r) = repeatTaken ρ (repeatIn (length (ρ .session .tables .times)) r) (r .offsets)
 
   -- the z line: its being there is kept even where it has no pairs
   abbrev pub zonesTaken : List zone.Zone → Stepped S
@@ -132,9 +156,11 @@ module _ {S : Type 0} (mk : Piece → S) (ρ : Reading S) (v : List ℕ) where
   stepRole role.Zone = once 17 (ρ .zoned) (zonesOf v) zonesTaken
   stepRole role.Key = once 19 (given (ρ .session .head .key)) (pairOf 25 26 v) (λ p. goes (keep (withKey (ρ .session) (keyIn mk p))))
   stepRole role.MediaTitle =
-      once 18 (lastTitled (ρ .session .tables .medias)) (wholeOf 33 v) (λ p. goes (keep (withMedias (ρ .session) (setLast (titled (mk p)) (ρ .session .tables .medias)))))
+      once 18 (lastTitled (ρ .session .tables .medias)) (wholeOf 33 v)
+      (λ p. goes (keep (withMedias (ρ .session) (setLast (titled (mk p)) (ρ .session .tables .medias)))))
   stepRole role.MediaKey =
-      once 19 (lastKeyed (ρ .session .tables .medias)) (pairOf 25 26 v) (λ p. goes (keep (withMedias (ρ .session) (setLast (keyed (keyIn mk p)) (ρ .session .tables .medias)))))
+      once 19 (lastKeyed (ρ .session .tables .medias)) (pairOf 25 26 v)
+      (λ p. goes (keep (withMedias (ρ .session) (setLast (keyed (keyIn mk p)) (ρ .session .tables .medias)))))
   stepRole role.Email =
       row 1 16 (length (ρ .session .tables .emails)) (wholeOf 37 v) (λ p. keep (withEmails (ρ .session) (ρ .session .tables .emails ++ (mk p ∷ []))))
   stepRole role.Phone =

@@ -6,7 +6,8 @@ use lib.ListN.{length, take, drop}
 use lib.Dec.{leb, eqb}
 use Rattle.sdp_utf8.specs.Utf8.{isUtf8}
 use Rattle.sdp_cells.specs.Bytes.{num}
-use Rattle.sdp_area.specs.Area.{originAt, nameAt, descriptionAt, uriAt, connectionAt, keyAt, emailsAt, phonesAt, connectionsAt, bandwidthsAt, timesAt, repeatsAt, offsetsAt, zonesAt, attributesAt, mediasAt}
+use Rattle.sdp_area.specs.Area.{originAt, nameAt, descriptionAt, uriAt, connectionAt, keyAt}
+use Rattle.sdp_area.specs.Area.{emailsAt, phonesAt, connectionsAt, bandwidthsAt, timesAt, repeatsAt, offsetsAt, zonesAt, attributesAt, mediasAt}
 use Rattle.sdp_valid.specs.declared.Row.{Row}
 use Rattle.sdp_valid.specs.declared.Row.the-variants.{Plain, Connection, Bandwidth, Attribute, Media}
 

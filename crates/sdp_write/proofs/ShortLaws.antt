@@ -50,7 +50,7 @@ length-digits (suc n) v h = go (ltb v 10) refl (let e : v < 10 ^ suc n * 10 = rw
     go true e ih = rw (digits-one v (ltb-true v 10 e)) (omega arith)
     go false e ih = rw (digits-more v (ltb-false v 10 e)) (omega (arith, length-append (digits (v / 10)) ((0x30 + v % 10) ∷ [])))
 
-digits-20 : (v : ℕ) → v < 2 ^ 64 → length (digits v) ≤ 20
+pub digits-20 : (v : ℕ) → v < 2 ^ 64 → length (digits v) ≤ 20
 digits-20 v h = length-digits 19 v (omega arith)
 
 time-21 : (v : ℕ) → v < 2 ^ 64 → length (timeText v) ≤ 21

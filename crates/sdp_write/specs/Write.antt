@@ -2,7 +2,7 @@
 use Prim.Native.Nat.{ℕ}
 use mathlib.Core.Bool.{cond}
 use mathlib.Core.List.{List, _++_}
-use lib.ListN.{length, drop}
+use lib.ListN.{length, take, drop}
 use lib.Dec.{ltb}
 use Rattle.sdp_lines.specs.Strings.{bytesOf}
 use Rattle.sdp_lines.specs.declared.Answer.{Answer}
@@ -23,6 +23,10 @@ textOf t a = written (bytesOf t) (decode a)
 pub record Outcome : Type 0 where
   pub answer : Answer
   pub out : List ℕ
+
+-- the text that was written, which has len bytes
+abbrev pub wrote : Outcome → List ℕ
+wrote x = take (x .answer .len) (x .out)
 
 -- w is written where it fits. "success changes only the bytes written"
 abbrev pub fill : List ℕ → List ℕ → Outcome
