@@ -17,7 +17,7 @@ pub struct Table {
     /// How a sentence names what it holds.
     pub name: &'static str,
     /// How many of them fit.
-    pub rows: u64,
+    pub rows: &'static str,
 }
 
 /// The sentences of the refusals 1 to 23. What stands in braces is put in: the name and the form of the field, the name
@@ -99,22 +99,22 @@ pub const FIELDS: [Field; 38] = [
     field("the phone number", ""),
 ];
 
-const fn table(name: &'static str, rows: u64) -> Table {
+const fn table(name: &'static str, rows: &'static str) -> Table {
     Table { name, rows }
 }
 
 /// The tables 1 to 10.
 pub const TABLES: [Table; 10] = [
-    table("e lines", 16),
-    table("p lines", 16),
-    table("c lines of medias", 64),
-    table("b lines", 64),
-    table("t lines", 32),
-    table("r lines", 64),
-    table("offsets in r lines", 256),
-    table("pairs in the z line", 64),
-    table("a lines", 512),
-    table("m lines", 32),
+    table("e lines", "16"),
+    table("p lines", "16"),
+    table("c lines of medias", "64"),
+    table("b lines", "64"),
+    table("t lines", "32"),
+    table("r lines", "64"),
+    table("offsets in r lines", "256"),
+    table("pairs in the z line", "64"),
+    table("a lines", "512"),
+    table("m lines", "32"),
 ];
 
 /// Entry `number`, from 1.
@@ -133,10 +133,10 @@ pub(crate) fn sentence(f: &mut fmt::Formatter<'_>, answer: &Answer) -> fmt::Resu
         let (what, after) = after.split_once('}').unwrap_or((after, ""));
         f.write_str(before)?;
         match what {
-            "field" => f.write_str(field.map_or("a field", |field| field.name))?,
-            "form" => f.write_str(field.map_or("of the right form", |field| field.form))?,
-            "table" => f.write_str(table.map_or("rows", |table| table.name))?,
-            "rows" => write!(f, "{}", table.map_or(0, |table| table.rows))?,
+            "field" => f.write_str(field.map_or("", |field| field.name))?,
+            "form" => f.write_str(field.map_or("", |field| field.form))?,
+            "table" => f.write_str(table.map_or("", |table| table.name))?,
+            "rows" => f.write_str(table.map_or("", |table| table.rows))?,
             _ => write!(f, "{}", answer.len)?,
         }
         rest = after;
