@@ -134,16 +134,15 @@ static inline const char *sdp_sentence(struct sdp_answer answer, char *out, size
         size_t i, plain;
         out[0] = 0;
         if (answer.line > 0) sdp_put(out, out_len, line, sizeof line);
-        while (*rest != 0) {
+        for (;;) {
             plain = strcspn(rest, "{");
             sdp_put(out, out_len, rest, plain);
             rest += plain;
-            for (i = 0; i < sizeof known / sizeof *known; i++) {
-                if (strncmp(rest, known[i][0], strlen(known[i][0])) != 0) continue;
-                sdp_put(out, out_len, known[i][1], strlen(known[i][1]));
-                rest += strlen(known[i][0]);
-                break;
-            }
+            if (*rest == 0) break;
+            for (i = 0; i < sizeof known / sizeof *known; i++)
+                if (strncmp(rest, known[i][0], strlen(known[i][0])) == 0)
+                    sdp_put(out, out_len, known[i][1], strlen(known[i][1]));
+            rest = strchr(rest, '}') + 1;
         }
     }
     sdp_put(out, out_len, number, sizeof number);

@@ -199,11 +199,13 @@ fn the_constants() {
     assert_eq!(left, (0..=words::SENTENCES.len()).collect::<Vec<_>>(), "{constants:#?}");
 }
 
-/// The rooms that are enough are those of the proofs.
+/// The room that is enough is that of the theorem.
 #[test]
 fn the_theorem_s_room() {
     let laws = file("crates/sdp_bound/proofs/RoomLaws.antt");
-    assert!(laws.contains(&ROOM.to_string()), "RoomLaws.antt speaks of {ROOM} bytes");
+    let theorem = laws.lines().find(|line| line.starts_with("pub room : ")).expect("the theorem room");
+    assert!(theorem.contains(&format!("length t ≤ {LONGEST} ")), "{theorem}");
+    assert!(theorem.ends_with(&format!(" ≤ {ROOM}")), "{theorem}");
 }
 
 /// Every function through the header, from C, answers what it answers through ffi.rs.
