@@ -78,7 +78,7 @@ static const char *const sdp_fields[][2] = {
     {"the key", ""},
     {"the media's name", ""},
     {"the port", SDP_PORT},
-    {"the field of the port", ""},
+    {"the port's encoding", ""},
     {"the number of ports", SDP_PORT},
     {"the media's protocol", ""},
     {"the media's formats", ""},

@@ -87,7 +87,7 @@ pub const FIELDS: [Field; 38] = [
     field("the key", ""),
     field("the media's name", ""),
     field("the port", PORT),
-    field("the field of the port", ""),
+    field("the port's encoding", ""),
     field("the number of ports", PORT),
     field("the media's protocol", ""),
     field("the media's formats", ""),
