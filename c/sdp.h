@@ -1,7 +1,7 @@
 /* Session descriptions (SDP, RFC 8866): the functions of the archive libsdp.a, for x86-64 Linux.
  *
  *     rt staticlib sdp                                   # makes target/staticlib/libsdp.a
- *     cc -Ic example.c target/staticlib/libsdp.a         # a program with it
+ *     cc -Ic program.c target/staticlib/libsdp.a         # a program with it
  *
  * In short:
  *
@@ -13,10 +13,10 @@
  *     if (answer.number == 0) ...                        // the first answer.len bytes of out are the written text
  *
  * Memory. Every function takes bytes with their length, and answers for all contents, all lengths and all numbers. Bytes
- * need no zero behind them and no alignment. What is const must not change during the call. What is not const, the area of
- * sdp_read and the out of sdp_write, must not overlap another argument, and nothing else may touch it during the call. With
- * length 0 a pointer may be anything: it is not used. No function keeps a pointer, allocates, or has state of its own, so
- * threads may call them at the same time on memory of their own.
+ * need no zero behind them and no alignment. What is const must not change during the call. What is not const, the area
+ * of sdp_read and the out of sdp_write, must not overlap another argument, and nothing else may touch it during the
+ * call. With length 0 a pointer may be anything: it is not used. No function keeps a pointer, allocates, or has state of
+ * its own, so threads may call them at the same time on memory of their own.
  *
  * A test (rust/sdp/tests/header.rs) holds this file to the source of the archive.
  */
@@ -105,9 +105,10 @@ struct sdp_answer sdp_read(const uint8_t *text, size_t text_len, uint8_t *area, 
 
 /* Writes the session of an area, given the text that it was read from. On 0 the first len bytes of out are the written
  * text, each line ended by CR LF, with no zero byte behind. After a refusal (2, 1, 23, 22, judged in this order) out is
- * unchanged. With out_len 0 it answers 22 and the length that is needed. An area that sdp_read filled is never refused with
- * 23, given the same text. */
-struct sdp_answer sdp_write(const uint8_t *text, size_t text_len, const uint8_t *area, size_t area_len, uint8_t *out, size_t out_len);
+ * unchanged. With out_len 0 it answers 22 and the length that is needed. An area that sdp_read filled is never refused
+ * with 23, given the same text. */
+struct sdp_answer sdp_write(const uint8_t *text, size_t text_len, const uint8_t *area, size_t area_len,
+                            uint8_t *out, size_t out_len);
 
 /* SDP_AREA_SIZE, as the archive has it. */
 size_t sdp_area_size(void);
@@ -116,8 +117,8 @@ size_t sdp_area_size(void);
  * orders too. */
 struct sdp_order sdp_letter_order(const uint8_t *text, size_t text_len);
 
-/* What stands at a place of the text, where the line of that number is due. Begin with place 0 and line 1; after the kinds 1
- * and 2 go on with next_place and next_line. */
+/* What stands at a place of the text, where the line of that number is due. Begin with place 0 and line 1; after the
+ * kinds 1 and 2 go on with next_place and next_line. */
 struct sdp_piece sdp_cut(const uint8_t *text, size_t text_len, size_t place, size_t line);
 
 /* The end of the longest beginning that is well-formed UTF-8: s is UTF-8 exactly when this is s_len. */
@@ -139,8 +140,8 @@ struct sdp_numeral sdp_typed_time(const uint8_t *s, size_t s_len);
  *
  * Numbers of 2 and 8 bytes have their lower byte first; nothing is aligned. A string is 4 bytes: its place in the text, 2
  * bytes, then its length, 2 bytes. A mark is 2 bytes: 1 present, 0 absent; an absent field's cells are zero. A table is a
- * count of 2 bytes and then its rows; row n, from 1, starts at SDP_x + 2 + (n - 1) * SDP_x_ROW. An owner is 2 bytes and says
- * to what a row belongs, from 1; owners never fall from row to row. */
+ * count of 2 bytes and then its rows; row n, from 1, starts at SDP_x + 2 + (n - 1) * SDP_x_ROW. An owner is 2 bytes and
+ * says to what a row belongs, from 1; owners never fall from row to row. */
 enum {
     SDP_ORIGIN = 0,       /* mark, username mark, username, sess-id, version 8 bytes, nettype, addrtype, address.
                              Where the mark is 0 the origin is - 0 0 IN IP4 0.0.0.0 */

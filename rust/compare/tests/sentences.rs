@@ -4,7 +4,7 @@
 mod pages;
 use generate::sessions::PAIRS;
 use pages::{file, table};
-use sdp::words::{FIELDS, SENTENCES, TABLES};
+use sdp::words::{Field, FIELDS, SENTENCES, TABLES};
 use std::collections::{BTreeMap, BTreeSet};
 
 fn paper() -> String {
@@ -14,8 +14,8 @@ fn paper() -> String {
 /// The paragraph of document 01 under a heading that starts with this word.
 fn paragraph(heading: &str, start: &str) -> String {
     let paper = paper();
-    let under = paper.lines().skip_while(|line| *line != format!("## {heading}")).skip(1).take_while(|line| !line.starts_with('#'));
-    let mut found = under.filter(|line| line.starts_with(start));
+    let under = paper.lines().skip_while(|line| *line != format!("## {heading}")).skip(1);
+    let mut found = under.take_while(|line| !line.starts_with('#')).filter(|line| line.starts_with(start));
     let line = found.next().unwrap_or_else(|| panic!("document 01 has a paragraph {start:?} under {heading:?}"));
     assert_eq!(found.next(), None);
     line.to_string()
@@ -47,7 +47,8 @@ fn refusals() {
             // `12 o` is the number with the letter of its line
             let mut words = item.split(' ');
             let number: u64 = words.next().unwrap().parse().expect("a number");
-            assert_eq!(due.insert(number, (words.next().map(String::from), given(cells[2]))), None, "{number} stands once");
+            let before = due.insert(number, (words.next().map(String::from), given(cells[2])));
+            assert_eq!(before, None, "{number} stands once");
         }
     }
     let page = rows("Refusals");
@@ -116,8 +117,14 @@ fn tables() {
 /// The pairs of a number and a field that there are: each has words for both, and the page's sentences on them are right.
 #[test]
 fn pairs() {
-    let with = |number: u64| PAIRS.iter().filter(|pair| pair.0 == number).map(|pair| pair.1 as usize).collect::<BTreeSet<_>>();
-    let named = |test: fn(&sdp::words::Field) -> bool| (1..=FIELDS.len()).filter(|number| test(&FIELDS[number - 1])).collect::<BTreeSet<_>>();
+    let with = |number: u64| {
+        let fields = PAIRS.iter().filter(|pair| pair.0 == number).map(|pair| pair.1 as usize);
+        fields.collect::<BTreeSet<_>>()
+    };
+    let named = |test: fn(&Field) -> bool| {
+        let numbers = (1..=FIELDS.len()).filter(|number| test(&FIELDS[number - 1]));
+        numbers.collect::<BTreeSet<_>>()
+    };
     assert_eq!(named(|field| !field.form.is_empty()), with(9), "9 has a form for each of its fields, and no other");
     assert_eq!(named(|field| field.name.starts_with("what follows ")), with(11));
     assert_eq!(with(11).into_iter().collect::<Vec<_>>(), [7, 11, 14, 17]);

@@ -105,8 +105,12 @@ fn agree(text: &[u8], area: &mut Area) -> Result<Option<sdp_types::Session>, Str
             let due = [refusal.number, refusal.line, refusal.field, refusal.place, refusal.len];
             let line = format!("line {}: ", refusal.line);
             let words = error.to_string();
-            let sentence = words.starts_with(&line) == (refusal.line > 0) && words.ends_with(&format!(" (refusal {})", refusal.number));
-            if ours == due && sentence { Ok(None) } else { Err(format!("ours {words}, {ours:?}, the crate {due:?}")) }
+            let with_line = words.starts_with(&line) == (refusal.line > 0);
+            if ours == due && with_line && words.ends_with(&format!(" (refusal {})", refusal.number)) {
+                Ok(None)
+            } else {
+                Err(format!("ours {words}, {ours:?}, the crate {due:?}"))
+            }
         }
         (Ok(view), Ok(due)) => {
             let ours = session(view);
@@ -122,7 +126,9 @@ fn agree(text: &[u8], area: &mut Area) -> Result<Option<sdp_types::Session>, Str
                     return Err(format!("the session's attributes {name:?}"));
                 }
                 for (ours, due) in view.medias().zip(&due.medias) {
-                    if ours.has_attribute(name) != due.has_attribute(name) || !ours.get_attribute_values(name).eq(due.get_attribute_values(name)) {
+                    let same = ours.has_attribute(name) == due.has_attribute(name)
+                        && ours.get_attribute_values(name).eq(due.get_attribute_values(name));
+                    if !same {
                         return Err(format!("a media's attributes {name:?}"));
                     }
                 }
@@ -142,31 +148,43 @@ fn same(text: &[u8], area: &mut Area) -> Option<sdp_types::Session> {
     })
 }
 
+/// Mostly good texts; of the others many are refused, and then the answers must agree.
 #[test]
 fn generated() {
-    let (seed, texts) = (from_env("SEED", 1), count(20_000));
+    let (seed, due) = (from_env("SEED", 8866), count(20_000));
+    let mut random = Random::of_test("sessions in the view");
     let mut area = Area::new();
     let (mut accepted, mut refused, mut minus, mut offsets, mut medias, mut values) = (0, 0, 0, 0, 0, 0);
-    let mut numbers = 0;
-    while accepted < texts {
-        let text = sessions::nth(seed, numbers);
-        numbers += 1;
+    for number in 0.. {
+        if accepted == due {
+            break;
+        }
+        let text = if number % 4 == 0 {
+            sessions::nth(seed, number)
+        } else {
+            let lines = sessions::good(&mut random);
+            sessions::ended(&mut random, &lines)
+        };
         match same(&text, &mut area) {
             None => refused += 1,
             Some(session) => {
                 accepted += 1;
                 minus += session.time_zones.iter().filter(|zone| zone.offset < 0).count();
-                offsets += session.times.iter().flat_map(|time| &time.repeats).map(|repeat| repeat.offsets.len()).sum::<usize>();
+                let repeats = session.times.iter().flat_map(|time| &time.repeats);
+                offsets += repeats.map(|repeat| repeat.offsets.len()).sum::<usize>();
                 medias += session.medias.len();
-                values += session.medias.iter().flat_map(|media| &media.attributes).filter(|row| row.value.is_some()).count();
+                let attributes = session.medias.iter().flat_map(|media| &media.attributes);
+                values += attributes.filter(|row| row.value.is_some()).count();
             }
         }
     }
     println!(
-        "view: seed {seed}, {accepted} sessions and {refused} refusals compared; {minus} zones before Greenwich, {offsets} \
-         offsets, {medias} medias, {values} values of their attributes"
+        "view: {accepted} sessions and {refused} refusals compared; {minus} zone offsets below 0, {offsets} offsets of \
+         repeats, {medias} medias, {values} values of their attributes"
     );
-    assert!(minus > 1_000 && offsets > 1_000 && medias > 1_000 && values > 1_000);
+    for seen in [minus, offsets, medias, values] {
+        assert!(seen as u64 * 20 > due, "much of everything is seen");
+    }
 }
 
 /// Each table full.
@@ -204,8 +222,8 @@ fn full_tables() {
 #[test]
 fn written() {
     let mut random = Random::of_test("written by the view");
-    let mut compared = 0;
-    for _ in 0..count(2_000) {
+    let (texts, mut compared) = (count(2_000), 0);
+    for _ in 0..texts {
         let lines = sessions::good(&mut random);
         let text = sessions::ended(&mut random, &lines);
         let Ok(mut due) = oracle::read(&text) else { continue };
@@ -220,5 +238,5 @@ fn written() {
         compared += 1;
     }
     println!("view: {compared} sessions written and read back by the crate");
-    assert!(compared > 1_000);
+    assert!(compared * 2 > texts);
 }

@@ -10,7 +10,7 @@
 //! | `time.start_time`, `media.port`, `zone.offset`, .. | the same |
 //! | `String` | `&str` that stands in the text |
 //! | `NetType`, `AddrType` | `&str`, as it was written: `in` stays `in` |
-//! | `session.origin` where no o line was | [`Session::origin`] gives the same placeholder, [`Session::origin_line`] gives `None` |
+//! | `session.origin` where no o line was | [`Session::origin`], the same placeholder; [`Session::origin_line`] is `None` |
 //! | `session.write(&mut output)?` | [`Session::write`] into a slice, [`Session::to_vec`], or `to_string()` |
 //! | `ParserError` | [`Error`]: a number, a line, a field, and a sentence |
 //!
@@ -24,9 +24,9 @@
 //!
 //! # Strings
 //!
-//! The reader refuses a text in which a field that it keeps is not UTF-8, so every string of a session is a `&str`. This is
-//! proved of the archive (`well-formed` in docs/AREA.md). The conversion is checked all the same, and panics if the archive
-//! broke that promise; nothing else here panics.
+//! The reader refuses a text in which a field that it keeps is not UTF-8, so every string of a session is a `&str`. This
+//! is proved of the archive (`well-formed` in docs/AREA.md). The conversion is checked all the same, and panics if the
+//! archive broke that promise; nothing else here panics.
 //!
 //! # Example
 //!

@@ -51,6 +51,7 @@ pub const SENTENCES: [&str; 23] = [
 const WHOLE: &str = "a whole number below 2^64";
 const PORT: &str = "a whole number below 2^16";
 const TIMED: &str = "a time below 2^64 seconds: a whole number, then d, h, m, s or nothing";
+const SIGNED: &str = "a time from -2^63 to 2^63-1 seconds: a - or none, a whole number, then d, h, m, s or nothing";
 const TOKEN: &str = "a token";
 
 const fn field(name: &'static str, form: &'static str) -> Field {
@@ -80,7 +81,7 @@ pub const FIELDS: [Field; 38] = [
     field("the repeat's duration", TIMED),
     field("a repeat's offset", TIMED),
     field("a zone's adjustment time", WHOLE),
-    field("a zone's offset", "a time from -2^63 to 2^63-1 seconds: a - or none, a whole number, then d, h, m, s or nothing"),
+    field("a zone's offset", SIGNED),
     field("the attribute's name", ""),
     field("the attribute's value", ""),
     field("the key's method", ""),

@@ -3,14 +3,16 @@ mod c;
 mod page;
 use page::path;
 use std::fs;
-use std::path::PathBuf;
+use std::path::{Path, PathBuf};
 use std::process::Output;
 
-/// The program of examples/announce.rs, which cargo builds beside the tests.
+/// The program of examples/announce.rs, which cargo builds beside the tests, unless it is asked for one test only.
 fn announce() -> PathBuf {
     let deps = std::env::current_exe().unwrap();
     let program = deps.parent().unwrap().parent().unwrap().join("examples/announce");
-    assert!(program.is_file(), "there is no {}: cargo test without --test makes it", program.display());
+    let time = |path: &Path| fs::metadata(path).and_then(|file| file.modified()).ok();
+    let source = time(Path::new(&path("rust/sdp/examples/announce.rs")));
+    assert!(source.is_some() && time(&program) >= source, "{} is old: cargo build --release --examples", program.display());
     program
 }
 
@@ -18,11 +20,14 @@ fn example() -> PathBuf {
     c::compiled("c/example.c", "example")
 }
 
-/// Exit status, standard output, and standard error without the program's name.
-fn parts(name: &str, output: Output) -> (Option<i32>, Vec<u8>, String) {
+/// Exit status, standard output as Rust would quote it, and standard error without the program's name.
+fn parts(name: &str, output: Output) -> (Option<i32>, String, String) {
     let errors = String::from_utf8(output.stderr).expect("words");
-    let errors = errors.lines().map(|line| line.strip_prefix(name).unwrap_or_else(|| panic!("{line:?} starts with {name}")));
-    (output.status.code(), output.stdout, errors.map(|line| format!("{line}\n")).collect())
+    let unnamed = |line: &str| match line.strip_prefix(name) {
+        Some(words) => format!("{words}\n"),
+        None => panic!("{line:?} starts with {name}"),
+    };
+    (output.status.code(), output.stdout.escape_ascii().to_string(), errors.lines().map(unnamed).collect())
 }
 
 const FESTIVAL: &str = "name: Summer festival, main stage
@@ -57,17 +62,18 @@ fn each_text() {
             let due = fs::read(file.with_extension("expected")).unwrap();
             if let Some(numbers) = due.strip_prefix(b"refused ") {
                 let number = numbers.split(|byte| *byte == b' ').next().unwrap();
-                assert_eq!((status, output), (Some(1), Vec::new()), "{name}");
+                assert_eq!((status, &output[..]), (Some(1), ""), "{name}");
                 let end = format!(" (refusal {})\n", std::str::from_utf8(number).unwrap());
                 assert!(errors.ends_with(&end) && errors.lines().count() == 1, "{name}: {errors}");
                 refused += 1;
                 continue;
             }
             assert_eq!((status, &errors[..]), (Some(0), ""), "{name}");
-            let told = output.strip_suffix(&due[..]).unwrap_or_else(|| panic!("{name}: the written form is the last"));
-            assert!(told.starts_with(b"name: "), "{name}");
+            let told = output.strip_suffix(&due.escape_ascii().to_string()[..]);
+            let told = told.unwrap_or_else(|| panic!("{name}: the written form is the last"));
+            assert!(told.starts_with("name: "), "{name}");
             if name.ends_with("/festival.sdp") {
-                assert_eq!(std::str::from_utf8(told).unwrap(), FESTIVAL);
+                assert_eq!(told, FESTIVAL.as_bytes().escape_ascii().to_string());
                 festival = true;
             }
             written += 1;
@@ -82,9 +88,9 @@ fn each_text() {
 fn inputs_and_statuses() {
     for (name, program) in [("announce: ", announce()), ("example: ", example())] {
         let run = |arguments: &[&str], input: &[u8]| parts(name, c::run(&program, arguments, input));
-        let accepted = b"name: \nv=0\r\no=- 0 0 IN IP4 0.0.0.0\r\ns=\r\nt=0 0\r\n".to_vec();
+        let accepted = b"name: \nv=0\r\no=- 0 0 IN IP4 0.0.0.0\r\ns=\r\nt=0 0\r\n".escape_ascii().to_string();
         assert_eq!(run(&[], b"v=0"), (Some(0), accepted, String::new()));
-        let sentence = |words: &str| (Some(1), Vec::new(), format!("{words}\n"));
+        let sentence = |words: &str| (Some(1), String::new(), format!("{words}\n"));
         assert_eq!(run(&[], b""), sentence("there is no version: the first line must be v=0 (refusal 6)"));
         assert_eq!(run(&[], &vec![b'\n'; 100_000]), sentence("the text has more than 32768 bytes (refusal 1)"));
         assert_eq!(
@@ -96,7 +102,7 @@ fn inputs_and_statuses() {
         );
         for unreadable in ["no/such/file", "/"] {
             let (status, output, errors) = run(&[unreadable], b"");
-            assert_eq!((status, output.len(), errors.lines().count()), (Some(2), 0, 1), "{name}{unreadable}: {errors}");
+            assert_eq!((status, &output[..], errors.lines().count()), (Some(2), "", 1), "{name}{unreadable}: {errors}");
         }
         let (status, _, errors) = parts(name, c::run_to(&program, &[], b"v=0", Some("/dev/full")));
         assert_eq!((status, errors.lines().count()), (Some(2), 1), "{name}{errors}");

@@ -62,7 +62,8 @@ fn source_fields(name: &str) -> Vec<(String, String)> {
     let head = format!("#[repr(C)]\npub struct {name} {{");
     let mut all = Vec::new();
     for crate_name in ["sdp_answers", "sdp_lines", "sdp_order"] {
-        all.extend(found(&file(&format!("crates/{crate_name}/src/lib.rt")), &head, &['}']).iter().map(|body| named(body)));
+        let source = file(&format!("crates/{crate_name}/src/lib.rt"));
+        all.extend(found(&source, &head, &['}']).iter().map(|body| named(body)));
     }
     assert_eq!(all.len(), 1, "the source has one struct {name}");
     all.remove(0)
@@ -149,7 +150,8 @@ fn rust_has_the_source_s_functions_and_structs() {
         let kinds = function.parameters.into_iter().map(|(_, kind)| kind).collect::<Vec<_>>();
         (function.name, (kinds, outside(&function.answer).to_string()))
     };
-    let declared: BTreeMap<_, _> = found(block, "pub fn ", &[';']).into_iter().map(|text| types(function(&one_space(text)))).collect();
+    let declared = found(block, "pub fn ", &[';']).into_iter().map(|text| types(function(&one_space(text))));
+    let declared: BTreeMap<_, _> = declared.collect();
     let due: BTreeMap<_, _> = exported()
         .into_iter()
         .map(|mut function| {
@@ -213,7 +215,8 @@ fn the_theorem_s_room() {
 fn all_functions_from_c() {
     let program = c::compiled("rust/sdp/tests/c/calls.c", "calls");
     let mut area = [0; Area::SIZE];
-    for text in [&b"v=0\ns=Desk 4\nz=60 -1h\n"[..], b"v=1\n", b"+60", b"65536", b"2d", b"IN", b"a b", b"\xff", b"", b"t=\r", b"\n"] {
+    let texts = ["v=0\ns=Desk 4\nz=60 -1h\n", "v=1\n", "+60", "65536", "2d", "IN", "a b", "", "t=\r", "\n"];
+    for text in texts.map(str::as_bytes).into_iter().chain([&b"\xff"[..]]) {
         let mut due = format!("{} {}\n", ffi::utf8_end(text), u64::from(ffi::is_token(text)));
         for numeral in [ffi::number16(text), ffi::number64(text), ffi::typed_time(text)] {
             due += &format!("{} {}\n", numeral.number, numeral.value);
@@ -240,8 +243,8 @@ fn all_functions_from_c() {
 fn the_headers_in_cpp() {
     let compile = |file: &str| {
         let mut command = Command::new("g++");
-        command.args(["-std=c++11", "-fsyntax-only", "-Wall", "-Wextra", "-Werror", "-pedantic", "-I", &path("c"), "-x", "c++"]);
-        command.arg(path(file)).output()
+        command.args(["-std=c++11", "-fsyntax-only", "-Wall", "-Wextra", "-Werror", "-pedantic"]);
+        command.args(["-I", &path("c"), "-x", "c++", &path(file)]).output()
     };
     match compile("rust/sdp/tests/c/calls.c") {
         Err(error) if error.kind() == std::io::ErrorKind::NotFound => println!("header: no g++, so C++ was NOT tried"),

@@ -1,9 +1,11 @@
 //! The view, the errors and the writing, on texts whose answers were typed by hand.
+mod page;
 use sdp::{Area, Attribute, Bandwidth, Connection, Error, Key, Origin, Session, SessionBuf, TimeZone, LONGEST, ROOM};
 
 /// Something in every place, and absent things too.
-const RICH: &[u8] = b"v=0\no=jdoe 42 7 in IP4 host.example\ns=Desk 4\ni=The desk\nu=http://desk.example\ne=a@b\ne=c@d\np=+1 2\n\
-    c=IN ip4 224.0.0.1/15\nb=CT:384\nb=X-y:5\nt=1 2\nr=7d 1h 0 25h\nr=1 2\nt=3 0\nt=4 5\nr=60 30 1m\nz=60 -1h 61 0 62 +30m\n\
+const RICH: &[u8] = b"v=0\no=jdoe 42 7 in IP4 host.example\ns=Desk 4\ni=The desk\nu=http://desk.example\n\
+    e=a@b\ne=c@d\np=+1 2\nc=IN ip4 224.0.0.1/15\nb=CT:384\nb=X-y:5\n\
+    t=1 2\nr=7d 1h 0 25h\nr=1 2\nt=3 0\nt=4 5\nr=60 30 1m\nz=60 -1h 61 0 62 +30m\n\
     k=clear:secret\na=recvonly\na=note:\na=Tool:desk:4\n\
     m=audio 5004/2 RTP/AVP 96 97\ni=Stage\nc=IN IP4 a\nc=IN IP4 b\nb=AS:1\nk=prompt\na=rtpmap:96 L16\na=RTPMAP:97 L24\n\
     m=video 0 p \nm=text 65535 x y\nc=TN E164 c\nb=AS:2\na=x\n";
@@ -53,13 +55,14 @@ fn everything_is_there() {
     assert_eq!(repeats, [(604_800, 3_600, vec![0, 90_000]), (1, 2, vec![]), (60, 30, vec![60])]);
 
     let medias: Vec<_> = session.medias().collect();
-    let heads: Vec<_> = medias.iter().map(|media| (media.media, media.port, media.num_ports, media.proto, media.fmt)).collect();
+    let heads = medias.iter().map(|media| (media.media, media.port, media.num_ports, media.proto, media.fmt));
     assert_eq!(
-        heads,
+        heads.collect::<Vec<_>>(),
         [("audio", 5004, Some(2), "RTP/AVP", "96 97"), ("video", 0, None, "p", ""), ("text", 65_535, None, "x", "y")]
     );
     let titles: Vec<_> = medias.iter().map(|media| (media.media_title, media.key)).collect();
-    assert_eq!(titles, [(Some("Stage"), Some(Key { method: "prompt", encryption_key: None })), (None, None), (None, None)]);
+    let prompt = Key { method: "prompt", encryption_key: None };
+    assert_eq!(titles, [(Some("Stage"), Some(prompt)), (None, None), (None, None)]);
     let connections: Vec<Vec<_>> = medias.iter().map(|media| media.connections().collect()).collect();
     assert_eq!(
         connections,
@@ -87,7 +90,8 @@ fn nothing_is_there() {
     assert_eq!((placeholder.username, placeholder.sess_id, placeholder.sess_version), (None, "0", 0));
     assert_eq!((placeholder.nettype, placeholder.addrtype, placeholder.unicast_address), ("IN", "IP4", "0.0.0.0"));
     assert_eq!(session.session_name(), "");
-    assert_eq!((session.session_description(), session.uri(), session.connection(), session.key()), (None, None, None, None));
+    assert_eq!((session.session_description(), session.uri()), (None, None));
+    assert_eq!((session.connection(), session.key()), (None, None));
     assert!(session.emails().is_empty() && session.phones().is_empty() && session.bandwidths().is_empty());
     assert!(session.times().is_empty() && session.time_zones().is_empty());
     assert!(session.attributes().is_empty() && session.medias().is_empty());
@@ -116,7 +120,8 @@ fn the_sign_of_a_zone() {
     let zones = [zone(1, -3_600), zone(2, 3_600), zone(3, i64::MIN), zone(4, i64::MAX), zone(5, 0), zone(u64::MAX, -1)];
     assert_eq!(kept.session().time_zones().collect::<Vec<_>>(), zones);
     let written = kept.session().to_string();
-    assert!(written.contains("\r\nz=1 -1h 2 1h 3 -9223372036854775808 4 9223372036854775807 5 0 18446744073709551615 -1\r\n"));
+    let due = "\r\nz=1 -1h 2 1h 3 -9223372036854775808 4 9223372036854775807 5 0 18446744073709551615 -1\r\n";
+    assert!(written.contains(due), "{written}");
 }
 
 #[test]
@@ -152,8 +157,8 @@ fn rows() {
 
 #[test]
 fn written() {
-    let due = "v=0\r\no=jdoe 42 7 in IP4 host.example\r\ns=Desk 4\r\ni=The desk\r\nu=http://desk.example\r\ne=a@b\r\ne=c@d\r\n\
-        p=+1 2\r\nc=IN ip4 224.0.0.1/15\r\nb=CT:384\r\nb=X-y:5\r\nt=1 2\r\nr=7d 1h 0 25h\r\nr=1 2\r\nt=3 0\r\nt=4 5\r\n\
+    let due = "v=0\r\no=jdoe 42 7 in IP4 host.example\r\ns=Desk 4\r\ni=The desk\r\nu=http://desk.example\r\n\
+        e=a@b\r\ne=c@d\r\np=+1 2\r\nc=IN ip4 224.0.0.1/15\r\nb=CT:384\r\nb=X-y:5\r\nt=1 2\r\nr=7d 1h 0 25h\r\nr=1 2\r\nt=3 0\r\nt=4 5\r\n\
         r=1m 30 1m\r\nz=60 -1h 61 0 62 30m\r\nk=clear:secret\r\na=recvonly\r\na=note:\r\na=Tool:desk:4\r\n\
         m=audio 5004/2 RTP/AVP 96 97\r\ni=Stage\r\nc=IN IP4 a\r\nc=IN IP4 b\r\nb=AS:1\r\nk=prompt\r\na=rtpmap:96 L16\r\n\
         a=RTPMAP:97 L24\r\nm=video 0 p \r\nm=text 65535 x y\r\nc=TN E164 c\r\nb=AS:2\r\na=x\r\n";
@@ -225,7 +230,8 @@ fn equality() {
     assert_eq!(read(text.replace('\n', "\r\n\n").as_bytes()), due);
     let mut changed = 0;
     for (at, line) in text.lines().enumerate().skip(1) {
-        let without: String = text.lines().enumerate().filter(|(other, _)| *other != at).map(|(_, line)| format!("{line}\n")).collect();
+        let others = text.lines().enumerate().filter(|(other, _)| *other != at);
+        let without: String = others.map(|(_, line)| format!("{line}\n")).collect();
         // an m line's own lines go to the media before it, or are second ones
         if let Ok(other) = SessionBuf::parse(without) {
             assert_ne!(other, due, "without {line}");
@@ -265,4 +271,25 @@ fn threads() {
         let names: Vec<_> = (0..2).map(|_| scope.spawn(move || session.session_name())).collect();
         assert!(names.into_iter().all(|name| name.join().unwrap() == "Desk 4"));
     });
+}
+
+/// The README's lines for Rust, compiled and run.
+#[test]
+fn the_readme_s_lines() -> Result<(), Error> {
+    let text = b"v=0\nz=60 -1h\n".to_vec();
+    // README.md:
+    let mut area = sdp::Area::new();                    // 14,558 bytes, no heap; used again for the next text
+    let session = sdp::read(&text, &mut area)?;         // an error prints a sentence with its line
+    for zone in session.time_zones() {
+        println!("{} s from {} on", zone.offset, zone.adjustment_time); // minus one hour is -3600
+    }
+    let mut out = [0; sdp::ROOM];                       // enough for any text that was read
+    let written: &[u8] = session.write(&mut out)?;
+    // so far
+    assert!(written.ends_with(b"\r\nz=60 -1h\r\n"));
+    let behind = include_str!("session.rs").split("    // README.md:\n").nth(1).unwrap();
+    let here = behind.split("    // so far\n").next().unwrap();
+    let here: String = here.lines().map(|line| format!("{}\n", &line[4..])).collect();
+    assert!(page::file("README.md").contains(&format!("```rust\n{here}```\n")), "README.md has these lines:\n{here}");
+    Ok(())
 }

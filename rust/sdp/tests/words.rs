@@ -78,6 +78,7 @@ fn c_says_the_same() {
     for ((said, due), asked) in said.iter().zip(&due).zip(input.lines()) {
         assert_eq!(said, due, "number, line, field, length, room: {asked}");
     }
-    println!("words: {} sentences compared, the longest of {} bytes", due.len(), due.iter().map(String::len).max().unwrap());
-    assert!(due.iter().all(|sentence| sentence.len() < 200));
+    let longest = due.iter().map(String::len).max().unwrap();
+    println!("words: {} sentences compared, the longest of {longest} bytes", due.len());
+    assert!(longest < 199, "the header has 200 bytes for the longest, and it is not cut");
 }
