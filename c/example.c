@@ -1,6 +1,6 @@
-/* Prints what a session description announces, and then its written form: the same as rust/sdp/examples/announce.rs. The
- * text comes from a file or from standard input. The exit status is 0, or 1 for a text that is refused, or 2 where
- * something can't be read or written. From the root of the repository:
+/* Prints what a session description announces, and then its written form, as rust/sdp/examples/announce.rs does. The text
+ * comes from a file or from standard input. The exit status is 0, or 1 for a text that is refused, or 2 where something
+ * can't be read or written. From the root of the repository:
  *
  *     rt staticlib sdp && cc -std=c11 -Ic -o example c/example.c target/staticlib/libsdp.a && ./example FILE
  */

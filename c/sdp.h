@@ -12,11 +12,11 @@
  *     answer = sdp_write(text, text_len, area, sizeof area, out, sizeof out);
  *     if (answer.number == 0) ...                        // the first answer.len bytes of out are the written text
  *
- * Memory. Every function takes bytes with their length, and answers for all contents, all lengths and all numbers. Bytes
- * need no zero behind them and no alignment. What is const must not change during the call. What is not const, the area
- * of sdp_read and the out of sdp_write, must not overlap another argument, and nothing else may touch it during the
- * call. With length 0 a pointer may be anything: it is not used. No function keeps a pointer, allocates, or has state of
- * its own, so threads may call them at the same time on memory of their own.
+ * Memory. Every function takes bytes with their length, and answers for all contents, all lengths and all numbers.
+ * Bytes need no zero behind them and no alignment. What is const must not change during the call. What is not const, the
+ * area of sdp_read and the out of sdp_write, must not overlap another argument, and nothing else may touch it during the
+ * call. With length 0 a pointer may be anything: it is not used. No function keeps a pointer, allocates, or has state
+ * of its own, so threads may call them at the same time on memory of their own.
  *
  * A test (rust/sdp/tests/header.rs) holds this file to the source of the archive.
  */
@@ -138,9 +138,9 @@ struct sdp_numeral sdp_typed_time(const uint8_t *s, size_t s_len);
 
 /* The area.
  *
- * Numbers of 2 and 8 bytes have their lower byte first; nothing is aligned. A string is 4 bytes: its place in the text, 2
- * bytes, then its length, 2 bytes. A mark is 2 bytes: 1 present, 0 absent; an absent field's cells are zero. A table is a
- * count of 2 bytes and then its rows; row n, from 1, starts at SDP_x + 2 + (n - 1) * SDP_x_ROW. An owner is 2 bytes and
+ * Numbers of 2 and 8 bytes have their lower byte first; nothing is aligned. A string is 4 bytes: its place in the text,
+ * 2 bytes, then its length, 2 bytes. A mark is 2 bytes: 1 present, 0 absent; an absent field's cells are zero. A table is
+ * a count of 2 bytes and then its rows; row n, from 1, starts at SDP_x + 2 + (n - 1) * SDP_x_ROW. An owner is 2 bytes and
  * says to what a row belongs, from 1; owners never fall from row to row. */
 enum {
     SDP_ORIGIN = 0,       /* mark, username mark, username, sess-id, version 8 bytes, nettype, addrtype, address.

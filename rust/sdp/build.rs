@@ -4,7 +4,7 @@ fn main() {
     let folder = std::env::var("RATTLE_STATICLIB").unwrap_or(format!("{here}/../../target/staticlib"));
     let archive = format!("{folder}/libsdp.a");
     if !std::path::Path::new(&archive).is_file() {
-        println!("cargo:warning=there is no {archive}: `rt staticlib sdp` makes it; RATTLE_STATICLIB can name its folder");
+        println!("cargo:warning=there is no {archive}: `rt staticlib sdp` makes it; RATTLE_STATICLIB names its folder");
     }
     println!("cargo:rustc-link-search=native={folder}");
     println!("cargo:rustc-link-lib=static=sdp");

@@ -114,7 +114,7 @@ fn tables() {
     assert_eq!(due.len(), TABLES.len());
 }
 
-/// The pairs of a number and a field that there are: each has words for both, and the page's sentences on them are right.
+/// Of the pairs of a number and a field that there are, the page says what is so.
 #[test]
 fn pairs() {
     let with = |number: u64| {

@@ -36,7 +36,7 @@ fn attributes(rows: Rows<sdp::Attribute>) -> Vec<sdp_types::Attribute> {
     .collect()
 }
 
-/// A view as a session of the crate. The conversions of nettype and addrtype are the crate's own, which fold the casing.
+/// A view as a session of the crate. Nettype and addrtype are converted by the crate, which folds their casing.
 fn session(view: sdp::Session) -> sdp_types::Session {
     let origin = view.origin();
     sdp_types::Session {

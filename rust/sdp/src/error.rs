@@ -11,7 +11,7 @@ use std::fmt;
 /// assert_eq!((error.number(), error.line(), error.field()), (9, 2, 28));
 /// assert_eq!(error.to_string(), "line 2: the port is not a whole number below 2^16 (refusal 9)");
 /// ```
-#[derive(Debug, Clone, Copy, PartialEq, Eq)]
+#[derive(Clone, Copy, PartialEq, Eq)]
 pub struct Error(Answer);
 
 impl Error {
@@ -58,6 +58,13 @@ impl fmt::Display for Error {
         }
         words::sentence(f, &self.0)?;
         write!(f, " (refusal {})", self.number())
+    }
+}
+
+/// The sentence here too: it is what `unwrap` prints, and a `main` that returns an error.
+impl fmt::Debug for Error {
+    fn fmt(&self, f: &mut fmt::Formatter<'_>) -> fmt::Result {
+        write!(f, "Error({self})")
     }
 }
 

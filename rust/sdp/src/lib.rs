@@ -1,6 +1,6 @@
-//! Session descriptions (SDP, RFC 8866) read and written by the proved functions of the archive libsdp.a, with the names
-//! of the crate sdp-types. It takes the place of that crate's `Session::parse` and `Session::write`; the typed attributes
-//! stay there: hand the values of [`Session::attributes`] and [`Media::attributes`] on.
+//! Session descriptions (SDP, RFC 8866) read and written by the proved functions of the archive libsdp.a, with the
+//! names of the crate sdp-types. It takes the place of that crate's `Session::parse` and `Session::write`. The typed
+//! attributes stay there: hand on the values of [`Session::attributes`] and [`Media::attributes`].
 //!
 //! | sdp-types | here |
 //! |---|---|
@@ -10,23 +10,23 @@
 //! | `time.start_time`, `media.port`, `zone.offset`, .. | the same |
 //! | `String` | `&str` that stands in the text |
 //! | `NetType`, `AddrType` | `&str`, as it was written: `in` stays `in` |
-//! | `session.origin` where no o line was | [`Session::origin`], the same placeholder; [`Session::origin_line`] is `None` |
+//! | `session.origin` where no o line was | [`Session::origin`]: the same; [`Session::origin_line`] gives `None` |
 //! | `session.write(&mut output)?` | [`Session::write`] into a slice, [`Session::to_vec`], or `to_string()` |
 //! | `ParserError` | [`Error`]: a number, a line, a field, and a sentence |
 //!
 //! # Memory
 //!
-//! The caller lends an [`Area`] of [`Area::SIZE`] bytes, which can be used again for the next text. The [`Session`] that
-//! comes back borrows area and text, and so does all that is taken out of it. Reading, walking and
+//! The caller lends an [`Area`] of [`Area::SIZE`] bytes, which can be used again for the next text. The [`Session`]
+//! that comes back borrows area and text, and so does all that is taken out of it. Reading, walking and
 //! [`write`](Session::write) use no heap. [`SessionBuf`] owns both, for a session that is to be kept.
 //!
 //! A text has at most [`LONGEST`] bytes, and each table has its limit (docs/REFUSALS.md); the crate has neither.
 //!
 //! # Strings
 //!
-//! The reader refuses a text in which a field that it keeps is not UTF-8, so every string of a session is a `&str`. This
-//! is proved of the archive (`well-formed` in docs/AREA.md). The conversion is checked all the same, and panics if the
-//! archive broke that promise; nothing else here panics.
+//! The reader refuses a text in which a field that it keeps is not UTF-8, so every string of a session is a `&str`.
+//! This is proved of the archive (`well-formed` in docs/AREA.md). The conversion is checked all the same, and panics if
+//! the archive broke that promise; nothing else here panics.
 //!
 //! # Example
 //!

@@ -12,7 +12,8 @@ fn announce() -> PathBuf {
     let program = deps.parent().unwrap().parent().unwrap().join("examples/announce");
     let time = |path: &Path| fs::metadata(path).and_then(|file| file.modified()).ok();
     let source = time(Path::new(&path("rust/sdp/examples/announce.rs")));
-    assert!(source.is_some() && time(&program) >= source, "{} is old: cargo build --release --examples", program.display());
+    let fresh = source.is_some() && time(&program) >= source;
+    assert!(fresh, "{} is old: cargo build --release --examples makes it", program.display());
     program
 }
 

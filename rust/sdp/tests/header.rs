@@ -145,7 +145,8 @@ fn c_has_the_source_s_structs() {
 #[test]
 fn rust_has_the_source_s_functions_and_structs() {
     let text = file("rust/sdp/src/ffi.rs");
-    let block = text.split("extern \"C\" {").nth(1).expect("one block of declarations").split("    }\n").next().unwrap();
+    let block = text.split("extern \"C\" {").nth(1).expect("one block of declarations");
+    let block = block.split("    }\n").next().unwrap();
     let types = |function: Function| {
         let kinds = function.parameters.into_iter().map(|(_, kind)| kind).collect::<Vec<_>>();
         (function.name, (kinds, outside(&function.answer).to_string()))

@@ -158,10 +158,11 @@ fn rows() {
 #[test]
 fn written() {
     let due = "v=0\r\no=jdoe 42 7 in IP4 host.example\r\ns=Desk 4\r\ni=The desk\r\nu=http://desk.example\r\n\
-        e=a@b\r\ne=c@d\r\np=+1 2\r\nc=IN ip4 224.0.0.1/15\r\nb=CT:384\r\nb=X-y:5\r\nt=1 2\r\nr=7d 1h 0 25h\r\nr=1 2\r\nt=3 0\r\nt=4 5\r\n\
+        e=a@b\r\ne=c@d\r\np=+1 2\r\nc=IN ip4 224.0.0.1/15\r\nb=CT:384\r\nb=X-y:5\r\n\
+        t=1 2\r\nr=7d 1h 0 25h\r\nr=1 2\r\nt=3 0\r\nt=4 5\r\n\
         r=1m 30 1m\r\nz=60 -1h 61 0 62 30m\r\nk=clear:secret\r\na=recvonly\r\na=note:\r\na=Tool:desk:4\r\n\
-        m=audio 5004/2 RTP/AVP 96 97\r\ni=Stage\r\nc=IN IP4 a\r\nc=IN IP4 b\r\nb=AS:1\r\nk=prompt\r\na=rtpmap:96 L16\r\n\
-        a=RTPMAP:97 L24\r\nm=video 0 p \r\nm=text 65535 x y\r\nc=TN E164 c\r\nb=AS:2\r\na=x\r\n";
+        m=audio 5004/2 RTP/AVP 96 97\r\ni=Stage\r\nc=IN IP4 a\r\nc=IN IP4 b\r\nb=AS:1\r\nk=prompt\r\n\
+        a=rtpmap:96 L16\r\na=RTPMAP:97 L24\r\nm=video 0 p \r\nm=text 65535 x y\r\nc=TN E164 c\r\nb=AS:2\r\na=x\r\n";
     let kept = read(RICH);
     let session = kept.session();
     assert_eq!(session.to_string(), due);
@@ -207,7 +208,9 @@ fn errors() {
     assert_eq!((error.number(), error.line(), error.field(), error.place(), error.len()), (7, 3, 0, 4, 4));
     assert_eq!(refused(b"").to_string(), "there is no version: the first line must be v=0 (refusal 6)");
     assert_eq!(refused(b"v=0\ns=\xe9\n").to_string(), "line 2: the session's name is not UTF-8 (refusal 8)");
-    assert_eq!(refused(b"v=0\nr=1 1\n").to_string(), "line 2: there is an r line with no t line before it (refusal 20)");
+    let sentence = "line 2: there is an r line with no t line before it (refusal 20)";
+    assert_eq!(refused(b"v=0\nr=1 1\n").to_string(), sentence);
+    assert_eq!(format!("{error:?}"), "Error(line 3: the version is not 0 (refusal 7))");
     // as any error of Rust's std
     let boxed: Box<dyn std::error::Error + Send + Sync> = Box::new(error);
     assert_eq!(boxed.to_string(), "line 3: the version is not 0 (refusal 7)");
@@ -244,7 +247,16 @@ fn equality() {
 #[test]
 fn printed_for_a_programmer() {
     let kept = read(b"v=0\ns=Desk 4\nt=60 0\nr=1h 60 0 90\nz=60 -1h\nm=audio 5004 RTP/AVP 96\na=note:\n");
-    let due = r#"Session { origin: Origin { username: None, sess_id: "0", sess_version: 0, nettype: "IN", addrtype: "IP4", unicast_address: "0.0.0.0" }, session_name: "Desk 4", session_description: None, uri: None, emails: [], phones: [], connection: None, bandwidths: [], times: [Time { start_time: 60, stop_time: 0, repeats: [Repeat { repeat_interval: 3600, active_duration: 60, offsets: [0, 90] }] }], time_zones: [TimeZone { adjustment_time: 60, offset: -3600 }], key: None, attributes: [], medias: [Media { media: "audio", port: 5004, num_ports: None, proto: "RTP/AVP", fmt: "96", media_title: None, key: None, connections: [], bandwidths: [], attributes: [Attribute { attribute: "note", value: Some("") }] }] }"#;
+    let due = concat!(
+        r#"Session { origin: Origin { username: None, sess_id: "0", sess_version: 0, nettype: "IN", "#,
+        r#"addrtype: "IP4", unicast_address: "0.0.0.0" }, session_name: "Desk 4", session_description: None, "#,
+        r#"uri: None, emails: [], phones: [], connection: None, bandwidths: [], times: [Time { start_time: 60, "#,
+        r#"stop_time: 0, repeats: [Repeat { repeat_interval: 3600, active_duration: 60, offsets: [0, 90] }] }], "#,
+        r#"time_zones: [TimeZone { adjustment_time: 60, offset: -3600 }], key: None, attributes: [], "#,
+        r#"medias: [Media { media: "audio", port: 5004, num_ports: None, proto: "RTP/AVP", fmt: "96", "#,
+        r#"media_title: None, key: None, connections: [], bandwidths: [], "#,
+        r#"attributes: [Attribute { attribute: "note", value: Some("") }] }] }"#,
+    );
     assert_eq!(format!("{:?}", kept.session()), due);
     assert_eq!(format!("{kept:?}"), due);
     assert_eq!(format!("{:?}", Area::new()), "Area { .. }");

@@ -2,6 +2,7 @@
 //! no x86-64.
 #![allow(dead_code)] // each test file takes what it needs
 use crate::page::path;
+use std::fs::OpenOptions;
 use std::io::Write;
 use std::path::PathBuf;
 use std::process::{Command, Output, Stdio};
@@ -22,7 +23,8 @@ pub fn compiled(source: &str, name: &str) -> PathBuf {
 
 /// A run of a program with its arguments, on this input; its output goes to a file where one is given.
 pub fn run_to(program: &PathBuf, arguments: &[&str], input: &[u8], output: Option<&str>) -> Output {
-    let output = output.map(|file| std::fs::OpenOptions::new().write(true).open(file).expect("the output can be opened"));
+    let open = |file| OpenOptions::new().write(true).open(file).expect("the output can be opened");
+    let output = output.map(open);
     let mut child = Command::new(path("rust/run-x86"))
         .arg(program)
         .args(arguments)
