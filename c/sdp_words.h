@@ -46,6 +46,7 @@ static const char *const sdp_sentences[] = {
 #define SDP_WHOLE "a whole number below 2^64"
 #define SDP_PORT "a whole number below 2^16"
 #define SDP_TIMED "a time below 2^64 seconds: a whole number, then d, h, m, s or nothing"
+#define SDP_SIGNED "a time from -2^63 to 2^63-1 seconds: a - or none, a whole number, then d, h, m, s or nothing"
 #define SDP_TOKEN "a token"
 
 /* The fields 1 to 38: how a sentence names each, and what it must be, where 9 can refuse it. */
@@ -71,7 +72,7 @@ static const char *const sdp_fields[][2] = {
     {"the repeat's duration", SDP_TIMED},
     {"a repeat's offset", SDP_TIMED},
     {"a zone's adjustment time", SDP_WHOLE},
-    {"a zone's offset", "a time from -2^63 to 2^63-1 seconds: a - or none, a whole number, then d, h, m, s or nothing"},
+    {"a zone's offset", SDP_SIGNED},
     {"the attribute's name", ""},
     {"the attribute's value", ""},
     {"the key's method", ""},
@@ -93,6 +94,7 @@ static const char *const sdp_fields[][2] = {
 #undef SDP_WHOLE
 #undef SDP_PORT
 #undef SDP_TIMED
+#undef SDP_SIGNED
 #undef SDP_TOKEN
 
 /* The tables 1 to 10: what each holds, and how many fit. */
@@ -109,6 +111,7 @@ static const char *const sdp_tables[][2] = {
     {"m lines", "32"},
 };
 
+/* Puts words behind what stands in out, as far as they fit. */
 static inline void sdp_put(char *out, size_t out_len, const char *words, size_t words_len) {
     size_t len = strlen(out);
     snprintf(out + len, out_len - len, "%.*s", (int)words_len, words);
@@ -117,33 +120,29 @@ static inline void sdp_put(char *out, size_t out_len, const char *words, size_t 
 /* Puts the sentence of a refusal into out, with a zero byte behind it, cut where out_len is too short. Returns out. */
 static inline const char *sdp_sentence(struct sdp_answer answer, char *out, size_t out_len) {
     static const char *const none[2] = {"", ""};
-#define SDP_ENTRY(list, number) ((number) - 1 < sizeof(list) / sizeof *(list) ? (list)[(number) - 1] : none)
-    const char *const *field = SDP_ENTRY(sdp_fields, answer.field);
-    const char *const *table = SDP_ENTRY(sdp_tables, answer.field);
-#undef SDP_ENTRY
-    const char *rest =
-        answer.number - 1 < sizeof sdp_sentences / sizeof *sdp_sentences ? sdp_sentences[answer.number - 1] : "refused";
+#define SDP_HAS(list, number) ((number) - 1 < sizeof(list) / sizeof *(list))
+    const char *const *field = SDP_HAS(sdp_fields, answer.field) ? sdp_fields[answer.field - 1] : none;
+    const char *const *table = SDP_HAS(sdp_tables, answer.field) ? sdp_tables[answer.field - 1] : none;
+    const char *rest = SDP_HAS(sdp_sentences, answer.number) ? sdp_sentences[answer.number - 1] : "refused";
+#undef SDP_HAS
     char line[32], len[32], number[32];
-    if (out_len == 0) return out;
     snprintf(line, sizeof line, "line %" PRIu64 ": ", answer.line);
     snprintf(len, sizeof len, "%" PRIu64, answer.len);
     snprintf(number, sizeof number, " (refusal %" PRIu64 ")", answer.number);
-    {
-        const char *const known[][2] = {
-            {"{field}", field[0]}, {"{form}", field[1]}, {"{table}", table[0]}, {"{rows}", table[1]}, {"{len}", len}};
-        size_t i, plain;
-        out[0] = 0;
-        if (answer.line > 0) sdp_put(out, out_len, line, sizeof line);
-        for (;;) {
-            plain = strcspn(rest, "{");
-            sdp_put(out, out_len, rest, plain);
-            rest += plain;
-            if (*rest == 0) break;
-            for (i = 0; i < sizeof known / sizeof *known; i++)
-                if (strncmp(rest, known[i][0], strlen(known[i][0])) == 0)
-                    sdp_put(out, out_len, known[i][1], strlen(known[i][1]));
-            rest = strchr(rest, '}') + 1;
-        }
+    const char *const known[][2] = {
+        {"{field}", field[0]}, {"{form}", field[1]}, {"{table}", table[0]}, {"{rows}", table[1]}, {"{len}", len}};
+    if (out_len == 0) return out;
+    out[0] = 0;
+    if (answer.line > 0) sdp_put(out, out_len, line, sizeof line);
+    for (;;) {
+        size_t plain = strcspn(rest, "{");
+        sdp_put(out, out_len, rest, plain);
+        rest += plain;
+        if (*rest == 0) break;
+        for (size_t i = 0; i < sizeof known / sizeof *known; i++)
+            if (strncmp(rest, known[i][0], strlen(known[i][0])) == 0)
+                sdp_put(out, out_len, known[i][1], strlen(known[i][1]));
+        rest = strchr(rest, '}') + 1;
     }
     sdp_put(out, out_len, number, sizeof number);
     return out;

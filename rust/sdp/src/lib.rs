@@ -1,6 +1,6 @@
 //! Session descriptions (SDP, RFC 8866) read and written by the proved functions of the archive libsdp.a, with the
 //! names of the crate sdp-types. It takes the place of that crate's `Session::parse` and `Session::write`. The typed
-//! attributes stay there: hand on the values of [`Session::attributes`] and [`Media::attributes`].
+//! attributes stay there: hand on the values of [`Media::attributes`], as in `sdp_types::RtpMap::from_str(value)`.
 //!
 //! | sdp-types | here |
 //! |---|---|
@@ -25,8 +25,8 @@
 //! # Strings
 //!
 //! The reader refuses a text in which a field that it keeps is not UTF-8, so every string of a session is a `&str`.
-//! This is proved of the archive (`well-formed` in docs/AREA.md). The conversion is checked all the same, and panics if
-//! the archive broke that promise; nothing else here panics.
+//! This is proved of the archive (`well-formed` in docs/AREA.md). The conversion is checked all the same. Nothing here
+//! panics as long as the archive keeps what is proved of it.
 //!
 //! # Example
 //!

@@ -17,8 +17,9 @@ fn announce() -> PathBuf {
     program
 }
 
-fn example() -> PathBuf {
-    c::compiled("c/example.c", "example")
+/// The program of c/example.c; each test has its own, because they run at the same time.
+fn example(test: &str) -> PathBuf {
+    c::compiled("c/example.c", &format!("example-{test}"))
 }
 
 /// Exit status, standard output as Rust would quote it, and standard error without the program's name.
@@ -47,7 +48,7 @@ media: audio to port 49230
 
 #[test]
 fn each_text() {
-    let (rust, c) = (announce(), example());
+    let (rust, c) = (announce(), example("texts"));
     let (mut written, mut refused, mut festival) = (0, 0, false);
     for folder in ["published", "kinds"] {
         for entry in fs::read_dir(path(&format!("texts/{folder}"))).unwrap() {
@@ -87,7 +88,7 @@ fn each_text() {
 /// Standard input, a text that is too long, and what can't be read or written.
 #[test]
 fn inputs_and_statuses() {
-    for (name, program) in [("announce: ", announce()), ("example: ", example())] {
+    for (name, program) in [("announce: ", announce()), ("example: ", example("inputs"))] {
         let run = |arguments: &[&str], input: &[u8]| parts(name, c::run(&program, arguments, input));
         let accepted = b"name: \nv=0\r\no=- 0 0 IN IP4 0.0.0.0\r\ns=\r\nt=0 0\r\n".escape_ascii().to_string();
         assert_eq!(run(&[], b"v=0"), (Some(0), accepted, String::new()));
