@@ -1,4 +1,4 @@
-// What Rust and C call: byte slices and numbers in, numbers out. docs/FFI.md has the C declarations.
+// What Rust and C call: byte slices and numbers in, numbers out. c/sdp.h has the C declarations.
 ghost use mathlib.Core.Path.{_≡_};
 ghost use Rattle.sdp_utf8.specs.Utf8.{utf8End};
 ghost use Rattle.sdp_bytes.specs.Token.{isToken};

@@ -2,7 +2,6 @@
 pub mod area;
 #[cfg(feature = "crate")]
 pub mod bench;
-mod ffi;
 pub mod interrupt;
 pub mod judge;
 pub mod made;
@@ -12,4 +11,4 @@ pub mod placed;
 pub mod theirs;
 #[cfg(feature = "crate")]
 pub mod writing;
-pub use ffi::*;
+pub use sdp::ffi::*;

@@ -1,5 +1,4 @@
 //! Inputs for the comparisons: exhaustive ones over an alphabet, and random ones that a printed seed gives again.
-mod emulator;
 pub mod fields;
 pub mod random;
 pub mod sessions;

@@ -1,11 +1,18 @@
-//! The C interface of the archive libsdp.a, which the Rattle crate `sdp` exports. Nothing checks these declarations
-//! against it, so they stand here only, and `unsafe` too. A Rattle `&[u8]` is a pointer, then a length.
+//! The ten functions of the archive libsdp.a as they are, over slices that are lent. [`crate::read`] and
+//! [`crate::Session::write`] are these with types around them.
+//!
+//! All `unsafe` of the crate is here. Each call is safe for every slice and every number: a Rattle `&[u8]` is a pointer
+//! and a length, the archive reads and writes only within what it is lent, and keeps no pointer (docs/FFI.md). A test
+//! (tests/header.rs) holds the declarations to the source of the archive.
+#![allow(unsafe_code)]
 
-/// A number that was read: `number` 0 and the value; or 8 (not UTF-8) or 9 (bad format), and 0.
+/// A number that was read.
 #[repr(C)]
 #[derive(Debug, Clone, Copy, PartialEq, Eq)]
 pub struct Numeral {
+    /// 0 for read, 8 for not UTF-8, 9 for a bad format
     pub number: u64,
+    /// the number, or 0 where there is none
     pub value: u64,
 }
 
@@ -19,32 +26,41 @@ pub struct Piece {
     pub number: u64,
     /// the number of this line, from 1; not at the end
     pub line: u64,
-    /// of a line of good form, as place and length of its value are
+    /// of a line of good form: the byte before the `=`
     pub letter: u64,
+    /// of a line of good form: where its value starts
     pub place: u64,
+    /// of a line of good form: the bytes of its value
     pub len: u64,
-    /// where the next line starts, and its number; for the kinds 1 and 2
+    /// for the kinds 1 and 2: where the next line starts
     pub next_place: u64,
+    /// for the kinds 1 and 2: its number
     pub next_line: u64,
 }
 
-/// What reading or writing says: `number` 0 for done, else document 01's refusal number and what it names; else 0. A
-/// writer gives the written length as `len`, and with 22 the length needed.
+/// What reading or writing says. What isn't named for a number is 0 (docs/REFUSALS.md).
 #[repr(C)]
 #[derive(Debug, Clone, Copy, PartialEq, Eq, Default)]
 pub struct Answer {
+    /// 0 for done, else the number of the refusal
     pub number: u64,
+    /// of a refused line, from 1
     pub line: u64,
+    /// the field for 8 to 11, the table for 21
     pub field: u64,
+    /// for 7: where the version's value starts
     pub place: u64,
+    /// for 7: the bytes of the version's value; of a writer: the written length, and with 22 the length needed
     pub len: u64,
 }
 
-/// Whether a text's letters are in order: `number` 0 and `yes` 1 or 0; or 1 (text too long) and 0.
+/// Whether a text's letters are in order.
 #[repr(C)]
 #[derive(Debug, Clone, Copy, PartialEq, Eq, Default)]
 pub struct Order {
+    /// 0, or 1 for a text that is too long
     pub number: u64,
+    /// 1 for yes, 0 for no
     pub yes: u64,
 }
 
@@ -76,6 +92,7 @@ pub fn utf8_end(bytes: &[u8]) -> usize {
     unsafe { raw::sdp_utf8_end(bytes.as_ptr(), bytes.len()) }
 }
 
+/// Whether the bytes are a token of RFC 8866.
 pub fn is_token(bytes: &[u8]) -> bool {
     unsafe { raw::sdp_is_token(bytes.as_ptr(), bytes.len()) }
 }
@@ -90,6 +107,7 @@ pub fn number64(bytes: &[u8]) -> Numeral {
     unsafe { raw::sdp_number64(bytes.as_ptr(), bytes.len()) }
 }
 
+/// A number with or without d, h, m or s after it, in seconds.
 pub fn typed_time(bytes: &[u8]) -> Numeral {
     unsafe { raw::sdp_typed_time(bytes.as_ptr(), bytes.len()) }
 }

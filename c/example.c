@@ -1,0 +1,117 @@
+/* Prints what a session description announces, and then its written form, as rust/sdp/examples/announce.rs does. The text
+ * comes from a file or from standard input. The exit status is 0, or 1 for a text that is refused, or 2 where something
+ * can't be read or written. From the root of the repository:
+ *
+ *     rt staticlib sdp && cc -std=c11 -Ic -o target/example c/example.c target/staticlib/libsdp.a
+ *     target/example FILE
+ */
+#include "sdp.h"
+#include "sdp_words.h"
+
+#include <assert.h>
+#include <errno.h>
+
+static uint8_t text[SDP_LONGEST + 1]; /* one byte more, so that a text that is too long is seen */
+static uint8_t area[SDP_AREA_SIZE];
+static uint8_t out[SDP_ROOM];
+
+/* Numbers of the area, lower byte first. */
+static unsigned two(size_t at) {
+    return area[at] | (unsigned)area[at + 1] << 8;
+}
+
+static uint64_t eight(size_t at) {
+    uint64_t number = 0;
+    for (size_t byte = 8; byte > 0; byte--) number = number << 8 | area[at + byte - 1];
+    return number;
+}
+
+/* A zone's offset has a sign. */
+static int64_t signed_eight(size_t at) {
+    uint64_t number = eight(at);
+    int64_t value;
+    memcpy(&value, &number, sizeof value);
+    return value;
+}
+
+/* A string of the area is a place in the text and a length. */
+static void put_string(size_t at) {
+    fwrite(text + two(at), 1, two(at + 2), stdout);
+}
+
+/* Row n of a table, from 1. */
+static size_t row(size_t table, size_t width, unsigned n) {
+    return table + 2 + (n - 1) * width;
+}
+
+static void print_session(void) {
+    printf("name: ");
+    put_string(SDP_NAME);
+    printf("\n");
+    for (unsigned t = 1; t <= two(SDP_TIMES); t++) {
+        size_t time = row(SDP_TIMES, SDP_TIMES_ROW, t);
+        printf("time: %" PRIu64 " to %" PRIu64 "\n", eight(time), eight(time + 8));
+        for (unsigned r = 1; r <= two(SDP_REPEATS); r++) {
+            size_t repeat = row(SDP_REPEATS, SDP_REPEATS_ROW, r);
+            if (two(repeat) != t) continue; /* of another time */
+            printf("  every %" PRIu64 " s for %" PRIu64 " s, from", eight(repeat + 2), eight(repeat + 10));
+            for (unsigned o = 1; o <= two(SDP_OFFSETS); o++) {
+                size_t offset = row(SDP_OFFSETS, SDP_OFFSETS_ROW, o);
+                if (two(offset) == r) printf(" %" PRIu64, eight(offset + 2));
+            }
+            printf("\n");
+        }
+    }
+    for (unsigned z = 1; z <= two(SDP_ZONES); z++) {
+        size_t zone = row(SDP_ZONES, SDP_ZONES_ROW, z);
+        printf("zone: %" PRId64 " s from %" PRIu64 " on\n", signed_eight(zone + 8), eight(zone));
+    }
+    for (unsigned m = 1; m <= two(SDP_MEDIAS); m++) {
+        size_t media = row(SDP_MEDIAS, SDP_MEDIAS_ROW, m);
+        printf("media: ");
+        put_string(media);
+        printf(" to port %u\n", two(media + 4));
+        for (unsigned a = 1; a <= two(SDP_ATTRIBUTES); a++) {
+            size_t attribute = row(SDP_ATTRIBUTES, SDP_ATTRIBUTES_ROW, a);
+            if (two(attribute) != m) continue; /* of the session, or of another media */
+            printf("  ");
+            put_string(attribute + 2);
+            if (two(attribute + 6) == 1) { /* it has a value, if only an empty one */
+                printf(":");
+                put_string(attribute + 8);
+            }
+            printf("\n");
+        }
+    }
+}
+
+static int failed(const char *what) {
+    fprintf(stderr, "example: %s: %s\n", what, strerror(errno));
+    return 2;
+}
+
+static int refused(struct sdp_answer answer) {
+    char sentence[SDP_SENTENCE_SIZE];
+    fprintf(stderr, "example: %s\n", sdp_sentence(answer, sentence, sizeof sentence));
+    return 1;
+}
+
+int main(int argc, char **argv) {
+    assert(sdp_area_size() == SDP_AREA_SIZE); /* this header and this archive belong together */
+
+    const char *name = argc > 1 ? argv[1] : "standard input";
+    FILE *in = argc > 1 ? fopen(name, "rb") : stdin;
+    if (in == NULL) return failed(name);
+    size_t text_len = fread(text, 1, sizeof text, in);
+    if (ferror(in)) return failed(name);
+
+    struct sdp_answer answer = sdp_read(text, text_len, area, sizeof area);
+    if (answer.number != SDP_DONE) return refused(answer);
+    print_session();
+
+    answer = sdp_write(text, text_len, area, sizeof area, out, sizeof out);
+    if (answer.number != SDP_DONE) return refused(answer);
+    fwrite(out, 1, answer.len, stdout);
+    if (fflush(stdout) != 0 || ferror(stdout)) return failed("standard output");
+    return 0;
+}

@@ -1,0 +1,181 @@
+/* Session descriptions (SDP, RFC 8866): the functions of the archive libsdp.a, for x86-64 Linux.
+ *
+ *     rt staticlib sdp                                   # makes target/staticlib/libsdp.a
+ *     cc -Ic program.c target/staticlib/libsdp.a         # a program with it
+ *
+ * In short:
+ *
+ *     static uint8_t area[SDP_AREA_SIZE];
+ *     struct sdp_answer answer = sdp_read(text, text_len, area, sizeof area);
+ *     if (answer.number != 0) ...                        // refused: sdp_words.h makes a sentence of the answer
+ *     ...                                                // the area holds the session: see "The area" below
+ *     answer = sdp_write(text, text_len, area, sizeof area, out, sizeof out);
+ *     if (answer.number == 0) ...                        // the first answer.len bytes of out are the written text
+ *
+ * Memory. Every function takes bytes with their length, and answers for all contents, all lengths and all numbers.
+ * Bytes need no zero behind them and no alignment. What is const must not change during the call. What is not const, the
+ * area of sdp_read and the out of sdp_write, must not overlap another argument, and nothing else may touch it during the
+ * call. With length 0 a pointer may be anything: it is not used. No function keeps a pointer, allocates, or has state
+ * of its own, so threads may call them at the same time on memory of their own.
+ *
+ * A test (rust/sdp/tests/header.rs) holds this file to the source of the archive.
+ */
+#ifndef SDP_H
+#define SDP_H
+
+#include <stdbool.h>
+#include <stddef.h>
+#include <stdint.h>
+
+#ifdef __cplusplus
+extern "C" {
+#endif
+
+enum {
+    SDP_AREA_SIZE = 14558, /* bytes of an area; sdp_area_size() answers the same: assert it once at the start */
+    SDP_LONGEST = 32768,   /* bytes that a text may have */
+    SDP_ROOM = 43727       /* bytes of output that are enough for any text that was read */
+};
+
+/* The number of an answer: 0, or why not. docs/REFUSALS.md has more words, and the numbers of the fields. */
+enum sdp_refusal {
+    SDP_DONE = 0,
+    SDP_TEXT_TOO_LONG = 1,
+    SDP_AREA_TOO_SHORT = 2,
+    SDP_NUL_OR_CR = 3,             /* in a line; gives line */
+    SDP_NO_EQUALS = 4,             /* a line without =; gives line */
+    SDP_EQUALS_NOT_SECOND = 5,     /* the first = is not the line's second byte; gives line */
+    SDP_NO_VERSION = 6,            /* the first line that isn't empty is no v line, or there is none */
+    SDP_VERSION_NOT_0 = 7,         /* gives line, and place and len of the value */
+    SDP_NOT_UTF8 = 8,              /* gives line and field */
+    SDP_BAD_FORM = 9,              /* of a number, a time or a token; gives line and field */
+    SDP_MISSING_FIELD = 10,        /* gives line and field */
+    SDP_TRAILING_DATA = 11,        /* gives line and field */
+    SDP_SECOND_ORIGIN = 12,        /* a second o line; gives line, as do those down to 20 */
+    SDP_SECOND_NAME = 13,          /* s */
+    SDP_SECOND_DESCRIPTION = 14,   /* i of the session */
+    SDP_SECOND_URI = 15,           /* u */
+    SDP_SECOND_CONNECTION = 16,    /* c of the session */
+    SDP_SECOND_ZONES = 17,         /* z */
+    SDP_SECOND_MEDIA_TITLE = 18,   /* i of one media */
+    SDP_SECOND_KEY = 19,           /* k of the session or of one media */
+    SDP_REPEAT_WITHOUT_TIME = 20,  /* an r line with no t line before it */
+    SDP_TABLE_FULL = 21,           /* gives line, and the table as field: 1 emails .. 10 medias, as in "The area" */
+    SDP_OUTPUT_TOO_SHORT = 22,     /* gives as len the bytes that an output needs */
+    SDP_BAD_SESSION = 23           /* the area holds no session for this text */
+};
+
+/* What sdp_read and sdp_write say. What a number doesn't give is 0. */
+struct sdp_answer {
+    uint64_t number; /* enum sdp_refusal */
+    uint64_t line;   /* from 1 */
+    uint64_t field;
+    uint64_t place;  /* from 0 */
+    uint64_t len;    /* on success of sdp_write the written length */
+};
+
+/* A number that was read: number is 0 and value has it; or number is 8 or 9 as above, and value is 0. */
+struct sdp_numeral {
+    uint64_t number;
+    uint64_t value;
+};
+
+/* What stands where a line is due. What a kind doesn't have is 0. */
+struct sdp_piece {
+    uint64_t kind;       /* 0 the end of the text, 1 an empty line, 2 a line of good form, 3 a refused line */
+    uint64_t number;     /* kind 3: the refusal, 3, 4 or 5 */
+    uint64_t line;       /* kinds 1, 2, 3: the number of the line, as it was given */
+    uint64_t letter;     /* kind 2: the byte before the = */
+    uint64_t place;      /* kind 2: where the value starts */
+    uint64_t len;        /* kind 2: the bytes of the value, without the line's ending */
+    uint64_t next_place; /* kinds 1, 2: where the next line starts */
+    uint64_t next_line;  /* kinds 1, 2: its number */
+};
+
+/* Whether letters are in order. */
+struct sdp_order {
+    uint64_t number; /* 0, or 1 for a text that is too long */
+    uint64_t yes;    /* 1 or 0 */
+};
+
+/* Reads a text into the area, which may hold anything before, and may be longer than SDP_AREA_SIZE. On 0 its first
+ * SDP_AREA_SIZE bytes hold the session. After 1 and 2 the area is unchanged, after 3 to 21 these bytes are zero. The
+ * strings of the session are places in the text: keep the text, unchanged, as long as you use the area. */
+struct sdp_answer sdp_read(const uint8_t *text, size_t text_len, uint8_t *area, size_t area_len);
+
+/* Writes the session of an area, given the text that it was read from. On 0 the first len bytes of out are the written
+ * text, each line ended by CR LF, with no zero byte behind. After a refusal (2, 1, 23, 22, judged in this order) out is
+ * unchanged. With out_len 0 it answers 22 and the length that is needed. An area that sdp_read filled is never refused
+ * with 23, given the same text. */
+struct sdp_answer sdp_write(const uint8_t *text, size_t text_len, const uint8_t *area, size_t area_len,
+                            uint8_t *out, size_t out_len);
+
+/* SDP_AREA_SIZE, as the archive has it. */
+size_t sdp_area_size(void);
+
+/* Whether the letters of the text's lines run in the order of RFC 8866. Values are not judged, and sdp_read takes other
+ * orders too. */
+struct sdp_order sdp_letter_order(const uint8_t *text, size_t text_len);
+
+/* What stands at a place of the text, where the line of that number is due. Begin with place 0 and line 1; after the
+ * kinds 1 and 2 go on with next_place and next_line. */
+struct sdp_piece sdp_cut(const uint8_t *text, size_t text_len, size_t place, size_t line);
+
+/* The end of the longest beginning that is well-formed UTF-8: s is UTF-8 exactly when this is s_len. */
+size_t sdp_utf8_end(const uint8_t *s, size_t s_len);
+
+/* Whether s is a token of RFC 8866. */
+bool sdp_is_token(const uint8_t *s, size_t s_len);
+
+/* A whole number below 2^16: a + or none, then digits. */
+struct sdp_numeral sdp_number16(const uint8_t *s, size_t s_len);
+
+/* The same below 2^64. */
+struct sdp_numeral sdp_number64(const uint8_t *s, size_t s_len);
+
+/* A whole number, then d, h, m, s or nothing: in seconds, below 2^64. */
+struct sdp_numeral sdp_typed_time(const uint8_t *s, size_t s_len);
+
+/* The area.
+ *
+ * Numbers of 2 and 8 bytes have their lower byte first; nothing is aligned. A string is 4 bytes: its place in the text,
+ * 2 bytes, then its length, 2 bytes. A mark is 2 bytes: 1 present, 0 absent; an absent field's cells are zero. A table is
+ * a count of 2 bytes and then its rows; row n, from 1, starts at SDP_x + 2 + (n - 1) * SDP_x_ROW. An owner is 2 bytes and
+ * says to what a row belongs, from 1; owners never fall from row to row. */
+enum {
+    SDP_ORIGIN = 0,       /* mark, username mark, username, sess-id, version 8 bytes, nettype, addrtype, address.
+                             Where the mark is 0 the origin is - 0 0 IN IP4 0.0.0.0 */
+    SDP_NAME = 32,        /* string; empty where there is no s line */
+    SDP_DESCRIPTION = 36, /* mark, string */
+    SDP_URI = 42,         /* mark, string */
+    SDP_CONNECTION = 48,  /* of the session: mark, nettype, addrtype, address */
+    SDP_KEY = 62,         /* of the session: mark, method, text mark, text */
+
+    SDP_EMAILS = 74,
+    SDP_EMAILS_ROW = 4, /* string */
+    SDP_PHONES = 140,
+    SDP_PHONES_ROW = 4, /* string */
+    SDP_MEDIA_CONNECTIONS = 206,
+    SDP_MEDIA_CONNECTIONS_ROW = 14, /* owner: the media; nettype, addrtype, address */
+    SDP_BANDWIDTHS = 1104,
+    SDP_BANDWIDTHS_ROW = 14, /* owner: 0 the session, else the media; type; value 8 bytes */
+    SDP_TIMES = 2002,
+    SDP_TIMES_ROW = 16, /* start 8 bytes, stop 8 bytes */
+    SDP_REPEATS = 2516,
+    SDP_REPEATS_ROW = 18, /* owner: the time; interval 8 bytes, duration 8 bytes, in seconds */
+    SDP_OFFSETS = 3670,
+    SDP_OFFSETS_ROW = 10, /* owner: the repeat; 8 bytes, in seconds */
+    SDP_ZONES = 6232,
+    SDP_ZONES_ROW = 16, /* adjustment time 8 bytes; offset 8 bytes, SIGNED (two's complement), in seconds */
+    SDP_ATTRIBUTES = 7258,
+    SDP_ATTRIBUTES_ROW = 12, /* owner: 0 the session, else the media; name; value mark; value */
+    SDP_MEDIAS = 13404,
+    SDP_MEDIAS_ROW = 36 /* media; port 2 bytes; num-ports mark; num-ports 2 bytes; proto; fmt; title mark; title;
+                           key mark; key method; key text mark; key text */
+};
+
+#ifdef __cplusplus
+}
+#endif
+
+#endif

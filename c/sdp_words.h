@@ -1,0 +1,151 @@
+/* A sentence for each refusal of sdp_read and sdp_write, such as
+ *
+ *     line 2: the start time is not a whole number below 2^64 (refusal 9)
+ *
+ * The words are those of docs/REFUSALS.md; a test (rust/sdp/tests/words.rs) holds them together.
+ */
+#ifndef SDP_WORDS_H
+#define SDP_WORDS_H
+
+#include "sdp.h"
+
+#include <inttypes.h>
+#include <stdio.h>
+#include <string.h>
+
+/* Enough for any sentence and the zero byte behind it; the test tries them all. */
+enum { SDP_SENTENCE_SIZE = 200 };
+
+/* The sentences of 1 to 23. What stands in braces is put in. */
+static const char *const sdp_sentences[] = {
+    "the text has more than 32768 bytes",
+    "the area has fewer than 14558 bytes",
+    "there is a NUL or a CR in the line",
+    "the line has no =",
+    "the first = is not the second byte of the line",
+    "there is no version: the first line must be v=0",
+    "the version is not 0",
+    "{field} is not UTF-8",
+    "{field} is not {form}",
+    "{field} is missing",
+    "{field} must not be there",
+    "there is a second o line",
+    "there is a second s line",
+    "there is a second i line of the session",
+    "there is a second u line",
+    "there is a second c line of the session",
+    "there is a second z line",
+    "there is a second i line in this media",
+    "there is a second k line",
+    "there is an r line with no t line before it",
+    "there are more than {rows} {table}",
+    "the output is too short: {len} bytes are needed",
+    "the area holds no session for this text",
+};
+
+#define SDP_WHOLE "a whole number below 2^64"
+#define SDP_PORT "a whole number below 2^16"
+#define SDP_TIMED "a time below 2^64 seconds: a whole number, then d, h, m, s or nothing"
+#define SDP_SIGNED "a time from -2^63 to 2^63-1 seconds: a - or none, a whole number, then d, h, m, s or nothing"
+#define SDP_TOKEN "a token"
+
+/* The fields 1 to 38: how a sentence names each, and what it must be, where 9 can refuse it. */
+static const char *const sdp_fields[][2] = {
+    {"the origin's username", ""},
+    {"the origin's session id", ""},
+    {"the origin's version", SDP_WHOLE},
+    {"the origin's network type", SDP_TOKEN},
+    {"the origin's address type", SDP_TOKEN},
+    {"the origin's address", ""},
+    {"what follows the origin's address", ""},
+    {"the connection's network type", SDP_TOKEN},
+    {"the connection's address type", SDP_TOKEN},
+    {"the connection's address", ""},
+    {"what follows the connection's address", ""},
+    {"the bandwidth's type", ""},
+    {"the bandwidth's value", SDP_WHOLE},
+    {"what follows the bandwidth's value", ""},
+    {"the start time", SDP_WHOLE},
+    {"the stop time", SDP_WHOLE},
+    {"what follows the stop time", ""},
+    {"the repeat interval", SDP_TIMED},
+    {"the repeat's duration", SDP_TIMED},
+    {"a repeat's offset", SDP_TIMED},
+    {"a zone's adjustment time", SDP_WHOLE},
+    {"a zone's offset", SDP_SIGNED},
+    {"the attribute's name", ""},
+    {"the attribute's value", ""},
+    {"the key's method", ""},
+    {"the key", ""},
+    {"the media's name", ""},
+    {"the port", SDP_PORT},
+    {"the port's encoding", ""},
+    {"the number of ports", SDP_PORT},
+    {"the media's protocol", ""},
+    {"the media's formats", ""},
+    {"the media's title", ""},
+    {"the session's name", ""},
+    {"the session's description", ""},
+    {"the URI", ""},
+    {"the e-mail address", ""},
+    {"the phone number", ""},
+};
+
+#undef SDP_WHOLE
+#undef SDP_PORT
+#undef SDP_TIMED
+#undef SDP_SIGNED
+#undef SDP_TOKEN
+
+/* The tables 1 to 10: what each holds, and how many fit. */
+static const char *const sdp_tables[][2] = {
+    {"e lines", "16"},
+    {"p lines", "16"},
+    {"c lines of medias", "64"},
+    {"b lines", "64"},
+    {"t lines", "32"},
+    {"r lines", "64"},
+    {"offsets in r lines", "256"},
+    {"pairs in the z line", "64"},
+    {"a lines", "512"},
+    {"m lines", "32"},
+};
+
+/* Puts words behind what stands in out, as far as they fit. */
+static inline void sdp_put(char *out, size_t out_len, const char *words, size_t words_len) {
+    size_t len = strlen(out);
+    snprintf(out + len, out_len - len, "%.*s", (int)words_len, words);
+}
+
+/* Puts the sentence of a refusal into out, with a zero byte behind it, cut where out_len is too short. Returns out. */
+static inline const char *sdp_sentence(struct sdp_answer answer, char *out, size_t out_len) {
+    static const char *const none[2] = {"", ""};
+#define SDP_HAS(list, number) ((number) - 1 < sizeof(list) / sizeof *(list))
+    const char *const *field = SDP_HAS(sdp_fields, answer.field) ? sdp_fields[answer.field - 1] : none;
+    const char *const *table = SDP_HAS(sdp_tables, answer.field) ? sdp_tables[answer.field - 1] : none;
+    const char *rest = SDP_HAS(sdp_sentences, answer.number) ? sdp_sentences[answer.number - 1] : "refused";
+#undef SDP_HAS
+    char line[32], len[32], number[32];
+    snprintf(line, sizeof line, "line %" PRIu64 ": ", answer.line);
+    snprintf(len, sizeof len, "%" PRIu64, answer.len);
+    snprintf(number, sizeof number, " (refusal %" PRIu64 ")", answer.number);
+    const char *const known[][2] = {
+        {"{field}", field[0]}, {"{form}", field[1]}, {"{table}", table[0]}, {"{rows}", table[1]}, {"{len}", len}};
+    if (out_len == 0) return out;
+    out[0] = 0;
+    if (answer.line > 0) sdp_put(out, out_len, line, sizeof line);
+    for (;;) {
+        size_t plain = strcspn(rest, "{");
+        sdp_put(out, out_len, rest, plain);
+        rest += plain;
+        if (*rest == 0) break;
+        for (size_t i = 0; i < sizeof known / sizeof *known; i++)
+            if (strncmp(rest, known[i][0], strlen(known[i][0])) == 0)
+                sdp_put(out, out_len, known[i][1], strlen(known[i][1]));
+        rest = strchr(rest, '}') + 1;
+    }
+    sdp_put(out, out_len, number, sizeof number);
+    return out;
+}
+
+#endif

@@ -1,0 +1,133 @@
+//! docs/REFUSALS.md and the words of the crate `sdp` have the numbers of document 01: of the refusals with what each
+//! gives, of the fields and of the tables, none less and none more.
+#[path = "../../sdp/tests/page/mod.rs"]
+mod pages;
+use generate::sessions::PAIRS;
+use pages::{file, table};
+use sdp::words::{Field, FIELDS, SENTENCES, TABLES};
+use std::collections::{BTreeMap, BTreeSet};
+
+fn paper() -> String {
+    file("../shared/docs/01-scope.md")
+}
+
+/// The paragraph of document 01 under a heading that starts with this word.
+fn paragraph(heading: &str, start: &str) -> String {
+    let paper = paper();
+    let under = paper.lines().skip_while(|line| *line != format!("## {heading}")).skip(1);
+    let mut found = under.take_while(|line| !line.starts_with('#')).filter(|line| line.starts_with(start));
+    let line = found.next().unwrap_or_else(|| panic!("document 01 has a paragraph {start:?} under {heading:?}"));
+    assert_eq!(found.next(), None);
+    line.to_string()
+}
+
+/// The page's rows by their number.
+fn rows(heading: &str) -> BTreeMap<u64, Vec<String>> {
+    let rows = table("docs/REFUSALS.md", heading);
+    let count = rows.len();
+    let by_number: BTreeMap<u64, _> = rows.into_iter().map(|row| (row[0].parse().expect("a number"), row)).collect();
+    assert_eq!(by_number.len(), count, "each number has one row under {heading}");
+    by_number
+}
+
+/// What a cell says is given besides the number.
+fn given(cell: &str) -> BTreeSet<&'static str> {
+    ["line", "field", "place", "length"].into_iter().filter(|word| cell.contains(word)).collect()
+}
+
+#[test]
+fn refusals() {
+    let paper = paper();
+    let under = paper.lines().skip_while(|line| *line != "## Refusal numbers");
+    let lines = under.skip_while(|line| !line.starts_with('|')).take_while(|line| line.starts_with('|')).skip(2);
+    let mut due = BTreeMap::new();
+    for line in lines {
+        let cells: Vec<&str> = line.trim_matches('|').split('|').map(str::trim).collect();
+        for item in cells[0].split(", ") {
+            // `12 o` is the number with the letter of its line
+            let mut words = item.split(' ');
+            let number: u64 = words.next().unwrap().parse().expect("a number");
+            let before = due.insert(number, (words.next().map(String::from), given(cells[2])));
+            assert_eq!(before, None, "{number} stands once");
+        }
+    }
+    let page = rows("Refusals");
+    assert_eq!(page.keys().collect::<Vec<_>>(), due.keys().collect::<Vec<_>>());
+    assert_eq!(due.len(), SENTENCES.len());
+    for (number, (letter, gives)) in &due {
+        let row = &page[number];
+        assert_eq!(given(&row[2]), *gives, "what refusal {number} gives");
+        if let Some(letter) = letter {
+            assert!(row[3].contains(&format!(" second {letter} line")), "{}", row[3]);
+        }
+    }
+    println!("sentences: {} refusals", due.len());
+}
+
+/// `1-6 o in order, 7 o trailing; 8-10 c, ..`: each number with the words behind it.
+#[test]
+fn fields() {
+    let paragraph = paragraph("Refusal numbers", "Fields: ");
+    let list = paragraph.trim_start_matches("Fields: ").trim_end_matches('.');
+    let mut due: BTreeMap<u64, Vec<String>> = BTreeMap::new();
+    for item in list.split([';', ',']).map(str::trim) {
+        let (numbers, words) = item.split_once(' ').expect("a number and words");
+        let (first, last) = numbers.split_once('-').unwrap_or((numbers, numbers));
+        for number in first.parse().unwrap()..=last.parse().unwrap() {
+            let words = words.split(' ').map(String::from).collect();
+            assert_eq!(due.insert(number, words), None, "field {number} stands once");
+        }
+    }
+    let page = rows("Fields");
+    assert_eq!(page.keys().collect::<Vec<_>>(), due.keys().collect::<Vec<_>>());
+    assert_eq!(due.len(), FIELDS.len());
+    for (number, words) in &due {
+        let [_, line, name, _] = &page[number][..] else { panic!("a field has four cells") };
+        for word in words {
+            let fits = match &word[..] {
+                "trailing" => name.starts_with("what follows "),
+                "in" | "order" => true,
+                "num-ports" => name == "the number of ports",
+                "fmt" => name.ends_with("formats"),
+                letter if letter.len() == 1 => line.split(' ').next() == Some(letter),
+                word => name.contains(word) || line.contains(word),
+            };
+            assert!(fits, "field {number}: document 01 says {words:?}, the page {line:?} and {name:?}");
+        }
+    }
+    println!("sentences: {} fields", due.len());
+}
+
+#[test]
+fn tables() {
+    let paragraph = paragraph("Tables", "1 emails");
+    let list = paragraph.split('.').next().unwrap();
+    let due: Vec<(u64, String)> = list
+        .split(';')
+        .map(|item| {
+            let words: Vec<&str> = item.split_whitespace().collect();
+            (words[0].parse().unwrap(), words[words.len() - 1].to_string())
+        })
+        .collect();
+    let page: Vec<(u64, String)> = rows("Tables").into_iter().map(|(number, row)| (number, row[2].clone())).collect();
+    assert_eq!(page, due);
+    assert_eq!(due.len(), TABLES.len());
+}
+
+/// Of the pairs of a number and a field that there are, the page says what is so.
+#[test]
+fn pairs() {
+    let with = |number: u64| {
+        let fields = PAIRS.iter().filter(|pair| pair.0 == number).map(|pair| pair.1 as usize);
+        fields.collect::<BTreeSet<_>>()
+    };
+    let named = |test: fn(&Field) -> bool| {
+        let numbers = (1..=FIELDS.len()).filter(|number| test(&FIELDS[number - 1]));
+        numbers.collect::<BTreeSet<_>>()
+    };
+    assert_eq!(named(|field| !field.form.is_empty()), with(9), "9 has a form for each of its fields, and no other");
+    assert_eq!(named(|field| field.name.starts_with("what follows ")), with(11));
+    assert_eq!(with(11).into_iter().collect::<Vec<_>>(), [7, 11, 14, 17]);
+    let of_29: Vec<u64> = PAIRS.iter().filter(|pair| pair.1 == 29).map(|pair| pair.0).collect();
+    assert_eq!(of_29, [8]);
+}

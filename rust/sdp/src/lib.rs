@@ -1,0 +1,154 @@
+//! Session descriptions (SDP, RFC 8866) read and written by the proved functions of the archive libsdp.a, with the
+//! names of the crate sdp-types. It takes the place of that crate's `Session::parse` and `Session::write`. The typed
+//! attributes stay there: hand on the values of [`Media::attributes`], as in `sdp_types::RtpMap::from_str(value)`.
+//!
+//! | sdp-types | here |
+//! |---|---|
+//! | `Session::parse(&data)?` | [`read`]`(&data, &mut area)?`, or [`SessionBuf::parse`]`(data)?` to keep it |
+//! | `session.times`, `media.attributes`, .. | `session.times()`, `media.attributes()`, ..: read as they are walked |
+//! | `session.session_name`, `session.key`, .. | `session.session_name()`, `session.key()`, .. |
+//! | `time.start_time`, `media.port`, `zone.offset`, .. | the same |
+//! | `String` | `&str` that stands in the text |
+//! | `NetType`, `AddrType` | `&str`, as it was written: `in` stays `in` |
+//! | `session.origin` where no o line was | [`Session::origin`]: the same; [`Session::origin_line`] gives `None` |
+//! | `session.write(&mut output)?` | [`Session::write`] into a slice, [`Session::to_vec`], or `to_string()` |
+//! | `ParserError` | [`Error`]: a number, a line, a field, and a sentence |
+//!
+//! # Memory
+//!
+//! The caller lends an [`Area`] of [`Area::SIZE`] bytes, which can be used again for the next text. The [`Session`]
+//! that comes back borrows area and text, and so does all that is taken out of it. Reading, walking and
+//! [`write`](Session::write) use no heap. [`SessionBuf`] owns both, for a session that is to be kept.
+//!
+//! A text has at most [`LONGEST`] bytes, and each table has its limit (docs/REFUSALS.md); the crate has neither.
+//!
+//! # Strings
+//!
+//! The reader refuses a text in which a field that it keeps is not UTF-8, so every string of a session is a `&str`.
+//! This is proved of the archive (`well-formed` in docs/AREA.md). The conversion is checked all the same. Nothing here
+//! panics as long as the archive keeps what is proved of it.
+//!
+//! # Example
+//!
+//! This is `examples/announce.rs`.
+//!
+//! ```no_run
+#![doc = include_str!("../examples/announce.rs")]
+//! ```
+//!
+//! The sign of a zone's offset is kept: minus one hour stays minus one hour.
+//!
+//! ```
+//! let text = b"v=0\ns=Desk 4\nt=60 0\nz=60 -1h\n";
+//! let mut area = sdp::Area::new();
+//! let session = sdp::read(text, &mut area)?;
+//! assert_eq!(session.session_name(), "Desk 4");
+//! assert_eq!(session.time_zones().next().unwrap().offset, -3600);
+//! let mut out = [0; 100];
+//! let written = session.write(&mut out)?;
+//! assert_eq!(written, b"v=0\r\no=- 0 0 IN IP4 0.0.0.0\r\ns=Desk 4\r\nt=60 0\r\nz=60 -1h\r\n");
+//!
+//! let refused = sdp::read(b"v=0\nt=now 0\n", &mut area).unwrap_err();
+//! assert_eq!(refused.to_string(), "line 2: the start time is not a whole number below 2^64 (refusal 9)");
+//! # Ok::<(), sdp::Error>(())
+//! ```
+#![deny(unsafe_code, missing_docs)]
+
+#[cfg(not(all(target_arch = "x86_64", target_os = "linux")))]
+compile_error!("the archive libsdp.a is for x86-64 Linux");
+
+mod area;
+mod error;
+pub mod ffi;
+mod session;
+pub mod words;
+
+pub use area::Area;
+pub use error::Error;
+pub use session::{
+    Attribute, Bandwidth, Connection, Key, Media, Origin, Repeat, Rows, Session, SessionBuf, Time, TimeZone,
+};
+
+/// Bytes that a text may have: the reader refuses a longer one with 1.
+pub const LONGEST: usize = 32_768;
+
+/// Bytes that are enough for the written form of any text that was read: the theorem `room` in docs/THEOREMS.md.
+pub const ROOM: usize = 43_727;
+
+/// Reads a text into the area, as the crate's `Session::parse` does.
+///
+/// The session borrows both, so neither can change or go away while it is used:
+///
+/// ```
+/// let mut area = sdp::Area::new();
+/// for text in ["v=0\ns=one\n", "v=0\ns=two\n"] {
+///     let session = sdp::read(text.as_bytes(), &mut area).unwrap(); // the area is used again
+///     println!("{}", session.session_name());
+/// }
+/// ```
+///
+/// These are refused by the compiler. The text may not end before the session:
+///
+/// ```compile_fail,E0597
+/// let mut area = sdp::Area::new();
+/// let session = {
+///     let text = b"v=0\ns=one\n".to_vec();
+///     sdp::read(&text, &mut area).unwrap()
+/// };
+/// println!("{}", session.session_name());
+/// ```
+///
+/// Nor the area:
+///
+/// ```compile_fail,E0597
+/// let session = {
+///     let mut area = sdp::Area::new();
+///     sdp::read(b"v=0\ns=one\n", &mut area).unwrap()
+/// };
+/// println!("{}", session.session_name());
+/// ```
+///
+/// And another text can't be read into the area while the session of the first is used:
+///
+/// ```compile_fail,E0499
+/// let mut area = sdp::Area::new();
+/// let one = sdp::read(b"v=0\ns=one\n", &mut area).unwrap();
+/// let two = sdp::read(b"v=0\ns=two\n", &mut area).unwrap();
+/// println!("{} {}", one.session_name(), two.session_name());
+/// ```
+///
+/// What was taken out of a session lives as long as text and area do, and may outlive the `Session` itself:
+///
+/// ```
+/// let mut area = sdp::Area::new();
+/// let name = sdp::read(b"v=0\ns=one\n", &mut area).unwrap().session_name();
+/// assert_eq!(name, "one");
+/// ```
+///
+/// # Errors
+///
+/// The refusals 1 and 3 to 21 of docs/REFUSALS.md: the first line that is refused decides.
+#[inline] // so that only a program that reads needs the archive to have it
+pub fn read<'a>(text: &'a [u8], area: &'a mut Area) -> Result<Session<'a>, Error> {
+    area.read(text)?;
+    Ok(Session::new(text, area))
+}
+
+/// Whether the letters of the text's lines run in the order of RFC 8866. Receivers take other orders too, and so does
+/// [`read`]; who wants to know asks here.
+///
+/// ```
+/// assert_eq!(sdp::letter_order(b"v=0\no=- 0 0 IN IP4 h\ns=x\nt=0 0\n"), Ok(true));
+/// assert_eq!(sdp::letter_order(b"v=0\ns=x\no=- 0 0 IN IP4 h\nt=0 0\n"), Ok(false));
+/// ```
+///
+/// # Errors
+///
+/// Refusal 1, for a text of more than [`LONGEST`] bytes.
+#[inline]
+pub fn letter_order(text: &[u8]) -> Result<bool, Error> {
+    let order = ffi::letter_order(text);
+    let answer = ffi::Answer { number: order.number, ..ffi::Answer::default() };
+    Error::check(answer)?;
+    Ok(order.yes == 1)
+}

@@ -1,0 +1,598 @@
+//! The view: a session read out of the area as it is walked. The places are those of docs/AREA.md.
+use crate::{ffi, Area, Error, ROOM};
+use std::fmt;
+use std::ops::Range;
+
+/// Where a table stands, and the bytes of a row. Two bytes before the first row have the count.
+#[derive(Clone, Copy)]
+struct Table {
+    at: usize,
+    width: usize,
+}
+
+const ORIGIN: usize = 0;
+const NAME: usize = 32;
+const DESCRIPTION: usize = 36;
+const URI: usize = 42;
+const CONNECTION: usize = 48;
+const KEY: usize = 62;
+const EMAILS: Table = Table { at: 74, width: 4 };
+const PHONES: Table = Table { at: 140, width: 4 };
+const CONNECTIONS: Table = Table { at: 206, width: 14 };
+const BANDWIDTHS: Table = Table { at: 1_104, width: 14 };
+const TIMES: Table = Table { at: 2_002, width: 16 };
+const REPEATS: Table = Table { at: 2_516, width: 18 };
+const OFFSETS: Table = Table { at: 3_670, width: 10 };
+const ZONES: Table = Table { at: 6_232, width: 16 };
+const ATTRIBUTES: Table = Table { at: 7_258, width: 12 };
+const MEDIAS: Table = Table { at: 13_404, width: 36 };
+
+/// The owner that is the session itself.
+const SESSION: usize = 0;
+/// Where a row's own cells begin in a table that has owners.
+const OWNED: usize = 2;
+
+/// Cells of the area from some place on, and the text that their strings stand in.
+#[derive(Clone, Copy)]
+struct Cells<'a> {
+    text: &'a [u8],
+    bytes: &'a [u8],
+}
+
+impl<'a> Cells<'a> {
+    fn from(self, at: usize) -> Self {
+        Cells { text: self.text, bytes: &self.bytes[at..] }
+    }
+
+    fn two(self, at: usize) -> u16 {
+        u16::from_le_bytes([self.bytes[at], self.bytes[at + 1]])
+    }
+
+    fn eight(self, at: usize) -> u64 {
+        (0..8).rev().fold(0, |number, byte| number << 8 | u64::from(self.bytes[at + byte]))
+    }
+
+    /// The place in the text, then the length.
+    fn string(self, at: usize) -> &'a str {
+        let (place, len) = (usize::from(self.two(at)), usize::from(self.two(at + 2)));
+        let bytes = self.text.get(place..place + len).expect("the reader's strings stand in the text");
+        std::str::from_utf8(bytes).expect("the reader's strings are UTF-8")
+    }
+
+    /// What a mark says is there: the cells behind it, taken.
+    fn marked<T>(self, at: usize, take: impl FnOnce(Self) -> T) -> Option<T> {
+        (self.two(at) == 1).then(|| take(self.from(at + 2)))
+    }
+
+    fn marked_string(self, at: usize) -> Option<&'a str> {
+        self.marked(at, |cells| cells.string(0))
+    }
+
+    fn origin(self) -> Origin<'a> {
+        Origin {
+            username: self.marked_string(0),
+            sess_id: self.string(6),
+            sess_version: self.eight(10),
+            nettype: self.string(18),
+            addrtype: self.string(22),
+            unicast_address: self.string(26),
+        }
+    }
+
+    fn connection(self) -> Connection<'a> {
+        Connection { nettype: self.string(0), addrtype: self.string(4), connection_address: self.string(8) }
+    }
+
+    fn key(self) -> Key<'a> {
+        Key { method: self.string(0), encryption_key: self.marked_string(4) }
+    }
+}
+
+/// Originator of the session: the o line.
+#[derive(Debug, Clone, Copy, PartialEq, Eq)]
+pub struct Origin<'a> {
+    /// User's login on the originating host; `None` for `-`.
+    pub username: Option<&'a str>,
+    /// Session id. RFC 8866 wants digits; this is not checked, as in the crate.
+    pub sess_id: &'a str,
+    /// Session version number.
+    pub sess_version: u64,
+    /// Type of network, as it was written: the crate folds `in` to `IN`.
+    pub nettype: &'a str,
+    /// Type of the address, as it was written: the crate folds `ip4` to `IP4`.
+    pub addrtype: &'a str,
+    /// Address where the session was created.
+    pub unicast_address: &'a str,
+}
+
+/// What a missing o line stands for.
+const PLACEHOLDER: Origin<'static> = Origin {
+    username: None,
+    sess_id: "0",
+    sess_version: 0,
+    nettype: "IN",
+    addrtype: "IP4",
+    unicast_address: "0.0.0.0",
+};
+
+/// Connection data of the session or of a media: a c line.
+#[derive(Debug, Clone, Copy, PartialEq, Eq)]
+pub struct Connection<'a> {
+    /// Type of network, as it was written.
+    pub nettype: &'a str,
+    /// Type of the address, as it was written.
+    pub addrtype: &'a str,
+    /// Connection address.
+    pub connection_address: &'a str,
+}
+
+/// Bandwidth of the session or of a media: a b line.
+#[derive(Debug, Clone, Copy, PartialEq, Eq)]
+pub struct Bandwidth<'a> {
+    /// Bandwidth type, such as `CT` or `AS`.
+    pub bwtype: &'a str,
+    /// Bandwidth.
+    pub bandwidth: u64,
+}
+
+/// When the session is active: a t line with its r lines.
+#[derive(Clone, Copy)]
+pub struct Time<'a> {
+    session: Session<'a>,
+    number: usize,
+    /// Start time, in seconds since 1900.
+    pub start_time: u64,
+    /// Stop time, in seconds since 1900; 0 for no end.
+    pub stop_time: u64,
+}
+
+impl<'a> Time<'a> {
+    /// The r lines behind this t line.
+    pub fn repeats(&self) -> Rows<'a, Repeat<'a>> {
+        self.session.owned(REPEATS, self.number, |session, number| {
+            let cells = session.row(REPEATS, number).from(OWNED);
+            Repeat { session, number, repeat_interval: cells.eight(0), active_duration: cells.eight(8) }
+        })
+    }
+}
+
+/// When a time repeats: an r line. All in seconds.
+#[derive(Clone, Copy)]
+pub struct Repeat<'a> {
+    session: Session<'a>,
+    number: usize,
+    /// From one start to the next.
+    pub repeat_interval: u64,
+    /// How long it lasts each time.
+    pub active_duration: u64,
+}
+
+impl<'a> Repeat<'a> {
+    /// The offsets from the start time.
+    pub fn offsets(&self) -> Rows<'a, u64> {
+        self.session.owned(OFFSETS, self.number, |session, number| session.row(OFFSETS, number).from(OWNED).eight(0))
+    }
+}
+
+/// A pair of the z line: from when on the clock is shifted, and by how much.
+#[derive(Debug, Clone, Copy, PartialEq, Eq)]
+pub struct TimeZone {
+    /// When the shift begins, in seconds since 1900.
+    pub adjustment_time: u64,
+    /// The shift in seconds, with its sign: -3600 is minus one hour.
+    pub offset: i64,
+}
+
+/// Encryption key of the session or of a media: a k line.
+#[derive(Debug, Clone, Copy, PartialEq, Eq)]
+pub struct Key<'a> {
+    /// Key method.
+    pub method: &'a str,
+    /// The key itself; `None` where the line has no colon.
+    pub encryption_key: Option<&'a str>,
+}
+
+/// Attribute of the session or of a media: an a line.
+#[derive(Debug, Clone, Copy, PartialEq, Eq)]
+pub struct Attribute<'a> {
+    /// Attribute name.
+    pub attribute: &'a str,
+    /// Attribute value: `None` for `a=x`, empty for `a=x:`.
+    pub value: Option<&'a str>,
+}
+
+/// A media: an m line and the lines behind it.
+#[derive(Clone, Copy)]
+pub struct Media<'a> {
+    session: Session<'a>,
+    number: usize,
+    /// Media type, such as `audio`.
+    pub media: &'a str,
+    /// Port that the media is sent to.
+    pub port: u16,
+    /// Number of ports from `port` on.
+    pub num_ports: Option<u16>,
+    /// Transport protocol.
+    pub proto: &'a str,
+    /// Media formats, all of them as they stand in the line.
+    pub fmt: &'a str,
+    /// Title of the media: its i line.
+    pub media_title: Option<&'a str>,
+    /// Encryption key of the media.
+    pub key: Option<Key<'a>>,
+}
+
+/// What the crate has of attributes by their name, for the session and for a media.
+macro_rules! attributes_by_name {
+    () => {
+        /// Whether there is an attribute of this name. Case doesn't count.
+        pub fn has_attribute(&self, name: &str) -> bool {
+            self.get_first_attribute_value(name).is_some()
+        }
+
+        /// The value of the first attribute of this name. The outer `Option` says whether there is such an attribute,
+        /// the inner one whether it has a value.
+        pub fn get_first_attribute_value(&self, name: &str) -> Option<Option<&'a str>> {
+            self.get_attribute_values(name).next()
+        }
+
+        /// The values of all attributes of this name. Case doesn't count.
+        pub fn get_attribute_values<'n>(&self, name: &'n str) -> impl Iterator<Item = Option<&'a str>> + 'n
+        where
+            'a: 'n,
+        {
+            let named = self.attributes().filter(move |row| row.attribute.eq_ignore_ascii_case(name));
+            named.map(|row| row.value)
+        }
+    };
+}
+
+impl<'a> Media<'a> {
+    /// The media's c lines.
+    pub fn connections(&self) -> Rows<'a, Connection<'a>> {
+        self.session.owned(CONNECTIONS, self.number, |session, number| {
+            session.row(CONNECTIONS, number).from(OWNED).connection()
+        })
+    }
+
+    /// The media's b lines.
+    pub fn bandwidths(&self) -> Rows<'a, Bandwidth<'a>> {
+        self.session.bandwidths_of(self.number)
+    }
+
+    /// The media's a lines.
+    pub fn attributes(&self) -> Rows<'a, Attribute<'a>> {
+        self.session.attributes_of(self.number)
+    }
+
+    attributes_by_name!();
+}
+
+/// A session that was read, as a view: it borrows the text and the area, and reads a part when it is asked for. It is
+/// two references, so it is copied freely.
+///
+/// `{:?}` prints all of it. By [`Display`](fmt::Display) it is its written form.
+#[derive(Clone, Copy)]
+pub struct Session<'a> {
+    text: &'a [u8],
+    area: &'a Area,
+}
+
+impl<'a> Session<'a> {
+    /// Only for an area that this text was read into.
+    #[inline]
+    pub(crate) fn new(text: &'a [u8], area: &'a Area) -> Self {
+        Session { text, area }
+    }
+
+    fn cells(self, at: usize) -> Cells<'a> {
+        Cells { text: self.text, bytes: &self.area.as_bytes()[at..] }
+    }
+
+    /// Row `number` of a table, from 1.
+    fn row(self, table: Table, number: usize) -> Cells<'a> {
+        self.cells(table.at + 2 + (number - 1) * table.width)
+    }
+
+    fn count(self, table: Table) -> usize {
+        usize::from(self.cells(table.at).two(0))
+    }
+
+    fn all<T>(self, table: Table, row: fn(Session<'a>, usize) -> T) -> Rows<'a, T> {
+        Rows { session: self, left: 1..self.count(table) + 1, row }
+    }
+
+    /// The rows that belong to this owner. They stand together, because owners never fall from row to row.
+    fn owned<T>(self, table: Table, owner: usize, row: fn(Session<'a>, usize) -> T) -> Rows<'a, T> {
+        let first = self.first_from(table, owner);
+        Rows { session: self, left: first..self.first_from(table, owner + 1), row }
+    }
+
+    /// The first row with this owner or a higher one, or the number behind the last row: by halves.
+    fn first_from(self, table: Table, owner: usize) -> usize {
+        let (mut low, mut high) = (1, self.count(table) + 1);
+        while low < high {
+            let middle = (low + high) / 2;
+            if usize::from(self.row(table, middle).two(0)) < owner {
+                low = middle + 1;
+            } else {
+                high = middle;
+            }
+        }
+        low
+    }
+
+    fn bandwidths_of(self, owner: usize) -> Rows<'a, Bandwidth<'a>> {
+        self.owned(BANDWIDTHS, owner, |session, number| {
+            let cells = session.row(BANDWIDTHS, number).from(OWNED);
+            Bandwidth { bwtype: cells.string(0), bandwidth: cells.eight(4) }
+        })
+    }
+
+    fn attributes_of(self, owner: usize) -> Rows<'a, Attribute<'a>> {
+        self.owned(ATTRIBUTES, owner, |session, number| {
+            let cells = session.row(ATTRIBUTES, number).from(OWNED);
+            Attribute { attribute: cells.string(0), value: cells.marked_string(4) }
+        })
+    }
+
+    /// The originator. Where the text has no o line this is the placeholder `- 0 0 IN IP4 0.0.0.0`, as in the crate.
+    pub fn origin(&self) -> Origin<'a> {
+        self.origin_line().unwrap_or(PLACEHOLDER)
+    }
+
+    /// The originator, or `None` where the text has no o line.
+    pub fn origin_line(&self) -> Option<Origin<'a>> {
+        self.cells(ORIGIN).marked(0, Cells::origin)
+    }
+
+    /// Name of the session; empty where the text has no s line.
+    pub fn session_name(&self) -> &'a str {
+        self.cells(NAME).string(0)
+    }
+
+    /// Description of the session: its i line.
+    pub fn session_description(&self) -> Option<&'a str> {
+        self.cells(DESCRIPTION).marked_string(0)
+    }
+
+    /// URI of more information: the u line.
+    pub fn uri(&self) -> Option<&'a str> {
+        self.cells(URI).marked_string(0)
+    }
+
+    /// E-mail contacts: the e lines.
+    pub fn emails(&self) -> Rows<'a, &'a str> {
+        self.all(EMAILS, |session, number| session.row(EMAILS, number).string(0))
+    }
+
+    /// Phone contacts: the p lines.
+    pub fn phones(&self) -> Rows<'a, &'a str> {
+        self.all(PHONES, |session, number| session.row(PHONES, number).string(0))
+    }
+
+    /// Connection data of the session: its c line.
+    pub fn connection(&self) -> Option<Connection<'a>> {
+        self.cells(CONNECTION).marked(0, Cells::connection)
+    }
+
+    /// Bandwidths of the session: its b lines.
+    pub fn bandwidths(&self) -> Rows<'a, Bandwidth<'a>> {
+        self.bandwidths_of(SESSION)
+    }
+
+    /// When the session is active: the t lines, each with its r lines. There may be none; `0 0` is then written.
+    pub fn times(&self) -> Rows<'a, Time<'a>> {
+        self.all(TIMES, |session, number| {
+            let cells = session.row(TIMES, number);
+            Time { session, number, start_time: cells.eight(0), stop_time: cells.eight(8) }
+        })
+    }
+
+    /// The pairs of the z line.
+    pub fn time_zones(&self) -> Rows<'a, TimeZone> {
+        self.all(ZONES, |session, number| {
+            let cells = session.row(ZONES, number);
+            // the cell has two's complement, so the cast keeps the sign
+            TimeZone { adjustment_time: cells.eight(0), offset: cells.eight(8) as i64 }
+        })
+    }
+
+    /// Encryption key of the session: its k line.
+    pub fn key(&self) -> Option<Key<'a>> {
+        self.cells(KEY).marked(0, Cells::key)
+    }
+
+    /// Attributes of the session: its a lines.
+    pub fn attributes(&self) -> Rows<'a, Attribute<'a>> {
+        self.attributes_of(SESSION)
+    }
+
+    /// The medias: the m lines, each with the lines behind it.
+    pub fn medias(&self) -> Rows<'a, Media<'a>> {
+        self.all(MEDIAS, |session, number| {
+            let cells = session.row(MEDIAS, number);
+            Media {
+                session,
+                number,
+                media: cells.string(0),
+                port: cells.two(4),
+                num_ports: cells.marked(6, |cells| cells.two(0)),
+                proto: cells.string(10),
+                fmt: cells.string(14),
+                media_title: cells.marked_string(18),
+                key: cells.marked(24, Cells::key),
+            }
+        })
+    }
+
+    attributes_by_name!();
+
+    /// Writes the session into the slice, as the crate's `Session::write` does, and gives the written part of it.
+    ///
+    /// [`ROOM`] bytes are always enough. What stands behind the written part stays as it was; after an error all of it.
+    ///
+    /// # Errors
+    ///
+    /// Refusal 22 where the slice is too short; [`Error::len`] says how many bytes it needs.
+    #[inline]
+    pub fn write<'o>(&self, out: &'o mut [u8]) -> Result<&'o [u8], Error> {
+        let answer = Error::check(ffi::write(self.text, self.area.as_bytes(), out))?;
+        Ok(&out[..answer.len as usize])
+    }
+
+    /// The written form in a vector of its own.
+    pub fn to_vec(&self) -> Vec<u8> {
+        let mut out = vec![0; ROOM];
+        let len = self.write(&mut out).expect("what was read is written, and has room").len();
+        out.truncate(len);
+        out.shrink_to_fit();
+        out
+    }
+}
+
+/// The written form, each line ended by CR LF.
+impl fmt::Display for Session<'_> {
+    fn fmt(&self, f: &mut fmt::Formatter<'_>) -> fmt::Result {
+        f.write_str(std::str::from_utf8(&self.to_vec()).expect("what is written is UTF-8"))
+    }
+}
+
+/// Some rows of a session: an iterator that knows how many are left. Cloned, it can be walked again.
+pub struct Rows<'a, T> {
+    session: Session<'a>,
+    left: Range<usize>,
+    row: fn(Session<'a>, usize) -> T,
+}
+
+impl<T> Rows<'_, T> {
+    /// Whether no row is left.
+    pub fn is_empty(&self) -> bool {
+        self.left.is_empty()
+    }
+}
+
+impl<T> Clone for Rows<'_, T> {
+    fn clone(&self) -> Self {
+        Rows { left: self.left.clone(), ..*self }
+    }
+}
+
+impl<T> Iterator for Rows<'_, T> {
+    type Item = T;
+
+    fn next(&mut self) -> Option<T> {
+        self.left.next().map(|number| (self.row)(self.session, number))
+    }
+
+    fn nth(&mut self, skip: usize) -> Option<T> {
+        self.left.nth(skip).map(|number| (self.row)(self.session, number))
+    }
+
+    fn size_hint(&self) -> (usize, Option<usize>) {
+        self.left.size_hint()
+    }
+}
+
+impl<T> DoubleEndedIterator for Rows<'_, T> {
+    fn next_back(&mut self) -> Option<T> {
+        self.left.next_back().map(|number| (self.row)(self.session, number))
+    }
+}
+
+impl<T> ExactSizeIterator for Rows<'_, T> {}
+
+impl<T> std::iter::FusedIterator for Rows<'_, T> {}
+
+impl<T: fmt::Debug> fmt::Debug for Rows<'_, T> {
+    fn fmt(&self, f: &mut fmt::Formatter<'_>) -> fmt::Result {
+        f.debug_list().entries(self.clone()).finish()
+    }
+}
+
+impl<T: PartialEq> PartialEq for Rows<'_, T> {
+    fn eq(&self, other: &Self) -> bool {
+        self.clone().eq(other.clone())
+    }
+}
+
+impl<T: Eq> Eq for Rows<'_, T> {}
+
+/// `Debug` by the parts, in their order, and equality by the same parts: so two sessions are equal when they say the
+/// same, wherever their strings stand.
+macro_rules! by_parts {
+    ($type:ident: $($field:ident)* $(, $part:ident())*) => {
+        impl fmt::Debug for $type<'_> {
+            fn fmt(&self, f: &mut fmt::Formatter<'_>) -> fmt::Result {
+                f.debug_struct(stringify!($type))
+                    $(.field(stringify!($field), &self.$field))*
+                    $(.field(stringify!($part), &self.$part()))*
+                    .finish()
+            }
+        }
+
+        impl PartialEq for $type<'_> {
+            fn eq(&self, other: &Self) -> bool {
+                $(self.$field == other.$field &&)* $(self.$part() == other.$part() &&)* true
+            }
+        }
+
+        impl Eq for $type<'_> {}
+    };
+}
+
+by_parts!(Time: start_time stop_time, repeats());
+by_parts!(Repeat: repeat_interval active_duration, offsets());
+by_parts!(Media: media port num_ports proto fmt media_title key, connections(), bandwidths(), attributes());
+by_parts!(Session: , origin(), session_name(), session_description(), uri(), emails(), phones(), connection(),
+    bandwidths(), times(), time_zones(), key(), attributes(), medias());
+
+/// A session that owns its text and its area, to be kept. It is on the heap.
+///
+/// ```
+/// let kept = sdp::SessionBuf::parse("v=0\ns=Desk 4\n")?;
+/// assert_eq!(kept.session().session_name(), "Desk 4");
+/// # Ok::<(), sdp::Error>(())
+/// ```
+#[derive(Clone)]
+pub struct SessionBuf {
+    text: Vec<u8>,
+    area: Box<Area>,
+}
+
+impl SessionBuf {
+    /// Reads a text and keeps it.
+    ///
+    /// # Errors
+    ///
+    /// As for [`read`](crate::read).
+    pub fn parse(text: impl Into<Vec<u8>>) -> Result<Self, Error> {
+        let (text, mut area) = (text.into(), Box::new(Area::new()));
+        area.read(&text)?;
+        Ok(SessionBuf { text, area })
+    }
+
+    /// The session, for as long as this is borrowed.
+    pub fn session(&self) -> Session<'_> {
+        Session::new(&self.text, &self.area)
+    }
+
+    /// The text that was read.
+    pub fn text(&self) -> &[u8] {
+        &self.text
+    }
+}
+
+impl fmt::Debug for SessionBuf {
+    fn fmt(&self, f: &mut fmt::Formatter<'_>) -> fmt::Result {
+        fmt::Debug::fmt(&self.session(), f)
+    }
+}
+
+impl PartialEq for SessionBuf {
+    fn eq(&self, other: &Self) -> bool {
+        self.session() == other.session()
+    }
+}
+
+impl Eq for SessionBuf {}

@@ -1,0 +1,146 @@
+//! The words of the refusals. docs/REFUSALS.md has the same tables, and a test (tests/words.rs) holds the two together.
+use crate::ffi::Answer;
+use std::fmt;
+
+/// A field that a refusal by 8 to 11 can name.
+#[derive(Debug)]
+pub struct Field {
+    /// How a sentence names it.
+    pub name: &'static str,
+    /// What it must be, where 9 can refuse it; else empty.
+    pub form: &'static str,
+}
+
+/// A table that refusal 21 can name.
+#[derive(Debug)]
+pub struct Table {
+    /// How a sentence names what it holds.
+    pub name: &'static str,
+    /// How many of them fit.
+    pub rows: &'static str,
+}
+
+/// The sentences of the refusals 1 to 23. What stands in braces is put in: the name and the form of the field, the name
+/// and the rows of the table, the length.
+pub const SENTENCES: [&str; 23] = [
+    "the text has more than 32768 bytes",
+    "the area has fewer than 14558 bytes",
+    "there is a NUL or a CR in the line",
+    "the line has no =",
+    "the first = is not the second byte of the line",
+    "there is no version: the first line must be v=0",
+    "the version is not 0",
+    "{field} is not UTF-8",
+    "{field} is not {form}",
+    "{field} is missing",
+    "{field} must not be there",
+    "there is a second o line",
+    "there is a second s line",
+    "there is a second i line of the session",
+    "there is a second u line",
+    "there is a second c line of the session",
+    "there is a second z line",
+    "there is a second i line in this media",
+    "there is a second k line",
+    "there is an r line with no t line before it",
+    "there are more than {rows} {table}",
+    "the output is too short: {len} bytes are needed",
+    "the area holds no session for this text",
+];
+
+const WHOLE: &str = "a whole number below 2^64";
+const PORT: &str = "a whole number below 2^16";
+const TIMED: &str = "a time below 2^64 seconds: a whole number, then d, h, m, s or nothing";
+const SIGNED: &str = "a time from -2^63 to 2^63-1 seconds: a - or none, a whole number, then d, h, m, s or nothing";
+const TOKEN: &str = "a token";
+
+const fn field(name: &'static str, form: &'static str) -> Field {
+    Field { name, form }
+}
+
+/// The fields 1 to 38.
+pub const FIELDS: [Field; 38] = [
+    field("the origin's username", ""),
+    field("the origin's session id", ""),
+    field("the origin's version", WHOLE),
+    field("the origin's network type", TOKEN),
+    field("the origin's address type", TOKEN),
+    field("the origin's address", ""),
+    field("what follows the origin's address", ""),
+    field("the connection's network type", TOKEN),
+    field("the connection's address type", TOKEN),
+    field("the connection's address", ""),
+    field("what follows the connection's address", ""),
+    field("the bandwidth's type", ""),
+    field("the bandwidth's value", WHOLE),
+    field("what follows the bandwidth's value", ""),
+    field("the start time", WHOLE),
+    field("the stop time", WHOLE),
+    field("what follows the stop time", ""),
+    field("the repeat interval", TIMED),
+    field("the repeat's duration", TIMED),
+    field("a repeat's offset", TIMED),
+    field("a zone's adjustment time", WHOLE),
+    field("a zone's offset", SIGNED),
+    field("the attribute's name", ""),
+    field("the attribute's value", ""),
+    field("the key's method", ""),
+    field("the key", ""),
+    field("the media's name", ""),
+    field("the port", PORT),
+    field("the port's encoding", ""),
+    field("the number of ports", PORT),
+    field("the media's protocol", ""),
+    field("the media's formats", ""),
+    field("the media's title", ""),
+    field("the session's name", ""),
+    field("the session's description", ""),
+    field("the URI", ""),
+    field("the e-mail address", ""),
+    field("the phone number", ""),
+];
+
+const fn table(name: &'static str, rows: &'static str) -> Table {
+    Table { name, rows }
+}
+
+/// The tables 1 to 10.
+pub const TABLES: [Table; 10] = [
+    table("e lines", "16"),
+    table("p lines", "16"),
+    table("c lines of medias", "64"),
+    table("b lines", "64"),
+    table("t lines", "32"),
+    table("r lines", "64"),
+    table("offsets in r lines", "256"),
+    table("pairs in the z line", "64"),
+    table("a lines", "512"),
+    table("m lines", "32"),
+];
+
+/// Entry `number`, from 1.
+fn entry<T>(list: &'static [T], number: u64) -> Option<&'static T> {
+    list.get(usize::try_from(number).ok()?.checked_sub(1)?)
+}
+
+/// The sentence of a refusal, without its line and number.
+pub(crate) fn sentence(f: &mut fmt::Formatter<'_>, answer: &Answer) -> fmt::Result {
+    let Some(mut rest) = entry(&SENTENCES, answer.number).copied() else {
+        return f.write_str("refused"); // by a later archive
+    };
+    let field = entry(&FIELDS, answer.field);
+    let table = entry(&TABLES, answer.field);
+    while let Some((before, after)) = rest.split_once('{') {
+        let (what, after) = after.split_once('}').unwrap_or((after, ""));
+        f.write_str(before)?;
+        match what {
+            "field" => f.write_str(field.map_or("", |field| field.name))?,
+            "form" => f.write_str(field.map_or("", |field| field.form))?,
+            "table" => f.write_str(table.map_or("", |table| table.name))?,
+            "rows" => f.write_str(table.map_or("", |table| table.rows))?,
+            _ => write!(f, "{}", answer.len)?,
+        }
+        rest = after;
+    }
+    f.write_str(rest)
+}

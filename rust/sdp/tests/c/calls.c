@@ -1,0 +1,30 @@
+/* Calls every function on standard input and prints the answers, a line for each. It is C and C++. */
+#include "sdp_words.h"
+
+static void answer(struct sdp_answer a) {
+    printf("%" PRIu64 " %" PRIu64 " %" PRIu64 " %" PRIu64 " %" PRIu64 "\n", a.number, a.line, a.field, a.place, a.len);
+}
+
+static void numeral(struct sdp_numeral n) {
+    printf("%" PRIu64 " %" PRIu64 "\n", n.number, n.value);
+}
+
+int main(void) {
+    static uint8_t text[SDP_LONGEST], area[SDP_AREA_SIZE], out[20];
+    size_t len = fread(text, 1, sizeof text, stdin);
+    struct sdp_piece p = sdp_cut(text, len, 0, 7);
+    struct sdp_order order = sdp_letter_order(text, len);
+    char sentence[SDP_SENTENCE_SIZE];
+    struct sdp_answer bad = {SDP_BAD_FORM, 2, 15, 0, 0};
+    if (strstr(sdp_sentence(bad, sentence, sizeof sentence), "start time") == NULL) return 1;
+    printf("%zu %d\n", sdp_utf8_end(text, len), sdp_is_token(text, len) ? 1 : 0);
+    numeral(sdp_number16(text, len));
+    numeral(sdp_number64(text, len));
+    numeral(sdp_typed_time(text, len));
+    printf("%" PRIu64 " %" PRIu64 " %" PRIu64 " %" PRIu64 " ", p.kind, p.number, p.line, p.letter);
+    printf("%" PRIu64 " %" PRIu64 " %" PRIu64 " %" PRIu64 "\n", p.place, p.len, p.next_place, p.next_line);
+    answer(sdp_read(text, len, area, sizeof area));
+    answer(sdp_write(text, len, area, sizeof area, out, sizeof out));
+    printf("%" PRIu64 " %" PRIu64 "\n%zu\n", order.number, order.yes, sdp_area_size());
+    return 0;
+}

@@ -1,0 +1,112 @@
+//! The examples in C and in Rust, run as a user runs them. They print the same for every text of the folder `texts`.
+mod c;
+mod page;
+use page::path;
+use std::fs;
+use std::path::{Path, PathBuf};
+use std::process::Output;
+
+/// The program of examples/announce.rs, which cargo builds beside the tests, unless it is asked for one test only.
+fn announce() -> PathBuf {
+    let deps = std::env::current_exe().unwrap();
+    let program = deps.parent().unwrap().parent().unwrap().join("examples/announce");
+    let time = |path: &Path| fs::metadata(path).and_then(|file| file.modified()).ok();
+    let source = time(Path::new(&path("rust/sdp/examples/announce.rs")));
+    let fresh = source.is_some() && time(&program) >= source;
+    assert!(fresh, "{} is old: cargo build --release --examples makes it", program.display());
+    program
+}
+
+/// The program of c/example.c; each test has its own, because they run at the same time.
+fn example(test: &str) -> PathBuf {
+    c::compiled("c/example.c", &format!("example-{test}"))
+}
+
+/// Exit status, standard output as Rust would quote it, and standard error without the program's name.
+fn parts(name: &str, output: Output) -> (Option<i32>, String, String) {
+    let errors = String::from_utf8(output.stderr).expect("words");
+    let unnamed = |line: &str| match line.strip_prefix(name) {
+        Some(words) => format!("{words}\n"),
+        None => panic!("{line:?} starts with {name}"),
+    };
+    (output.status.code(), output.stdout.escape_ascii().to_string(), errors.lines().map(unnamed).collect())
+}
+
+const FESTIVAL: &str = "name: Summer festival, main stage
+time: 3960000000 to 3962592000
+  every 86400 s for 14400 s, from 0
+  every 604800 s for 10800 s, from 82800 601200
+time: 3963000000 to 3963086400
+time: 3964000000 to 0
+  every 604800 s for 5400 s, from 0 90000 172800 60
+zone: -3600 s from 3960500000 on
+zone: 0 s from 3962000000 on
+zone: 5400 s from 3963500000 on
+media: audio to port 49230
+  rtpmap:96 L16/48000/2
+";
+
+#[test]
+fn each_text() {
+    let (rust, c) = (announce(), example("texts"));
+    let (mut written, mut refused, mut festival) = (0, 0, false);
+    for folder in ["published", "kinds"] {
+        for entry in fs::read_dir(path(&format!("texts/{folder}"))).unwrap() {
+            let file = entry.unwrap().path();
+            if file.extension().map_or(true, |end| end != "sdp") {
+                continue;
+            }
+            let name = file.to_str().unwrap();
+            let of_c = parts("example: ", c::run(&c, &[name], b""));
+            let of_rust = parts("announce: ", c::run(&rust, &[name], b""));
+            assert_eq!(of_c, of_rust, "{name}");
+            let (status, output, errors) = of_c;
+            let due = fs::read(file.with_extension("expected")).unwrap();
+            if let Some(numbers) = due.strip_prefix(b"refused ") {
+                let number = numbers.split(|byte| *byte == b' ').next().unwrap();
+                assert_eq!((status, &output[..]), (Some(1), ""), "{name}");
+                let end = format!(" (refusal {})\n", std::str::from_utf8(number).unwrap());
+                assert!(errors.ends_with(&end) && errors.lines().count() == 1, "{name}: {errors}");
+                refused += 1;
+                continue;
+            }
+            assert_eq!((status, &errors[..]), (Some(0), ""), "{name}");
+            let told = output.strip_suffix(&due.escape_ascii().to_string()[..]);
+            let told = told.unwrap_or_else(|| panic!("{name}: the written form is the last"));
+            assert!(told.starts_with("name: "), "{name}");
+            if name.ends_with("/festival.sdp") {
+                assert_eq!(told, FESTIVAL.as_bytes().escape_ascii().to_string());
+                festival = true;
+            }
+            written += 1;
+        }
+    }
+    println!("examples: {written} texts written, {refused} refused, by C and by Rust");
+    assert!(festival && written > 0 && refused > 0);
+}
+
+/// Standard input, a text that is too long, and what can't be read or written.
+#[test]
+fn inputs_and_statuses() {
+    for (name, program) in [("announce: ", announce()), ("example: ", example("inputs"))] {
+        let run = |arguments: &[&str], input: &[u8]| parts(name, c::run(&program, arguments, input));
+        let accepted = b"name: \nv=0\r\no=- 0 0 IN IP4 0.0.0.0\r\ns=\r\nt=0 0\r\n".escape_ascii().to_string();
+        assert_eq!(run(&[], b"v=0"), (Some(0), accepted, String::new()));
+        let sentence = |words: &str| (Some(1), String::new(), format!("{words}\n"));
+        assert_eq!(run(&[], b""), sentence("there is no version: the first line must be v=0 (refusal 6)"));
+        assert_eq!(run(&[], &vec![b'\n'; 100_000]), sentence("the text has more than 32768 bytes (refusal 1)"));
+        assert_eq!(
+            run(&[], b"v=0\nz=1 one\n"),
+            sentence(
+                "line 2: a zone's offset is not a time from -2^63 to 2^63-1 seconds: a - or none, a whole number, then \
+                 d, h, m, s or nothing (refusal 9)"
+            )
+        );
+        for unreadable in ["no/such/file", "/"] {
+            let (status, output, errors) = run(&[unreadable], b"");
+            assert_eq!((status, &output[..], errors.lines().count()), (Some(2), "", 1), "{name}{unreadable}: {errors}");
+        }
+        let (status, _, errors) = parts(name, c::run_to(&program, &[], b"v=0", Some("/dev/full")));
+        assert_eq!((status, errors.lines().count()), (Some(2), 1), "{name}{errors}");
+    }
+}

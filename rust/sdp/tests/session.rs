@@ -1,0 +1,307 @@
+//! The view, the errors and the writing, on texts whose answers were typed by hand.
+mod page;
+use sdp::{Area, Attribute, Bandwidth, Connection, Error, Key, Origin, Session, SessionBuf, TimeZone, LONGEST, ROOM};
+
+/// Something in every place, and absent things too.
+const RICH: &[u8] = b"v=0\no=jdoe 42 7 in IP4 host.example\ns=Desk 4\ni=The desk\nu=http://desk.example\n\
+    e=a@b\ne=c@d\np=+1 2\nc=IN ip4 224.0.0.1/15\nb=CT:384\nb=X-y:5\n\
+    t=1 2\nr=7d 1h 0 25h\nr=1 2\nt=3 0\nt=4 5\nr=60 30 1m\nz=60 -1h 61 0 62 +30m\n\
+    k=clear:secret\na=recvonly\na=note:\na=Tool:desk:4\n\
+    m=audio 5004/2 RTP/AVP 96 97\ni=Stage\nc=IN IP4 a\nc=IN IP4 b\nb=AS:1\nk=prompt\na=rtpmap:96 L16\na=RTPMAP:97 L24\n\
+    m=video 0 p \nm=text 65535 x y\nc=TN E164 c\nb=AS:2\na=x\n";
+
+fn read(text: &[u8]) -> SessionBuf {
+    SessionBuf::parse(text).unwrap_or_else(|error| panic!("{}: {error}", text.escape_ascii()))
+}
+
+fn refused(text: &[u8]) -> Error {
+    SessionBuf::parse(text).expect_err("the text is refused")
+}
+
+#[test]
+fn everything_is_there() {
+    let mut area = Area::new();
+    let session = sdp::read(RICH, &mut area).unwrap();
+    let origin = Origin {
+        username: Some("jdoe"),
+        sess_id: "42",
+        sess_version: 7,
+        nettype: "in", // as it was written
+        addrtype: "IP4",
+        unicast_address: "host.example",
+    };
+    assert_eq!((session.origin(), session.origin_line()), (origin, Some(origin)));
+    assert_eq!(session.session_name(), "Desk 4");
+    assert_eq!(session.session_description(), Some("The desk"));
+    assert_eq!(session.uri(), Some("http://desk.example"));
+    assert_eq!(session.emails().collect::<Vec<_>>(), ["a@b", "c@d"]);
+    assert_eq!(session.phones().collect::<Vec<_>>(), ["+1 2"]);
+    let connection = |nettype, addrtype, connection_address| Connection { nettype, addrtype, connection_address };
+    assert_eq!(session.connection(), Some(connection("IN", "ip4", "224.0.0.1/15")));
+    let bandwidth = |bwtype, bandwidth| Bandwidth { bwtype, bandwidth };
+    assert_eq!(session.bandwidths().collect::<Vec<_>>(), [bandwidth("CT", 384), bandwidth("X-y", 5)]);
+    assert_eq!(session.key(), Some(Key { method: "clear", encryption_key: Some("secret") }));
+    let attribute = |attribute, value| Attribute { attribute, value };
+    let attributes = [attribute("recvonly", None), attribute("note", Some("")), attribute("Tool", Some("desk:4"))];
+    assert_eq!(session.attributes().collect::<Vec<_>>(), attributes);
+
+    let times: Vec<_> = session.times().map(|time| (time.start_time, time.stop_time, time.repeats().len())).collect();
+    assert_eq!(times, [(1, 2, 2), (3, 0, 0), (4, 5, 1)]);
+    let repeats: Vec<_> = session
+        .times()
+        .flat_map(|time| time.repeats())
+        .map(|repeat| (repeat.repeat_interval, repeat.active_duration, repeat.offsets().collect::<Vec<_>>()))
+        .collect();
+    assert_eq!(repeats, [(604_800, 3_600, vec![0, 90_000]), (1, 2, vec![]), (60, 30, vec![60])]);
+
+    let medias: Vec<_> = session.medias().collect();
+    let heads = medias.iter().map(|media| (media.media, media.port, media.num_ports, media.proto, media.fmt));
+    assert_eq!(
+        heads.collect::<Vec<_>>(),
+        [("audio", 5004, Some(2), "RTP/AVP", "96 97"), ("video", 0, None, "p", ""), ("text", 65_535, None, "x", "y")]
+    );
+    let titles: Vec<_> = medias.iter().map(|media| (media.media_title, media.key)).collect();
+    let prompt = Key { method: "prompt", encryption_key: None };
+    assert_eq!(titles, [(Some("Stage"), Some(prompt)), (None, None), (None, None)]);
+    let connections: Vec<Vec<_>> = medias.iter().map(|media| media.connections().collect()).collect();
+    assert_eq!(
+        connections,
+        [vec![connection("IN", "IP4", "a"), connection("IN", "IP4", "b")], vec![], vec![connection("TN", "E164", "c")]]
+    );
+    let bandwidths: Vec<Vec<_>> = medias.iter().map(|media| media.bandwidths().collect()).collect();
+    assert_eq!(bandwidths, [vec![bandwidth("AS", 1)], vec![], vec![bandwidth("AS", 2)]]);
+    let attributes: Vec<Vec<_>> = medias.iter().map(|media| media.attributes().collect()).collect();
+    assert_eq!(
+        attributes,
+        [
+            vec![attribute("rtpmap", Some("96 L16")), attribute("RTPMAP", Some("97 L24"))],
+            vec![],
+            vec![attribute("x", None)]
+        ]
+    );
+}
+
+#[test]
+fn nothing_is_there() {
+    let kept = read(b"v=0");
+    let session = kept.session();
+    assert_eq!(session.origin_line(), None);
+    let placeholder = session.origin();
+    assert_eq!((placeholder.username, placeholder.sess_id, placeholder.sess_version), (None, "0", 0));
+    assert_eq!((placeholder.nettype, placeholder.addrtype, placeholder.unicast_address), ("IN", "IP4", "0.0.0.0"));
+    assert_eq!(session.session_name(), "");
+    assert_eq!((session.session_description(), session.uri()), (None, None));
+    assert_eq!((session.connection(), session.key()), (None, None));
+    assert!(session.emails().is_empty() && session.phones().is_empty() && session.bandwidths().is_empty());
+    assert!(session.times().is_empty() && session.time_zones().is_empty());
+    assert!(session.attributes().is_empty() && session.medias().is_empty());
+    // an o line with the placeholder's values says the same
+    assert_eq!(read(b"v=0\no=- 0 0 IN IP4 0.0.0.0\n"), kept);
+    assert!(read(b"v=0\no=- 0 0 IN IP4 0.0.0.0\n").session().origin_line().is_some());
+}
+
+/// Absent and empty differ.
+#[test]
+fn empty_is_not_absent() {
+    let kept = read(b"v=0\ni=\nu=\nk=\na=x:\na=x\na=\nm=a 1 p f\ni=\nk=:\n");
+    let session = kept.session();
+    assert_eq!((session.session_description(), session.uri()), (Some(""), Some("")));
+    assert_eq!(session.key(), Some(Key { method: "", encryption_key: None }));
+    assert_eq!(session.attributes().map(|row| row.value).collect::<Vec<_>>(), [Some(""), None, None]);
+    let media = session.medias().next().unwrap();
+    assert_eq!((media.media_title, media.key), (Some(""), Some(Key { method: "", encryption_key: Some("") })));
+}
+
+/// Minus one hour is minus one hour, and so to the ends of 64 bits.
+#[test]
+fn the_sign_of_a_zone() {
+    let kept = read(b"v=0\nz=1 -1h 2 1h 3 -9223372036854775808 4 9223372036854775807 5 -0 18446744073709551615 -1\n");
+    let zone = |adjustment_time, offset| TimeZone { adjustment_time, offset };
+    let zones = [zone(1, -3_600), zone(2, 3_600), zone(3, i64::MIN), zone(4, i64::MAX), zone(5, 0), zone(u64::MAX, -1)];
+    assert_eq!(kept.session().time_zones().collect::<Vec<_>>(), zones);
+    let written = kept.session().to_string();
+    let due = "\r\nz=1 -1h 2 1h 3 -9223372036854775808 4 9223372036854775807 5 0 18446744073709551615 -1\r\n";
+    assert!(written.contains(due), "{written}");
+}
+
+#[test]
+fn attributes_by_name() {
+    let kept = read(RICH);
+    let session = kept.session();
+    assert!(session.has_attribute("RECVONLY") && session.has_attribute("tool") && !session.has_attribute("rtpmap"));
+    assert_eq!(session.get_first_attribute_value("recvonly"), Some(None));
+    assert_eq!(session.get_first_attribute_value("note"), Some(Some("")));
+    assert_eq!(session.get_first_attribute_value("tool"), Some(Some("desk:4")));
+    assert_eq!(session.get_first_attribute_value("x"), None);
+    let media = session.medias().next().unwrap();
+    assert_eq!(media.get_attribute_values("rtpmap").collect::<Vec<_>>(), [Some("96 L16"), Some("97 L24")]);
+    assert!(media.has_attribute("RtpMap") && !media.has_attribute("tool"));
+    assert_eq!(media.get_first_attribute_value("rtpmap"), Some(Some("96 L16")));
+}
+
+/// Rows from both ends, counted, skipped and walked again.
+#[test]
+fn rows() {
+    let kept = read(RICH);
+    let mut rows = kept.session().attributes();
+    assert_eq!(rows.len(), 3);
+    assert_eq!(rows.clone().rev().map(|row| row.attribute).collect::<Vec<_>>(), ["Tool", "note", "recvonly"]);
+    assert_eq!(rows.clone().nth(1).unwrap().attribute, "note");
+    assert!(rows.clone().nth(3).is_none());
+    assert_eq!(rows.next_back().unwrap().attribute, "Tool");
+    assert_eq!(rows.next().unwrap().attribute, "recvonly");
+    assert_eq!((rows.len(), rows.is_empty()), (1, false));
+    assert_eq!(rows.next().unwrap().attribute, "note");
+    assert!(rows.is_empty() && rows.next().is_none() && rows.next_back().is_none());
+}
+
+#[test]
+fn written() {
+    let due = "v=0\r\no=jdoe 42 7 in IP4 host.example\r\ns=Desk 4\r\ni=The desk\r\nu=http://desk.example\r\n\
+        e=a@b\r\ne=c@d\r\np=+1 2\r\nc=IN ip4 224.0.0.1/15\r\nb=CT:384\r\nb=X-y:5\r\n\
+        t=1 2\r\nr=7d 1h 0 25h\r\nr=1 2\r\nt=3 0\r\nt=4 5\r\n\
+        r=1m 30 1m\r\nz=60 -1h 61 0 62 30m\r\nk=clear:secret\r\na=recvonly\r\na=note:\r\na=Tool:desk:4\r\n\
+        m=audio 5004/2 RTP/AVP 96 97\r\ni=Stage\r\nc=IN IP4 a\r\nc=IN IP4 b\r\nb=AS:1\r\nk=prompt\r\n\
+        a=rtpmap:96 L16\r\na=RTPMAP:97 L24\r\nm=video 0 p \r\nm=text 65535 x y\r\nc=TN E164 c\r\nb=AS:2\r\na=x\r\n";
+    let kept = read(RICH);
+    let session = kept.session();
+    assert_eq!(session.to_string(), due);
+    assert_eq!(session.to_vec(), due.as_bytes());
+    let mut out = [b'?'; 2_000];
+    assert_eq!(session.write(&mut out), Ok(due.as_bytes()));
+    assert!(out[due.len()..].iter().all(|byte| *byte == b'?'));
+    // exact is enough, one less is not, and is told how much
+    assert_eq!(session.write(&mut out[..due.len()]).map(<[u8]>::len), Ok(due.len()));
+    out.fill(b'?');
+    for len in [0, 1, due.len() - 1] {
+        let error = session.write(&mut out[..len]).unwrap_err();
+        assert_eq!((error.number(), error.len()), (22, due.len() as u64));
+        assert_eq!(error.to_string(), format!("the output is too short: {} bytes are needed (refusal 22)", due.len()));
+    }
+    assert!(out.iter().all(|byte| *byte == b'?'));
+    // what is written is read back as the same session
+    assert_eq!(read(due.as_bytes()), kept);
+}
+
+/// The longest text that there is, and one byte more.
+#[test]
+fn the_longest() {
+    let mut text = b"v=0\n".to_vec();
+    text.resize(LONGEST, b'\n');
+    assert_eq!(read(&text), read(b"v=0"));
+    text.push(b'\n');
+    assert_eq!(refused(&text).to_string(), "the text has more than 32768 bytes (refusal 1)");
+    let mut text = b"v=0\ns=".to_vec();
+    text.resize(LONGEST, b'x');
+    let kept = read(&text);
+    assert_eq!(kept.session().session_name().len(), LONGEST - 6);
+    assert!(kept.session().to_vec().len() <= ROOM);
+    assert_eq!(kept.text(), text);
+}
+
+#[test]
+fn errors() {
+    let error = refused(b"v=0\nt=now 0\n");
+    assert_eq!((error.number(), error.line(), error.field(), error.place(), error.len()), (9, 2, 15, 0, 0));
+    assert_eq!(error.to_string(), "line 2: the start time is not a whole number below 2^64 (refusal 9)");
+    let error = refused(b"\n\nv=zero\n");
+    assert_eq!((error.number(), error.line(), error.field(), error.place(), error.len()), (7, 3, 0, 4, 4));
+    assert_eq!(refused(b"").to_string(), "there is no version: the first line must be v=0 (refusal 6)");
+    assert_eq!(refused(b"v=0\ns=\xe9\n").to_string(), "line 2: the session's name is not UTF-8 (refusal 8)");
+    let sentence = "line 2: there is an r line with no t line before it (refusal 20)";
+    assert_eq!(refused(b"v=0\nr=1 1\n").to_string(), sentence);
+    assert_eq!(format!("{error:?}"), "Error(line 3: the version is not 0 (refusal 7))");
+    // as any error of Rust's std
+    let boxed: Box<dyn std::error::Error + Send + Sync> = Box::new(error);
+    assert_eq!(boxed.to_string(), "line 3: the version is not 0 (refusal 7)");
+}
+
+#[test]
+fn an_area_is_used_again() {
+    let mut area = Area::new();
+    assert_eq!(sdp::read(RICH, &mut area).unwrap().medias().len(), 3);
+    assert_eq!(sdp::read(b"v=1", &mut area).unwrap_err().number(), 7);
+    assert_eq!(sdp::read(b"v=0", &mut area).unwrap(), read(b"v=0").session());
+    assert_eq!(sdp::read(RICH, &mut area).unwrap(), read(RICH).session());
+}
+
+/// Equal where they say the same, wherever the strings stand; each part counts.
+#[test]
+fn equality() {
+    let text = String::from_utf8(RICH.to_vec()).unwrap();
+    let due = read(RICH);
+    assert_eq!(read(text.replace('\n', "\r\n\n").as_bytes()), due);
+    let mut changed = 0;
+    for (at, line) in text.lines().enumerate().skip(1) {
+        let others = text.lines().enumerate().filter(|(other, _)| *other != at);
+        let without: String = others.map(|(_, line)| format!("{line}\n")).collect();
+        // an m line's own lines go to the media before it, or are second ones
+        if let Ok(other) = SessionBuf::parse(without) {
+            assert_ne!(other, due, "without {line}");
+            changed += 1;
+        }
+    }
+    assert!(changed > 30, "{changed} lines left out");
+}
+
+#[test]
+fn printed_for_a_programmer() {
+    let kept = read(b"v=0\ns=Desk 4\nt=60 0\nr=1h 60 0 90\nz=60 -1h\nm=audio 5004 RTP/AVP 96\na=note:\n");
+    let due = concat!(
+        r#"Session { origin: Origin { username: None, sess_id: "0", sess_version: 0, nettype: "IN", "#,
+        r#"addrtype: "IP4", unicast_address: "0.0.0.0" }, session_name: "Desk 4", session_description: None, "#,
+        r#"uri: None, emails: [], phones: [], connection: None, bandwidths: [], times: [Time { start_time: 60, "#,
+        r#"stop_time: 0, repeats: [Repeat { repeat_interval: 3600, active_duration: 60, offsets: [0, 90] }] }], "#,
+        r#"time_zones: [TimeZone { adjustment_time: 60, offset: -3600 }], key: None, attributes: [], "#,
+        r#"medias: [Media { media: "audio", port: 5004, num_ports: None, proto: "RTP/AVP", fmt: "96", "#,
+        r#"media_title: None, key: None, connections: [], bandwidths: [], "#,
+        r#"attributes: [Attribute { attribute: "note", value: Some("") }] }] }"#,
+    );
+    assert_eq!(format!("{:?}", kept.session()), due);
+    assert_eq!(format!("{kept:?}"), due);
+    assert_eq!(format!("{:?}", Area::new()), "Area { .. }");
+}
+
+#[test]
+fn the_letter_order() {
+    assert_eq!(sdp::letter_order(&vec![b'\n'; LONGEST + 1]).unwrap_err().number(), 1);
+    assert_eq!(sdp::letter_order(&vec![b'\n'; LONGEST]), Ok(false));
+    assert_eq!(sdp::letter_order(RICH), Ok(true));
+}
+
+/// Sessions may be shared between threads, and areas sent to them.
+#[test]
+fn threads() {
+    fn both<T: Send + Sync>() {}
+    both::<Session>();
+    both::<SessionBuf>();
+    both::<Area>();
+    both::<Error>();
+    let kept = read(RICH);
+    let session = kept.session();
+    std::thread::scope(|scope| {
+        let names: Vec<_> = (0..2).map(|_| scope.spawn(move || session.session_name())).collect();
+        assert!(names.into_iter().all(|name| name.join().unwrap() == "Desk 4"));
+    });
+}
+
+/// The README's lines for Rust, compiled and run.
+#[test]
+fn the_readme_s_lines() -> Result<(), Error> {
+    let text = b"v=0\nz=60 -1h\n".to_vec();
+    // README.md:
+    let mut area = sdp::Area::new();                    // 14,558 bytes, no heap; used again for the next text
+    let session = sdp::read(&text, &mut area)?;         // an error prints a sentence with its line
+    for zone in session.time_zones() {
+        println!("{} s from {} on", zone.offset, zone.adjustment_time); // minus one hour is -3600
+    }
+    let mut out = [0; sdp::ROOM];                       // enough for any text that was read
+    let written: &[u8] = session.write(&mut out)?;
+    // so far
+    assert!(written.ends_with(b"\r\nz=60 -1h\r\n"));
+    let behind = include_str!("session.rs").split("    // README.md:\n").nth(1).unwrap();
+    let here = behind.split("    // so far\n").next().unwrap();
+    let here: String = here.lines().map(|line| format!("{}\n", &line[4..])).collect();
+    assert!(page::file("README.md").contains(&format!("```rust\n{here}```\n")), "README.md has these lines:\n{here}");
+    Ok(())
+}
