@@ -11,5 +11,7 @@ pub mod placed;
 #[cfg(feature = "crate")]
 pub mod theirs;
 #[cfg(feature = "crate")]
+pub mod whole;
+#[cfg(feature = "crate")]
 pub mod writing;
 pub use ffi::*;
