@@ -35,7 +35,8 @@ const WIDE: [(u32, u32); 18] = [
 
 /// Columns of a character that is shown as it is.
 fn width(char: char) -> usize {
-    1 + usize::from(WIDE.iter().any(|(first, last)| (*first..=*last).contains(&u32::from(char))))
+    let wide = !char.is_ascii() && WIDE.iter().any(|(first, last)| (*first..=*last).contains(&u32::from(char)));
+    1 + usize::from(wide)
 }
 
 enum Look {
@@ -49,9 +50,12 @@ enum Look {
 /// string only combines.
 fn look(char: char) -> Look {
     let alone = |mut escape: std::char::EscapeDebug| escape.next() == Some(char) && escape.next().is_none();
-    if char == '\\' {
-        Look::Hidden // so that an escape can't be mistaken for what stands in the text
-    } else if matches!(char, '"' | '\'') || alone(char.escape_debug()) {
+    if char.is_ascii() {
+        // a backslash counts as hidden, so that an escape can't be mistaken for what stands in the text
+        let seen = (char.is_ascii_graphic() || char == ' ') && char != '\\';
+        return if seen { Look::Seen } else { Look::Hidden };
+    }
+    if alone(char.escape_debug()) {
         Look::Seen
     } else if format!("x{char}").escape_debug().eq(['x', char]) {
         Look::Combines
