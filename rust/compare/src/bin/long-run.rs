@@ -1,41 +1,97 @@
-//! A long comparison with the crate, by texts that a seed gives. rust/long-run builds and runs it.
+//! A long comparison with the crate. rust/long-run builds and runs it.
 use compare::bench::Tally;
 use compare::whole::Whole;
 use compare::{interrupt, read, write};
 use generate::sessions;
+use std::fs;
 use std::io::{self, Write};
 use std::process::ExitCode;
 use std::time::{Duration, Instant};
 
 const EVERY: Duration = Duration::from_secs(5);
+const WRONG: u8 = 2;
 const INTERRUPTED: u8 = 130;
 const HELP: &str = "\
 usage: long-run [SEED [COUNT [FIRST]]]
-Reads and writes generated texts with the archive and with the crate sdp-types, reads back what was written, and
-compares all of it. SEED (8866) chooses the texts, COUNT (10000000) says how many, FIRST (0) is the number of the first.
+       long-run --folder FOLDER
+Reads and writes texts with the archive and with the crate sdp-types, reads back what was written, and compares all of
+it. The texts are generated: SEED (8866) chooses them, COUNT (10000000) says how many, FIRST (0) is the number of the
+first. Or they are the files of a folder.
 Every five seconds it says how far it is. Ctrl-C ends it with the counts so far; a second one ends it at once.
-status: 0 no difference; 1 a difference, printed with the smallest text that shows it; 2 wrong words; 130 Ctrl-C
+status: 0 no difference; 1 a difference, printed with the smallest text that shows it; 2 wrong words, or a file that
+can't be read; 130 Ctrl-C
 ";
+
+/// Texts by their number, from 0 on.
+struct Texts {
+    title: String,
+    count: u64,
+    /// The name of a text, and the text.
+    nth: Box<dyn Fn(u64) -> io::Result<(String, Vec<u8>)>>,
+}
 
 fn main() -> ExitCode {
     let words: Vec<String> = std::env::args().skip(1).collect();
-    if words.iter().any(|word| word == "--help" || word == "-h") {
-        print!("{HELP}");
-        return ExitCode::SUCCESS;
-    }
-    let numbers: Option<Vec<u64>> = words.iter().map(|word| word.parse().ok()).collect();
-    let Some(numbers) = numbers.filter(|numbers| numbers.len() <= 3) else {
-        eprint!("{HELP}");
-        return ExitCode::from(2);
+    let words: Vec<&str> = words.iter().map(String::as_str).collect();
+    let texts = match &words[..] {
+        ["--help" | "-h", ..] => {
+            print!("{HELP}");
+            return ExitCode::SUCCESS;
+        }
+        ["--folder", folder] => files(folder),
+        numbers => match generated(numbers) {
+            Some(texts) => Ok(texts),
+            None => {
+                eprint!("{HELP}");
+                return ExitCode::from(WRONG);
+            }
+        },
     };
-    let number = |at: usize, usual: u64| numbers.get(at).copied().unwrap_or(usual);
     interrupt::watch();
-    // where nobody reads what is said, going on would be for nothing
-    run(&mut io::stdout(), number(0, 8866), number(1, 10_000_000), number(2, 0)).unwrap_or(ExitCode::from(2))
+    match texts.and_then(|texts| run(&mut io::stdout(), &texts)) {
+        Ok(status) => status,
+        // where nobody reads what is said, going on would be for nothing
+        Err(error) if error.kind() == io::ErrorKind::BrokenPipe => ExitCode::from(WRONG),
+        Err(error) => {
+            eprintln!("long-run: {error}");
+            ExitCode::from(WRONG)
+        }
+    }
 }
 
-fn run(out: &mut impl Write, seed: u64, count: u64, first: u64) -> io::Result<ExitCode> {
-    writeln!(out, "long run: seed {seed}, {count} texts from number {first}")?;
+fn generated(words: &[&str]) -> Option<Texts> {
+    let numbers: Vec<u64> = words.iter().map(|word| word.parse().ok()).collect::<Option<_>>()?;
+    let number = |at: usize, usual: u64| numbers.get(at).copied().unwrap_or(usual);
+    let (seed, count, first) = (number(0, 8866), number(1, 10_000_000), number(2, 0));
+    let nth = move |at: u64| {
+        let number = first.wrapping_add(at);
+        Ok((format!("text {number} of seed {seed}"), sessions::nth(seed, number)))
+    };
+    (words.len() <= 3).then(|| Texts {
+        title: format!("seed {seed}, {count} texts from number {first}"),
+        count,
+        nth: Box::new(nth),
+    })
+}
+
+fn files(folder: &str) -> io::Result<Texts> {
+    let paths: io::Result<Vec<_>> = fs::read_dir(folder)?.map(|entry| Ok(entry?.path())).collect();
+    let mut paths = paths?;
+    paths.retain(|path| path.is_file());
+    paths.sort();
+    Ok(Texts {
+        title: format!("{} files of {folder}", paths.len()),
+        count: paths.len() as u64,
+        nth: Box::new(move |at| {
+            let path = &paths[at as usize];
+            Ok((path.display().to_string(), fs::read(path)?))
+        }),
+    })
+}
+
+fn run(out: &mut impl Write, texts: &Texts) -> io::Result<ExitCode> {
+    let count = texts.count;
+    writeln!(out, "long run: {}", texts.title)?;
     let mut whole = Whole::new(read, write);
     let mut tally = Tally::default();
     let (start, mut said) = (Instant::now(), Instant::now());
@@ -53,14 +109,13 @@ fn run(out: &mut impl Write, seed: u64, count: u64, first: u64) -> io::Result<Ex
             let left = duration((count - done) as f64 / rate);
             writeln!(out, "{done} of {count}, {rate:.0} a second, {left} left, {} accepted", tally.of(0))?;
         }
-        let number = first.wrapping_add(done);
-        let text = sessions::nth(seed, number);
+        let (name, text) = (texts.nth)(done)?;
         bytes += text.len();
         match whole.compare(&text) {
             Ok(answer) => tally.add(answer),
             Err(_) => {
                 writeln!(out, "{tally}\n{done} texts compared without a difference, and then:")?;
-                writeln!(out, "text {number} of seed {seed}: {}", whole.smallest(&text))?;
+                writeln!(out, "{name}: {}", whole.smallest(&text))?;
                 return Ok(ExitCode::FAILURE);
             }
         }
