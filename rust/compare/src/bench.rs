@@ -3,6 +3,7 @@
 use crate::area::{self, SIZE};
 use crate::{placed, theirs, Answer};
 use generate::shrink;
+use oracle::Session;
 use std::collections::BTreeMap;
 
 /// Bytes behind the area that must stay as they are.
@@ -27,6 +28,11 @@ impl<R: Fn(&[u8], &mut [u8]) -> Answer> Bench<R> {
 
     /// Both sides on one text: the answer if all agrees, else what differs.
     pub fn compare(&mut self, text: &[u8]) -> Result<Answer, String> {
+        self.both(text).map(|(answer, _)| answer)
+    }
+
+    /// As `compare`, with the crate's session of an accepted text.
+    pub fn both(&mut self, text: &[u8]) -> Result<(Answer, Option<Session>), String> {
         self.room.copy_from_slice(&self.found);
         let kept = text.to_vec();
         let ours = (self.reader)(text, &mut self.room);
@@ -47,7 +53,7 @@ impl<R: Fn(&[u8], &mut [u8]) -> Answer> Bench<R> {
         if self.room[SIZE..] != self.found[SIZE..] {
             return Err("bytes beyond the area were changed".into());
         }
-        match crates {
+        match &crates {
             Err(refusal) if refusal.number == 1 => {
                 if self.room != self.found {
                     return Err(format!("{ours:?}, and the area was changed"));
@@ -61,14 +67,19 @@ impl<R: Fn(&[u8], &mut [u8]) -> Answer> Bench<R> {
             Ok(session) => {
                 let seen = area::decode(&self.room)?;
                 let strings = theirs::comparable(seen.strings(text)?);
-                let due = theirs::of(&session);
+                let due = theirs::of(session);
                 if strings != due {
                     return Err(format!("ours {strings:?}\nthe crate {due:?}"));
                 }
                 placed::check(&seen, text)?;
             }
         }
-        Ok(ours)
+        Ok((ours, crates.ok()))
+    }
+
+    /// What the latest text left in the area.
+    pub fn area(&self) -> &[u8] {
+        &self.room[..SIZE]
     }
 
     /// As `compare`; a difference ends the test with the smallest input that still shows one.
@@ -78,16 +89,21 @@ impl<R: Fn(&[u8], &mut [u8]) -> Answer> Bench<R> {
 
     /// A report on the smallest text found that still differs.
     pub fn smallest(&mut self, text: &[u8]) -> String {
-        let small = shrink(text, |part| self.compare(part).is_err());
-        let what = self.compare(&small).expect_err("the smallest text differs too");
-        let hex: String = small.iter().map(|byte| format!("{byte:02x}")).collect();
-        format!(
-            "the two sides differ, smallest text of {} bytes (from {}):\n{}\nhex {hex}\n{what}",
-            small.len(),
-            text.len(),
-            small.escape_ascii()
-        )
+        smallest(text, |part| self.compare(part).err())
     }
+}
+
+/// A report on the smallest text found for which `differs` still says something, as it does for `text`.
+pub fn smallest(text: &[u8], mut differs: impl FnMut(&[u8]) -> Option<String>) -> String {
+    let small = shrink(text, |part| differs(part).is_some());
+    let what = differs(&small).expect("the smallest text differs too");
+    let hex: String = small.iter().map(|byte| format!("{byte:02x}")).collect();
+    format!(
+        "the two sides differ, smallest text of {} bytes (from {}):\n{}\nhex {hex}\n{what}",
+        small.len(),
+        text.len(),
+        small.escape_ascii()
+    )
 }
 
 /// How often each answer came, by number and field.

@@ -10,5 +10,7 @@ pub mod placed;
 #[cfg(feature = "crate")]
 pub mod theirs;
 #[cfg(feature = "crate")]
+pub mod whole;
+#[cfg(feature = "crate")]
 pub mod writing;
 pub use sdp::ffi::*;

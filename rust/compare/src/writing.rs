@@ -69,6 +69,11 @@ impl<W: Fn(&[u8], &[u8], &mut [u8]) -> Answer> Writing<W> {
         Ok(())
     }
 
+    /// One call with an output of just the length that is needed, which must then hold `due`.
+    pub fn exact(&self, text: &[u8], area: &[u8], due: &[u8]) -> Result<(), String> {
+        self.call(text, area, due.len(), refusal(0, due.len()), due)
+    }
+
     /// Both sides on one area of `SIZE` bytes or more, with a text that isn't too long: into outputs that are empty,
     /// short, exact and longer.
     pub fn compare(&self, text: &[u8], area: &[u8]) -> Result<Outcome, String> {

@@ -4,6 +4,7 @@ mod plain;
 use compare::area::SIZE;
 use compare::bench::{Bench, Tally};
 use compare::made::{self, DAMAGES};
+use compare::whole::Whole;
 use compare::writing::{Outcome, Writing};
 use generate::{random::count, sessions, shrink, Random};
 use plain::writer::PlainWriter;
@@ -101,4 +102,39 @@ fn each_slip_of_the_writer_is_found() {
         latest = latest.max(number);
     }
     println!("slips of the writer: all {} found, the last by area {latest}", slips.len());
+}
+
+/// A reader or a writer that errs only on a written form: nothing but reading back shows that.
+#[test]
+fn slips_on_written_forms_are_found() {
+    let text = b"v=0\ns=Desk 4\nt=+60 0\n";
+    let is_written = |text: &[u8]| text.ends_with(b"\r\n");
+    for (wrong_reader, wrong_writer, due) in [
+        (false, false, None),
+        (true, false, Some("read back")),
+        (false, true, Some("written once more")),
+    ] {
+        let reader = |text: &[u8], area: &mut [u8]| {
+            let mut answer = Plain { slip: "" }.read(text, area);
+            answer.field += u64::from(wrong_reader && is_written(text));
+            answer
+        };
+        let writer = |text: &[u8], area: &[u8], out: &mut [u8]| {
+            let answer = PlainWriter { slip: "" }.write(text, area, out);
+            if wrong_writer && is_written(text) && answer.number == 0 {
+                out[0] = b'V';
+            }
+            answer
+        };
+        let mut whole = Whole::new(reader, writer);
+        match (whole.compare(text), due) {
+            (Ok(_), None) => assert_eq!((whole.counts.accepted, whole.counts.read_back), (1, 1)),
+            (Err(why), Some(due)) => {
+                assert!(why.starts_with(due), "{why}");
+                let report = whole.smallest(text);
+                assert!(report.contains("smallest text of 3 bytes") && report.contains("\nv=0\n"), "{report}");
+            }
+            (found, due) => panic!("{found:?}, due {due:?}"),
+        }
+    }
 }

@@ -6,7 +6,8 @@ use compare::area::{
 };
 use compare::judge::{cells, faults, judge, two, Fault, Kind, FAULTS};
 use compare::made::{self, at, put_eight, put_two, DAMAGES};
-use compare::writing::{folded, kept_lines, Outcome, Writing};
+use compare::whole::Whole;
+use compare::writing::{kept_lines, Outcome, Writing};
 use compare::{read, theirs, write, Answer};
 use generate::fields::BROKEN;
 use generate::random::count;
@@ -34,61 +35,9 @@ fn area_of(text: &[u8]) -> Option<Vec<u8>> {
     (read(text, &mut area).number == 0).then_some(area)
 }
 
-/// The session's strings as the crate would have them, for comparing two sessions "wherever the strings stand". The
-/// placeholder stands for a missing origin.
-fn meaning(text: &[u8], area: &[u8]) -> Seen<Vec<u8>> {
-    let mut seen = decode(area).unwrap().strings(text).unwrap();
-    seen.origin.get_or_insert_with(theirs::placeholder);
-    seen
-}
-
-#[derive(Debug, Default)]
-struct Counts {
-    accepted: u64,
-    refused: u64,
-    read_back: u64,
-    too_long: u64,
-    longest: usize,
-    /// How near the bound was reached.
-    nearest: Option<usize>,
-}
-
-impl Counts {
-    /// One text, by both readers and both writers; what was written is read back.
-    fn add(&mut self, text: &[u8]) {
-        let Some(area) = area_of(text) else {
-            assert!(oracle::read(text).is_err(), "{}", text.escape_ascii());
-            self.refused += 1;
-            return;
-        };
-        self.accepted += 1;
-        let session = oracle::read(text).unwrap_or_else(|refusal| panic!("{refusal:?}: {}", text.escape_ascii()));
-        let Outcome::Written(ours) = writing().same(text, &area) else {
-            panic!("a session that was read is refused: {}", text.escape_ascii())
-        };
-        assert_eq!(folded(&ours).escape_ascii().to_string(), written(&session).escape_ascii().to_string());
-        let most = text.len() + kept_lines(text) + 36;
-        assert!(ours.len() <= most, "{} bytes written for {}", ours.len(), text.escape_ascii());
-        let spare = most - ours.len();
-        self.nearest = Some(self.nearest.map_or(spare, |nearest| nearest.min(spare)));
-        self.longest = self.longest.max(ours.len());
-        if ours.len() > LONGEST {
-            assert_eq!(read(&ours, &mut vec![0; SIZE]).number, 1);
-            self.too_long += 1;
-            return;
-        }
-        let again = area_of(&ours).unwrap_or_else(|| panic!("not read back: {}", ours.escape_ascii()));
-        let mut due = meaning(text, &area);
-        if due.times.is_empty() {
-            due.times.push(Time { start: 0, stop: 0 });
-        }
-        assert_eq!(meaning(&ours, &again), due);
-        // and what is written of that is the same text
-        let mut second = vec![0; ours.len()];
-        assert_eq!(write(&ours, &again, &mut second), only(0, ours.len()));
-        assert_eq!(second, ours);
-        self.read_back += 1;
-    }
+/// Texts through both readers and both writers; what was written is read back.
+fn both_sides() -> Whole<fn(&[u8], &mut [u8]) -> Answer, fn(&[u8], &[u8], &mut [u8]) -> Answer> {
+    Whole::new(read, write)
 }
 
 // ---- what was read
@@ -96,39 +45,39 @@ impl Counts {
 #[test]
 fn generated() {
     let seed = generate::random::from_env("SEED", 8866);
-    let mut counts = Counts::default();
+    let mut both = both_sides();
     let texts = count(40_000);
     for number in 0..texts {
         // other numbers than the reader's own comparison has
-        counts.add(&sessions::nth(seed, 1_000_000_000 + number));
+        both.same(&sessions::nth(seed, 1_000_000_000 + number));
     }
-    println!("write: seed {seed}, {texts} generated texts: {counts:?}");
-    assert!(counts.accepted * 5 > texts && counts.refused > 0 && counts.read_back > 0);
+    println!("write: seed {seed}, {texts} generated texts: {:?}", both.counts);
+    assert!(both.counts.accepted * 5 > texts && both.counts.refused > 0 && both.counts.read_back > 0);
 }
 
 #[test]
 fn good_texts() {
     let mut random = Random::of_test("write good texts");
-    let mut counts = Counts::default();
+    let mut both = both_sides();
     for _ in 0..count(10_000) {
         let lines = sessions::good(&mut random);
-        counts.add(&sessions::ended(&mut random, &lines));
-        counts.add(&texts::text(&mut random));
+        both.same(&sessions::ended(&mut random, &lines));
+        both.same(&texts::text(&mut random));
     }
-    println!("write: good texts: {counts:?}");
-    assert!(counts.accepted > counts.refused);
+    println!("write: good texts: {:?}", both.counts);
+    assert!(both.counts.accepted > both.counts.refused);
 }
 
 #[test]
 fn full_tables() {
     let mut random = Random::of_test("write full tables");
-    let mut counts = Counts::default();
+    let mut both = both_sides();
     for _ in 0..count(8) {
         for table in 1..=10 {
             let (mut session, mut media) = (vec![b"v=0".to_vec()], Vec::new());
             sessions::fill(&mut random, table, sessions::TABLES[table - 1], &mut session, &mut media);
             session.retain(|line| line.len() < 500); // table 6 may have a line that is too much
-            counts.add(&[session, media].concat().join(&b'\n'));
+            both.same(&[session, media].concat().join(&b'\n'));
         }
     }
     // all ten full at once
@@ -145,21 +94,21 @@ fn full_tables() {
     let text = [session, media].concat().join(&b'\n');
     let area = area_of(&text).expect("all tables are full, and none is too small");
     assert_eq!(decode(&area).unwrap().counts(), sessions::TABLES);
-    counts.add(&text);
-    println!("write: full tables: {counts:?}");
-    assert!(counts.accepted > 80 / 2 && counts.refused == 0);
+    both.same(&text);
+    println!("write: full tables: {:?}", both.counts);
+    assert!(both.counts.accepted > 80 / 2 && both.counts.refused == 0);
 }
 
 /// Texts as long as they may be: some are written longer than a text may be.
 #[test]
 fn longest_texts() {
     let mut random = Random::of_test("write longest");
-    let mut counts = Counts::default();
+    let mut both = both_sides();
     for _ in 0..count(60) {
         let lines = sessions::good(&mut random);
         let text = sessions::ended(&mut random, &lines);
         let due = LONGEST - random.below(3);
-        counts.add(&sessions::lengthened(&mut random, text, due));
+        both.same(&sessions::lengthened(&mut random, text, due));
     }
     // many short kept lines, each one byte longer when written
     let mut text = b"v=0\n".to_vec();
@@ -167,39 +116,39 @@ fn longest_texts() {
     (0..32).for_each(|_| text.extend(b"m= 0  \n"));
     text.extend(b"i=");
     text.resize(LONGEST, b'x');
-    counts.add(&text);
-    println!("write: longest texts: {counts:?}");
-    assert!(counts.accepted > 0 && counts.too_long > 0 && counts.longest > LONGEST);
+    both.same(&text);
+    println!("write: longest texts: {:?}", both.counts);
+    assert!(both.counts.accepted > 0 && both.counts.too_long > 0 && both.counts.longest > LONGEST);
 }
 
 /// Document 01: `v=0` writes 40 bytes, and the bound is reached.
 #[test]
 fn the_bound_is_tight() {
-    let mut counts = Counts::default();
-    counts.add(b"v=0");
-    assert_eq!((counts.longest, counts.nearest), (40, Some(0)));
-    counts.add(b"v=0\n");
-    counts.add(b"v=0\r\ns=\r\n");
-    counts.add(b"\n\nv=0\nx=\xff\nt=+1 01\nz=\n");
-    assert_eq!(counts.read_back, 4);
+    let mut both = both_sides();
+    both.same(b"v=0");
+    assert_eq!((both.counts.longest, both.counts.nearest), (40, Some(0)));
+    both.same(b"v=0\n");
+    both.same(b"v=0\r\ns=\r\n");
+    both.same(b"\n\nv=0\nx=\xff\nt=+1 01\nz=\n");
+    assert_eq!(both.counts.read_back, 4);
     assert_eq!(kept_lines(b"\nv=0\nv=0\nx=\ns=\n\nm= 1  \ns=\ni=\nm= 1  \na="), 6);
 }
 
 /// Every text in the folder `texts`, with the nettypes and addrtypes as they stand.
 #[test]
 fn the_folder_of_texts() {
-    let mut counts = Counts::default();
+    let mut both = both_sides();
     for folder in ["published", "kinds"] {
         let folder = format!("{}/../../texts/{folder}", env!("CARGO_MANIFEST_DIR"));
         for entry in fs::read_dir(&folder).unwrap_or_else(|error| panic!("{folder}: {error}")) {
             let path = entry.unwrap().path();
             if path.extension().map_or(false, |end| end == "sdp") {
-                counts.add(&fs::read(path).unwrap());
+                both.same(&fs::read(path).unwrap());
             }
         }
     }
-    println!("write: the folder of texts: {counts:?}");
-    assert!(counts.accepted >= 25 && counts.refused >= 5);
+    println!("write: the folder of texts: {:?}", both.counts);
+    assert!(both.counts.accepted >= 25 && both.counts.refused >= 5);
 }
 
 // ---- areas that no reader made

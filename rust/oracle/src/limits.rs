@@ -64,12 +64,15 @@ pub fn read(text: &[u8]) -> Result<Session, Refusal> {
             Some(*end)
         })
         .collect();
-    let accepted = match &answer {
-        Ok(_) => ends.len(),
-        // 6 names no line, and comes before any record
-        Err(refusal) => (refusal.line as usize).saturating_sub(1),
+    let (accepted, table) = match &answer {
+        Ok(session) => (ends.len(), full(session)),
+        Err(refusal) => {
+            // 6 names no line, and comes before any record
+            let before = (refusal.line as usize).saturating_sub(1);
+            (before, full_after(text, &ends, before))
+        }
     };
-    if full_after(text, &ends, accepted).is_none() {
+    if table.is_none() {
         return answer;
     }
     // The records only grow with the lines: halve to the first line after which they don't fit.

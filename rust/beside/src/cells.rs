@@ -1,0 +1,128 @@
+//! How bytes are shown: character by character, with every one that can't be seen as an escape, and counted in columns.
+use std::str::from_utf8;
+
+/// What is shown at one place and never divided: a character with the marks that combine with it, or an escape.
+#[derive(Debug, Clone, PartialEq, Eq)]
+pub struct Cell {
+    pub shown: String,
+    pub width: usize,
+    /// In the part of a line that differs from the other column.
+    pub differs: bool,
+}
+
+/// Characters that are counted as two columns, by blocks: East Asian scripts and full-width forms, and pictures. Some of
+/// these pictures take one in most terminals; a row is then shorter than it was counted, and never longer.
+const WIDE: [(u32, u32); 18] = [
+    (0x1100, 0x115f),
+    (0x231a, 0x232a),
+    (0x23e9, 0x23f3),
+    (0x2600, 0x27bf),
+    (0x2b1b, 0x2b55),
+    (0x2e80, 0x303e),
+    (0x3041, 0xa4cf),
+    (0xa960, 0xa97f),
+    (0xac00, 0xd7a3),
+    (0xf900, 0xfaff),
+    (0xfe10, 0xfe19),
+    (0xfe30, 0xfe6f),
+    (0xff01, 0xff60),
+    (0xffe0, 0xffe6),
+    (0x16fe0, 0x18dff),
+    (0x1aff0, 0x1b2ff),
+    (0x1f000, 0x1faff),
+    (0x20000, 0x3ffff),
+];
+
+/// Columns of a character that is shown as it is.
+fn width(char: char) -> usize {
+    let wide = !char.is_ascii() && WIDE.iter().any(|(first, last)| (*first..=*last).contains(&u32::from(char)));
+    1 + usize::from(wide)
+}
+
+enum Look {
+    Seen,
+    /// It stands on the character before.
+    Combines,
+    Hidden,
+}
+
+/// By std's own tables: a character that `escape_debug` lets pass can be seen, and one that it lets pass inside a
+/// string only combines.
+fn look(char: char) -> Look {
+    let alone = |mut escape: std::char::EscapeDebug| escape.next() == Some(char) && escape.next().is_none();
+    if char.is_ascii() {
+        // a backslash counts as hidden, so that an escape can't be mistaken for what stands in the text
+        let seen = (char.is_ascii_graphic() || char == ' ') && char != '\\';
+        return if seen { Look::Seen } else { Look::Hidden };
+    }
+    if alone(char.escape_debug()) {
+        Look::Seen
+    } else if format!("x{char}").escape_debug().eq(['x', char]) {
+        Look::Combines
+    } else {
+        Look::Hidden
+    }
+}
+
+/// The bytes of a line as they are shown: `\t`, `\\`, `\xff` for a byte that is not UTF-8, `\u{a0}` for a character that
+/// can't be seen, and `\x20` for a space at the line's end.
+pub fn cells(line: &[u8]) -> Vec<Cell> {
+    let mut cells: Vec<Cell> = Vec::new();
+    let cell = |shown: String, width: usize| Cell { shown, width, differs: false };
+    let escape = |shown: String| cell(shown.clone(), shown.len());
+    let hex = |byte: &u8| escape(format!("\\x{byte:02x}"));
+    let mut rest = line;
+    while !rest.is_empty() {
+        let (text, bad) = match from_utf8(rest) {
+            Ok(text) => (text, 0),
+            Err(error) => {
+                let end = error.valid_up_to();
+                (from_utf8(&rest[..end]).unwrap_or_default(), error.error_len().unwrap_or(rest.len() - end))
+            }
+        };
+        for char in text.chars() {
+            match (look(char), cells.last_mut()) {
+                (Look::Seen, _) => cells.push(cell(char.into(), width(char))),
+                (Look::Combines, Some(base)) if !base.shown.starts_with('\\') => base.shown.push(char),
+                _ if char.is_ascii() && !matches!(char, '\\' | '\t' | '\r') => cells.push(hex(&(char as u8))),
+                _ => cells.push(escape(char.escape_default().to_string())),
+            }
+        }
+        cells.extend(rest[text.len()..text.len() + bad].iter().map(hex));
+        rest = &rest[text.len() + bad..];
+    }
+    if let Some(last) = cells.last_mut().filter(|last| last.shown == " ") {
+        *last = hex(&b' ');
+    }
+    cells
+}
+
+/// Marks what differs between two lines: all but their common beginning and their common end.
+pub fn mark_difference(left: &mut [Cell], right: &mut [Cell]) {
+    let same = |pair: &(&Cell, &Cell)| pair.0.shown == pair.1.shown;
+    let start = left.iter().zip(right.iter()).take_while(same).count();
+    let end = left[start..].iter().rev().zip(right[start..].iter().rev()).take_while(same).count();
+    for side in [left, right] {
+        let len = side.len();
+        side[start..len - end].iter_mut().for_each(|cell| cell.differs = true);
+    }
+}
+
+/// Columns that the cells take.
+pub fn columns(cells: &[Cell]) -> usize {
+    cells.iter().map(|cell| cell.width).sum()
+}
+
+/// The cells in pieces of at most `most` columns; one piece where there are none. `most` is wider than any cell.
+pub fn pieces(cells: &[Cell], most: usize) -> Vec<&[Cell]> {
+    let (mut pieces, mut start, mut taken) = (Vec::new(), 0, 0);
+    for (at, cell) in cells.iter().enumerate() {
+        if taken + cell.width > most {
+            pieces.push(&cells[start..at]);
+            (start, taken) = (at, 0);
+        }
+        taken += cell.width;
+    }
+    pieces.push(&cells[start..]);
+    pieces
+}

@@ -1,0 +1,88 @@
+//! `beside [FILE]`: a session description and its canonical form side by side.
+use beside::canonical;
+use beside::page::{page, LONGEST};
+use std::ffi::OsString;
+use std::fs::File;
+use std::io::{self, ErrorKind, IsTerminal, Read, Write};
+use std::process::ExitCode;
+
+const REFUSED: u8 = 1;
+const FAILED: u8 = 2;
+/// Of a text that is too long this much is read and dropped, so that a program that pipes it in isn't stopped.
+const DRAINED: u64 = 1 << 28;
+
+const HELP: &str = "\
+usage: beside [FILE]
+Shows a session description and its canonical form side by side, line by line. Without FILE, or with -, the text comes
+from standard input. The lines are numbered on both sides; between them stands a mark:
+  =  the line is written as it stands
+  ~  changed: numbers, times and spaces are written in one way
+  -  dropped: an empty line, or a letter that has no use there
+  +  added: what every session has and this text doesn't
+  >  moved from here, and written where < stands
+  !  the line for which the text is refused; the refusal is below, as docs/FFI.md has it
+The ends of lines are told above the columns, and not as changes. What can't be seen is shown as \\t, \\xff (a byte) or
+\\u{a0} (a character), a backslash as \\\\, a space at a line's end as \\x20. Long lines go on in the next row. No row is
+wider than 100 columns. There is colour only on a terminal, and none where NO_COLOR is set.
+status: 0 the text is accepted, changed or not; 1 it is refused; 2 wrong words, or the text can't be read
+";
+
+/// The text, or its first bytes where it is too long.
+fn take(mut input: impl Read) -> io::Result<Vec<u8>> {
+    let mut text = Vec::new();
+    input.by_ref().take(LONGEST as u64 + 1).read_to_end(&mut text)?;
+    if text.len() > LONGEST {
+        io::copy(&mut input.take(DRAINED), &mut io::sink())?;
+    }
+    Ok(text)
+}
+
+fn fail(what: &str) -> ExitCode {
+    eprintln!("beside: {what}");
+    ExitCode::from(FAILED)
+}
+
+fn main() -> ExitCode {
+    let mut words: Vec<OsString> = std::env::args_os().skip(1).collect();
+    let only_files = words.first().map_or(false, |word| word == "--");
+    if only_files {
+        words.remove(0);
+    }
+    let option = words.iter().find(|word| !only_files && word.len() > 1 && word.to_string_lossy().starts_with('-'));
+    if let Some(option) = option {
+        if option == "--help" || option == "-h" {
+            return show(HELP, ExitCode::SUCCESS);
+        }
+        return fail(&format!("there is no option {}; --help says more", option.to_string_lossy()));
+    }
+    let (name, text) = match &words[..] {
+        [] => ("standard input".into(), from_standard_input()),
+        [word] if word == "-" && !only_files => ("standard input".into(), from_standard_input()),
+        [word] => (word.to_string_lossy(), File::open(word).and_then(take)),
+        _ => return fail("it takes one file at most; --help says more"),
+    };
+    let text = match text {
+        Ok(text) => text,
+        Err(error) => return fail(&format!("{name}: {error}")),
+    };
+    let written = canonical(&text);
+    let colour = io::stdout().is_terminal() && std::env::var_os("NO_COLOR").map_or(true, |value| value.is_empty());
+    let status = if written.is_ok() { ExitCode::SUCCESS } else { ExitCode::from(REFUSED) };
+    show(&page(&text, written.as_deref().map_err(|refusal| *refusal), colour), status)
+}
+
+fn from_standard_input() -> io::Result<Vec<u8>> {
+    if io::stdin().is_terminal() {
+        eprintln!("beside: type or paste a session description, and end it with Ctrl-D");
+    }
+    take(io::stdin().lock())
+}
+
+/// Whoever closes the pipe early has seen enough.
+fn show(page: &str, status: ExitCode) -> ExitCode {
+    let mut out = io::stdout().lock();
+    match out.write_all(page.as_bytes()).and_then(|()| out.flush()) {
+        Err(error) if error.kind() != ErrorKind::BrokenPipe => fail(&format!("standard output: {error}")),
+        _ => status,
+    }
+}

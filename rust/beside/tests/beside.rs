@@ -1,0 +1,384 @@
+//! The alignment, the page, and the program as a user runs it.
+use beside::align::{align, lines, Row};
+use beside::cells::{cells, columns};
+use beside::page::{page, LONGEST, WIDTH};
+use beside::{canonical, Refusal};
+use generate::random::{count, from_env};
+use generate::sessions;
+use std::fs;
+use std::io::Write;
+use std::path::{Path, PathBuf};
+use std::process::{Command, Output, Stdio};
+use std::sync::OnceLock;
+
+fn folder(name: &str) -> PathBuf {
+    Path::new(env!("CARGO_MANIFEST_DIR")).join(name)
+}
+
+/// The files of a folder that end in `.sdp`.
+fn texts_in(name: &str) -> Vec<PathBuf> {
+    let entries = fs::read_dir(folder(name)).unwrap_or_else(|error| panic!("{name}: {error}"));
+    let mut paths: Vec<PathBuf> = entries.map(|entry| entry.unwrap().path()).collect();
+    paths.retain(|path| path.extension().map_or(false, |end| end == "sdp"));
+    paths.sort();
+    paths
+}
+
+struct Case {
+    text: Vec<u8>,
+    written: Result<Vec<u8>, Refusal>,
+    page: String,
+}
+
+/// All texts with what becomes of them, made once for all tests.
+fn cases() -> &'static [Case] {
+    static CASES: OnceLock<Vec<Case>> = OnceLock::new();
+    let case = |text: Vec<u8>| {
+        let written = canonical(&text);
+        let page = page_of(&text, &written, false);
+        Case { text, written, page }
+    };
+    CASES.get_or_init(|| texts().into_iter().map(case).collect())
+}
+
+fn page_of(text: &[u8], written: &Result<Vec<u8>, Refusal>, colour: bool) -> String {
+    page(text, written.as_deref().map_err(|refusal| *refusal), colour)
+}
+
+/// The accepted texts, with their canonical forms and their pages.
+fn accepted() -> impl Iterator<Item = (&'static [u8], &'static [u8], &'static str)> {
+    cases().iter().filter_map(|case| Some((&case.text[..], case.written.as_deref().ok()?, case.page.as_str())))
+}
+
+/// The folder of texts, the stored ones, some with long lines and odd bytes, and generated ones.
+fn texts() -> Vec<Vec<u8>> {
+    let mut texts: Vec<Vec<u8>> = Vec::new();
+    for name in ["../../texts/published", "../../texts/kinds", "tests/stored"] {
+        texts.extend(texts_in(name).iter().map(|path| fs::read(path).unwrap()));
+    }
+    assert!(texts.len() > 60);
+    for part in ["x", "\\", "\u{6f22}", "e\u{301}", "\u{301}", "\u{1f3b5}", "\u{10ffff}", " ", "\t"] {
+        texts.push(format!("v=0\ns={}\nt=+1 0\n", part.repeat(300)).into_bytes());
+        texts.push(format!("v=0\na={}", part.repeat(2_000)).into_bytes());
+    }
+    // numbers of four digits
+    texts.push(format!("{}v=0\na={}", "\n".repeat(1_200), "x".repeat(500)).into_bytes());
+    texts.push([&b"v=0\nx="[..], &[0xff; 500], b"\xe2\x82"].concat());
+    let seed = from_env("SEED", 8866);
+    texts.extend((0..count(2_000)).map(|number| sessions::nth(seed, 2_000_000_000 + number)));
+    texts
+}
+
+// ---- the alignment
+
+/// Each line of both sides has one row, in its order; a moved one has one in each column, which name each other.
+#[test]
+fn each_line_once() {
+    let (mut texts, mut moved) = (0, 0);
+    for (text, written, _) in accepted() {
+        texts += 1;
+        let (left, right) = (lines(text), lines(written));
+        let rows = align(&left, &right);
+        let (mut lefts, mut rights, mut from, mut to) = (Vec::new(), Vec::new(), Vec::new(), Vec::new());
+        for row in &rows {
+            match *row {
+                Row::Same { left: l, right: r } | Row::Changed { left: l, right: r } => {
+                    assert_eq!(left[l] == right[r], matches!(row, Row::Same { .. }));
+                    lefts.push(l);
+                    rights.push(r);
+                }
+                Row::Dropped { left, .. } => lefts.push(left),
+                Row::Added { right } => rights.push(right),
+                Row::MovedFrom { left, right } => {
+                    lefts.push(left);
+                    from.push((left, right));
+                }
+                Row::MovedTo { left, right } => {
+                    rights.push(right);
+                    to.push((left, right));
+                }
+            }
+        }
+        assert!(lefts.into_iter().eq(0..left.len()), "{}", text.escape_ascii());
+        assert!(rights.into_iter().eq(0..right.len()), "{}", text.escape_ascii());
+        moved += from.len();
+        to.sort_unstable();
+        assert_eq!(from, to);
+    }
+    println!("beside: {texts} accepted texts, {moved} lines moved");
+    assert!(texts > 500 && moved > 500);
+}
+
+/// A line that became another one becomes the same alone, in the smallest text that it can stand in; one that was dropped
+/// leaves nothing there, and one that was added comes of nothing.
+#[test]
+fn each_pair_alone() {
+    let starts = [&b""[..], b"v=0\n", b"v=0\nt=7 7\n", b"v=0\nm=a 1 p f\n"];
+    let before = starts.map(|start| canonical(if start.is_empty() { b"v=0" } else { start }).unwrap());
+    let alone = |line: &[u8], in_media: bool| {
+        let start = match line.first() {
+            Some(b'v') | None => 0,
+            Some(b'r') if !in_media => 2,
+            Some(b'm') => 1,
+            _ if in_media => 3,
+            _ => 1,
+        };
+        (&before[start][..], canonical(&[starts[start], line, b"\n"].concat()))
+    };
+    let (mut pairs, mut dropped, mut added) = (0, 0, 0);
+    for (text, written, _) in accepted() {
+        let (left, right) = (lines(text), lines(written));
+        let medias = left.iter().position(|line| line.first() == Some(&b'm')).unwrap_or(left.len());
+        for row in align(&left, &right) {
+            match row {
+                Row::Same { left: l, right: r } | Row::Changed { left: l, right: r } | Row::MovedFrom { left: l, right: r } => {
+                    let (_, after) = alone(left[l], l >= medias);
+                    let after = after.unwrap_or_else(|refusal| panic!("{refusal:?}: {}", left[l].escape_ascii()));
+                    assert!(lines(&after).contains(&right[r]), "{}", left[l].escape_ascii());
+                    pairs += 1;
+                }
+                Row::Dropped { left: l, .. } if !left[l].starts_with(b"v=") && !left[l].is_empty() => {
+                    let (before, after) = alone(left[l], l >= medias);
+                    assert_eq!(after.as_deref(), Ok(before), "{}", left[l].escape_ascii());
+                    dropped += 1;
+                }
+                Row::Added { right: r } => {
+                    let placeholders = [&b"o=- 0 0 IN IP4 0.0.0.0"[..], b"s=", b"t=0 0"];
+                    assert!(placeholders.contains(&right[r]), "{}", right[r].escape_ascii());
+                    added += 1;
+                }
+                _ => {}
+            }
+        }
+    }
+    println!("beside: {pairs} pairs, {dropped} dropped, {added} added");
+    assert!(pairs > 5_000 && dropped > 500 && added > 500);
+}
+
+// ---- the page
+
+/// Columns by the rule of the help, for a row that has no escapes of a terminal.
+fn width(row: &str) -> usize {
+    // a backslash starts an escape that was made already, and counts as it stands
+    let plain: Vec<u8> = row.bytes().map(|byte| if matches!(byte, b'\\' | b' ') { b'.' } else { byte }).collect();
+    columns(&cells(&plain))
+}
+
+#[test]
+fn known_widths() {
+    for (text, due) in [("abc", 3), ("\u{e9}", 1), ("e\u{301}", 1), ("\u{6f22}\u{5b57}", 4), ("\u{1f3b5}", 2), ("\u{20ac}", 1)] {
+        assert_eq!(columns(&cells(text.as_bytes())), due, "{text}");
+    }
+    for (bytes, due) in [
+        (&b"\\"[..], r"\\"),
+        (b"\t", r"\t"),
+        (b"\x1b[0m", r"\x1b[0m"),
+        (b"\x7f\x00\r", r"\x7f\x00\r"),
+        (b"\xff", r"\xff"),
+        (b"\xe2\x82", r"\xe2\x82"),
+        (b"a \xed\xa0\x80b", r"a \xed\xa0\x80b"),
+        ("\u{a0}\u{200b}\u{202e}\u{feff}\u{301}".as_bytes(), r"\u{a0}\u{200b}\u{202e}\u{feff}\u{301}"),
+        (b" a  ", r" a \x20"),
+        (b"it's \"so\"", "it's \"so\""),
+    ] {
+        let shown: String = cells(bytes).into_iter().map(|cell| cell.shown).collect();
+        assert_eq!((shown.as_str(), columns(&cells(bytes))), (due, due.chars().count()));
+    }
+}
+
+#[test]
+fn no_row_is_too_wide() {
+    let (mut rows, mut widest) = (0, 0);
+    for Case { page, .. } in cases() {
+        assert!(page.ends_with('\n') && !page.contains(|char: char| char.is_control() && char != '\n'));
+        for row in page.lines() {
+            rows += 1;
+            widest = widest.max(width(row));
+            assert!(width(row) <= WIDTH, "{} columns: {row}", width(row));
+        }
+    }
+    println!("beside: {rows} rows, the widest has {widest} columns");
+    assert!(widest > WIDTH - 3);
+}
+
+/// Both columns are read back from the page: all lines of both texts, whole and in order, each with its number.
+#[test]
+fn the_page_has_all_lines() {
+    let shown = |text: &[u8]| -> Vec<String> {
+        let line = |line: &&[u8]| cells(line).into_iter().map(|cell| cell.shown).collect();
+        lines(text).iter().map(line).collect()
+    };
+    let mut pages = 0;
+    for (text, written, page) in accepted().filter(|(.., page)| page.is_ascii()) {
+        pages += 1;
+        let title = page.lines().next().unwrap();
+        let (left, right) = (title.find("text (").unwrap(), title.find("canonical form (").unwrap());
+        let digits = left - 1;
+        let mark = right - digits - 3;
+        let mut columns = [(0, left, mark - 1, Vec::new()), (mark + 2, right, WIDTH, Vec::new())];
+        for row in page.lines().skip(1).take_while(|row| !row.is_empty()) {
+            let part = |from: usize, to: usize| &row[from.min(row.len())..to.min(row.len())];
+            assert!(part(mark - 1, mark).trim().is_empty() && part(mark + 1, mark + 2).trim().is_empty(), "{row}");
+            let goes_on = part(mark, mark + 1).trim().is_empty();
+            for (numbers, start, end, lines) in &mut columns {
+                let piece = part(*start, *end);
+                match (part(*numbers, *numbers + digits).trim(), lines.last_mut()) {
+                    ("", Some(line)) if goes_on => *line += piece,
+                    ("", _) => assert!(piece.starts_with('('), "{row}"),
+                    (number, _) => {
+                        lines.push(piece.to_string());
+                        assert_eq!(number, lines.len().to_string(), "{page}");
+                    }
+                }
+            }
+        }
+        // padding can't be told from spaces at a piece's end, so all spaces are left out
+        let packed = |lines: &[String]| lines.iter().map(|line| line.replace(' ', "")).collect::<Vec<_>>();
+        assert_eq!(packed(&columns[0].3), packed(&shown(text)));
+        assert_eq!(packed(&columns[1].3), packed(&shown(written)));
+    }
+    println!("beside: {pages} pages read back");
+    assert!(pages > 200);
+}
+
+/// A terminal shows the same as a pipe, and colour is never in the text's own bytes.
+fn without_colour(page: &str) -> String {
+    let mut parts = page.split("\x1b[");
+    let first = parts.next().unwrap().to_string();
+    parts.fold(first, |plain, part| {
+        let (code, rest) = part.split_once('m').expect("a colour ends with m");
+        assert!(code.bytes().all(|byte| byte.is_ascii_digit() || byte == b';'), "{code}");
+        plain + rest
+    })
+}
+
+#[test]
+fn colour_changes_no_text() {
+    let mut coloured = 0;
+    for Case { text, written, page } in cases() {
+        let colour = page_of(text, written, true);
+        assert_eq!(without_colour(&colour), *page);
+        coloured += usize::from(colour != *page);
+    }
+    assert!(coloured > 1_000);
+}
+
+#[test]
+fn refusals_in_words() {
+    let mut refused = 0;
+    for Case { written, page, .. } in cases() {
+        let Err(Refusal { number, line, field }) = *written else { continue };
+        let due = format!("\n\nrefused {number} line {line} field {field}\n");
+        let (rows, words) = page.split_once(&due).unwrap_or_else(|| panic!("{page}"));
+        assert!(words.lines().count() == 1 && !words.contains("docs/FFI.md"), "{page}");
+        assert!(!words.contains("without a name"), "{page}");
+        // the number of the refused line, and then its mark
+        let number = rows.lines().filter_map(|row| row.trim_start().split_once(" !"));
+        let marked = number.filter(|(number, rest)| *number == line.to_string() && !rest.starts_with('!')).count();
+        assert_eq!(marked, usize::from(line > 0), "{page}");
+        refused += 1;
+    }
+    println!("beside: {refused} refused texts");
+    assert!(refused > 500);
+}
+
+// ---- the program
+
+/// As cargo runs the tests: on x86-64 directly, else under the kit's emulator.
+const RUNNER: &str = concat!(env!("CARGO_MANIFEST_DIR"), "/../run-x86");
+const PROGRAM: &str = env!("CARGO_BIN_EXE_beside");
+
+fn run(words: &[&str], input: &[u8]) -> Output {
+    let mut child = Command::new(RUNNER)
+        .arg(PROGRAM)
+        .args(words)
+        .stdin(Stdio::piped())
+        .stdout(Stdio::piped())
+        .stderr(Stdio::piped())
+        .spawn()
+        .unwrap_or_else(|error| panic!("{RUNNER}: {error}"));
+    let (mut to, input) = (child.stdin.take().unwrap(), input.to_vec());
+    // a program that has a file doesn't read this
+    let feed = std::thread::spawn(move || drop(to.write_all(&input)));
+    let output = child.wait_with_output().unwrap();
+    feed.join().unwrap();
+    output
+}
+
+#[test]
+fn stored_pages() {
+    let paths = texts_in("tests/stored");
+    assert!(paths.len() >= 4);
+    for path in paths {
+        let due = fs::read_to_string(path.with_extension("page")).unwrap_or_else(|error| panic!("{}: {error}", path.display()));
+        let text = fs::read(&path).unwrap();
+        let status = if due.contains("\n\nrefused ") { 1 } else { 0 };
+        let name = path.to_str().unwrap();
+        for output in [run(&[name], b""), run(&["--", name], b""), run(&[], &text), run(&["-"], &text)] {
+            assert_eq!(String::from_utf8(output.stdout).unwrap(), due, "{name}");
+            assert_eq!((output.status.code(), &output.stderr[..]), (Some(status), &b""[..]), "{name}");
+        }
+    }
+}
+
+#[test]
+fn words_and_statuses() {
+    let stored = folder("tests/stored/desk4.sdp");
+    let stored = stored.to_str().unwrap();
+    for (words, input, status, out, errors) in [
+        (&["--help"][..], &b""[..], 0, "usage: beside", ""),
+        (&["-h"], b"", 0, "usage: beside", ""),
+        (&["nothing/there"], b"", 2, "", "beside: nothing/there: No such file"),
+        (&["/"], b"", 2, "", "beside: /: Is a directory"),
+        (&[stored, stored], b"", 2, "", "beside: it takes one file at most"),
+        (&["--colour"], b"", 2, "", "beside: there is no option --colour"),
+        (&["--", "-"], b"", 2, "", "beside: -: No such file"),
+        (&[], b"", 1, "     text (empty)", ""),
+        (&[], &vec![b'\n'; LONGEST + 1], 1, "     text (more than 32,768 bytes, not shown)\n\nrefused 1 ", ""),
+        (&[], &vec![b'\n'; 3_000_000], 1, "     text (more than 32,768 bytes, not shown)\n\nrefused 1 ", ""),
+        (&[], &vec![b'\n'; LONGEST], 1, "        text (LF)", ""),
+    ] {
+        let output = run(words, input);
+        let said = (String::from_utf8(output.stdout).unwrap(), String::from_utf8(output.stderr).unwrap());
+        assert_eq!(output.status.code(), Some(status), "{words:?}: {said:?}");
+        assert!(said.0.starts_with(out) && said.0.is_empty() == out.is_empty(), "{words:?}: {said:?}");
+        assert!(said.1.starts_with(errors) && said.1.is_empty() == errors.is_empty(), "{words:?}: {said:?}");
+    }
+    assert!(run(&["--help"], b"").stdout.split(|byte| *byte == b'\n').all(|row| row.len() <= 120));
+}
+
+/// A reader that leaves early, as `head` does, ends the program without a word.
+#[test]
+fn a_closed_pipe() {
+    let mut child = Command::new(RUNNER)
+        .arg(PROGRAM)
+        .stdin(Stdio::piped())
+        .stdout(Stdio::piped())
+        .stderr(Stdio::piped())
+        .spawn()
+        .unwrap();
+    drop(child.stdout.take());
+    let text = [b"v=0\n", &[b'\n'; LONGEST - 4][..]].concat();
+    child.stdin.take().unwrap().write_all(&text).unwrap();
+    let output = child.wait_with_output().unwrap();
+    assert_eq!((output.status.code(), &output.stderr[..]), (Some(0), &b""[..]));
+}
+
+/// `script` lends a program a terminal. In a pipe `stored_pages` has seen no colour.
+#[test]
+fn colour_on_a_terminal_only() {
+    let stored = folder("tests/stored/everything");
+    let on_terminal = |no_colour: &str| {
+        let command = format!("'{RUNNER}' '{PROGRAM}' '{}'", stored.with_extension("sdp").display());
+        let mut script = Command::new("script");
+        script.args(["-qec", &command, "/dev/null"]).stdin(Stdio::null()).env("NO_COLOR", no_colour);
+        let output = script.output().unwrap_or_else(|error| panic!("script: {error}"));
+        assert_eq!(output.status.code(), Some(0));
+        String::from_utf8(output.stdout).unwrap().replace("\r\n", "\n")
+    };
+    let due = fs::read_to_string(stored.with_extension("page")).unwrap();
+    let colour = on_terminal("");
+    assert!(colour.contains("\x1b[33m") && colour.contains("\x1b[7m"), "{colour}");
+    assert_eq!(without_colour(&colour), due);
+    assert_eq!(on_terminal("1"), due);
+}

@@ -1,0 +1,82 @@
+//! The program `long-run` as a user runs it: to its end, over a folder, with wrong words, and ended by Ctrl-C.
+use generate as _; // without it the emulator dies when this program starts
+use std::io::{BufRead, BufReader, Read};
+use std::process::{Child, Command, Output, Stdio};
+
+/// As cargo runs the tests: on x86-64 directly, else under the kit's emulator.
+fn start(words: &[&str]) -> Child {
+    let runner = concat!(env!("CARGO_MANIFEST_DIR"), "/../run-x86");
+    let mut command = Command::new(runner);
+    command.arg(env!("CARGO_BIN_EXE_long-run")).args(words).stdout(Stdio::piped()).stderr(Stdio::piped());
+    command.spawn().unwrap_or_else(|error| panic!("{runner}: {error}"))
+}
+
+fn run(words: &[&str]) -> (Option<i32>, String, String) {
+    let Output { status, stdout, stderr } = start(words).wait_with_output().unwrap();
+    (status.code(), String::from_utf8(stdout).unwrap(), String::from_utf8(stderr).unwrap())
+}
+
+#[test]
+fn to_the_end() {
+    let (status, out, errors) = run(&["7", "300", "5"]);
+    assert_eq!((status, errors.as_str()), (Some(0), ""), "{out}");
+    assert!(out.starts_with("long run: seed 7, 300 texts from number 5\n"), "{out}");
+    assert!(out.contains("\n300 texts of ") && out.ends_with(", no difference\n"), "{out}");
+    let (status, again, _) = run(&["7", "300", "5"]);
+    // all but the progress and the time that it took
+    let counts = |out: &str| -> Vec<String> {
+        let timed = |line: &&str| line.contains(" a second, ") || line.contains(" compared in ");
+        out.lines().filter(|line| !timed(line)).map(String::from).collect()
+    };
+    assert_eq!((status, counts(&again)), (Some(0), counts(&out)));
+}
+
+#[test]
+fn a_folder() {
+    let folder = concat!(env!("CARGO_MANIFEST_DIR"), "/../../texts/kinds");
+    let files = std::fs::read_dir(folder).unwrap().count();
+    let (status, out, errors) = run(&["--folder", folder]);
+    assert_eq!((status, errors.as_str()), (Some(0), ""), "{out}");
+    assert!(out.starts_with(&format!("long run: {files} files of ")) && out.contains(&format!("\n{files} texts of ")), "{out}");
+    assert_eq!(run(&["--folder", "nothing/there"]).0, Some(2));
+}
+
+#[test]
+fn wrong_words() {
+    for words in [&["x"][..], &["1", "2", "3", "4"], &["--folder"], &["--folders", "x"], &["-1"]] {
+        let (status, out, errors) = run(words);
+        assert_eq!((status, out.as_str()), (Some(2), ""), "{words:?}");
+        assert!(errors.starts_with("usage: long-run"), "{words:?}: {errors}");
+    }
+    let (status, out, errors) = run(&["--help"]);
+    assert_eq!((status, errors.as_str()), (Some(0), ""));
+    assert!(out.starts_with("usage: long-run"));
+}
+
+/// Progress comes while it runs, and Ctrl-C ends it with the counts so far.
+#[test]
+fn stopped_by_ctrl_c() {
+    let mut child = start(&["7", "1000000000"]);
+    let mut lines = BufReader::new(child.stdout.take().unwrap());
+    let mut first = [String::new(), String::new()];
+    for line in &mut first {
+        lines.read_line(line).unwrap();
+    }
+    assert!(first[1].contains(" of 1000000000, ") && first[1].contains(" a second, ") && first[1].contains(" left, "), "{first:?}");
+    let number = child.id().to_string();
+    let sent = Command::new("sh").args(["-c", "kill -s INT \"$1\"", "sh", &number]).status();
+    assert!(sent.expect("a shell").success());
+    let mut rest = String::new();
+    lines.read_to_string(&mut rest).unwrap();
+    assert_eq!(child.wait().unwrap().code(), Some(130));
+    assert!(rest.contains("stopped after ") && rest.ends_with(", no difference\n"), "{rest}");
+}
+
+/// Nobody reads what it says: it ends by itself, without a word.
+#[test]
+fn a_closed_pipe() {
+    let mut child = start(&["7", "1000000000"]);
+    drop(child.stdout.take());
+    let Output { status, stderr, .. } = child.wait_with_output().unwrap();
+    assert_eq!((status.code(), &stderr[..]), (Some(2), &b""[..]));
+}
