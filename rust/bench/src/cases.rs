@@ -1,6 +1,18 @@
-//! The texts: those of the folder `texts`, and texts of doubling size.
+//! The texts: those of the folder `texts`, a few of them, and texts of doubling size.
 use crate::sides::{Ours, Side, Theirs};
 use std::path::Path;
+
+/// Some texts of each sort, those on which ours fares worst with them.
+const FEW: [&str; 8] = [
+    "rfc8866-5",
+    "rfc8866-5.10",
+    "aes67-stereo",
+    "festival-stages",
+    "minimal",
+    "numbers",
+    "sip-hold",
+    "webrtc-answer",
+];
 
 pub struct Case {
     pub name: String,
@@ -29,6 +41,19 @@ impl Case {
 
 /// All texts of the folder, the published ones first, each group by name.
 pub fn folder(texts: &Path) -> Result<Vec<Case>, String> {
+    those(texts, |_| true)
+}
+
+/// A few texts of the folder.
+pub fn few(texts: &Path) -> Result<Vec<Case>, String> {
+    let cases = those(texts, |name| FEW.contains(&name))?;
+    if cases.len() != FEW.len() {
+        return Err(format!("{}: not all of {FEW:?} are there", texts.display()));
+    }
+    Ok(cases)
+}
+
+fn those(texts: &Path, wanted: fn(&str) -> bool) -> Result<Vec<Case>, String> {
     let mut cases = Vec::new();
     for part in ["published", "kinds"] {
         let folder = texts.join(part);
@@ -36,7 +61,7 @@ pub fn folder(texts: &Path) -> Result<Vec<Case>, String> {
         let mut names = Vec::new();
         for entry in std::fs::read_dir(&folder).map_err(say)? {
             let name = entry.map_err(say)?.file_name().into_string().map_err(|name| format!("{name:?}: not UTF-8"))?;
-            names.extend(name.strip_suffix(".sdp").map(str::to_string));
+            names.extend(name.strip_suffix(".sdp").filter(|name| wanted(name)).map(str::to_string));
         }
         names.sort();
         for name in names {

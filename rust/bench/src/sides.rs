@@ -23,6 +23,14 @@ impl Work {
             Work::Both => "both",
         }
     }
+
+    pub fn title(self) -> &'static str {
+        match self {
+            Work::Read => "reading",
+            Work::Write => "writing",
+            Work::Both => "reading and writing",
+        }
+    }
 }
 
 pub trait Side {

@@ -1,107 +1,118 @@
-//! The tables: one for each work, a row for each text, and the geometric mean of the ratios.
+//! The tables that are printed.
+use crate::cost::{geometric_mean, rows, Cost, Row};
 use crate::sides::Work;
 use std::fmt::Write;
 
-/// What one call cost, on one side.
-#[derive(Clone, Debug, PartialEq)]
-pub struct Cost {
-    pub name: String,
-    pub bytes: usize,
-    pub work: String,
-    pub side: String,
-    pub cost: f64,
-}
-
-/// Lines of `name bytes work side cost`, as the counting prints them.
-pub fn costs(lines: &str) -> Result<Vec<Cost>, String> {
-    lines
-        .lines()
-        .map(|line| {
-            let bad = || format!("no line of a count: {line:?}");
-            let words: Vec<&str> = line.split(' ').collect();
-            let [name, bytes, work, side, cost] = words[..] else {
-                return Err(bad());
-            };
-            Ok(Cost {
-                name: name.into(),
-                bytes: bytes.parse().map_err(|_| bad())?,
-                work: work.into(),
-                side: side.into(),
-                cost: cost.parse().ok().filter(|cost: &f64| *cost > 0.0).ok_or_else(bad)?,
-            })
-        })
-        .collect()
-}
-
-/// Ours and the crate's for one text and one work.
-pub struct Row {
-    pub name: String,
-    pub bytes: usize,
-    pub ours: f64,
-    pub theirs: f64,
-}
-
-impl Row {
-    pub fn ratio(&self) -> f64 {
-        self.ours / self.theirs
-    }
-}
-
-/// The rows of one work, in the order of the costs. Each text must have both sides, once.
-pub fn rows(costs: &[Cost], work: Work) -> Result<Vec<Row>, String> {
-    let of = |name: &str, side: &str| -> Result<f64, String> {
-        let all: Vec<&Cost> = costs.iter().filter(|c| c.work == work.name() && c.name == name && c.side == side).collect();
-        match all[..] {
-            [one] => Ok(one.cost),
-            _ => Err(format!("{name}: {} counts of {} by {side}", all.len(), work.name())),
+/// For each work a row for each text, with the instructions and, where they were taken, the nanoseconds.
+pub fn texts(counts: &[Cost], times: Option<&[Cost]>) -> Result<String, String> {
+    let mut out = String::new();
+    for work in Work::ALL {
+        let counted = rows(counts, work)?;
+        let timed = times.map(|times| rows(times, work)).transpose()?;
+        let _ = write!(out, "{:<27} {:>6} {:>9} {:>9} {:>7}", work.title(), "bytes", "ours", "the crate", "ratio");
+        out += if timed.is_some() { "     ours ns    crate ns   ratio\n" } else { "\n" };
+        for (at, row) in counted.iter().enumerate() {
+            let _ = write!(out, "{:<27} {:>6} {:>9} {:>9} {:>7.3}", row.name, row.bytes, row.ours, row.theirs, row.ratio());
+            if let Some(timed) = &timed {
+                let time = timed.get(at).filter(|time| time.name == row.name);
+                let time = time.ok_or_else(|| format!("{}: no time", row.name))?;
+                let _ = write!(out, " {:>11.0} {:>11.0} {:>7.3}", time.ours, time.theirs, time.ratio());
+            }
+            out += "\n";
         }
-    };
-    costs
-        .iter()
-        .filter(|cost| cost.work == work.name() && cost.side == "ours")
-        .map(|cost| {
-            Ok(Row {
-                name: cost.name.clone(),
-                bytes: cost.bytes,
-                ours: cost.cost,
-                theirs: of(&cost.name, "crate")?,
-            })
-        })
-        .collect()
-}
-
-pub fn geometric_mean(ratios: impl Iterator<Item = f64>) -> Option<f64> {
-    let (mut sum, mut count) = (0.0, 0);
-    for ratio in ratios {
-        sum += ratio.ln();
-        count += 1;
+        means(&mut out, &counted, timed.as_deref());
     }
-    (count > 0).then(|| (sum / f64::from(count)).exp())
+    Ok(out)
 }
 
-/// The table of one work. `unit` says what was counted.
-pub fn table(rows: &[Row], work: Work, unit: &str) -> String {
-    let what = match work {
-        Work::Read => "reading",
-        Work::Write => "writing",
-        Work::Both => "reading and writing",
-    };
-    let mut out = format!("{what}, {unit}\n{:<28} {:>6} {:>12} {:>12} {:>8}\n", "text", "bytes", "ours", "the crate", "ratio");
-    for row in rows {
+fn means(out: &mut String, counted: &[Row], timed: Option<&[Row]>) {
+    let groups: [(&str, fn(&&Row) -> bool); 3] =
+        [("accepted", |row| row.accepted), ("refused", |row| !row.accepted), ("all", |_| true)];
+    let (mut some, mut others) = (0, 0);
+    for row in counted {
+        *(if row.accepted { &mut some } else { &mut others }) += 1;
+    }
+    for (name, of) in groups {
+        // all is worth a line only beside two others
+        if name == "all" && (some == 0 || others == 0) {
+            continue;
+        }
+        let Some(mean) = geometric_mean(counted.iter().filter(of)) else {
+            continue;
+        };
+        let _ = write!(out, "{:<27} {:>6} {:>9} {:>9} {mean:>7.3}", format!("geometric mean, {name}"), "", "", "");
+        if let Some(mean) = timed.and_then(|timed| geometric_mean(timed.iter().filter(of))) {
+            let _ = write!(out, " {:>11} {:>11} {mean:>7.3}", "", "");
+        }
+        let count = counted.iter().filter(of).count();
+        let more = counted.iter().filter(of).filter(|row| row.ratio() >= 1.0).count();
+        let _ = write!(out, "\n{:<27} {count} texts; ratio not below 1: {more}", "");
+        if let Some(timed) = timed {
+            let _ = write!(out, ", by time {}", timed.iter().filter(of).filter(|row| row.ratio() >= 1.0).count());
+        }
+        out.push('\n');
+    }
+    out.push('\n');
+}
+
+/// Only the means, one line for each work.
+pub fn short(counts: &[Cost]) -> Result<String, String> {
+    let mut out = String::new();
+    for work in Work::ALL {
+        let rows = rows(counts, work)?;
+        let accepted = || rows.iter().filter(|row| row.accepted);
+        let Some(mean) = geometric_mean(accepted()) else {
+            continue;
+        };
+        let Some(worst) = accepted().max_by(|a, b| a.ratio().total_cmp(&b.ratio())) else {
+            continue;
+        };
         let _ = writeln!(
             out,
-            "{:<28} {:>6} {:>12.0} {:>12.0} {:>8.3}",
-            row.name,
-            row.bytes,
-            row.ours,
-            row.theirs,
-            row.ratio()
+            "{:<20} geometric mean {mean:.3} over {} accepted texts, highest {:.3} ({})",
+            work.title(),
+            accepted().count(),
+            worst.ratio(),
+            worst.name
         );
     }
-    if let Some(mean) = geometric_mean(rows.iter().map(Row::ratio)) {
-        let slower = rows.iter().filter(|row| row.ratio() > 1.0).count();
-        let _ = writeln!(out, "{:<28} {:>6} {:>12} {:>12} {mean:>8.3}", "geometric mean", "", "", "");
-        let _ = writeln!(out, "{} texts, ours costs more on {slower}", rows.len());
+    Ok(out)
+}
+
+/// The cost for each byte, of texts of doubling size.
+pub fn growth(counts: &[Cost]) -> Result<String, String> {
+    let mut out = format!("{:>7}", "bytes");
+    for work in Work::ALL {
+        let _ = write!(out, " {:>12} {:>10}", format!("{}: ours", work.name()), "the crate");
     }
-    out
+    out += "   (instructions for each byte)\n";
+    let all = [rows(counts, Work::Read)?, rows(counts, Work::Write)?, rows(counts, Work::Both)?];
+    for at in 0..all[0].len() {
+        let bytes = all[0][at].bytes;
+        let _ = write!(out, "{bytes:>7}");
+        for rows in &all {
+            let row = rows.get(at).filter(|row| row.bytes == bytes).ok_or("the texts of a work are missing")?;
+            let _ = write!(out, " {:>12.2} {:>10.2}", row.ours / bytes as f64, row.theirs / bytes as f64);
+        }
+        out += "\n";
+    }
+    Ok(out)
+}
+
+/// What must hold of the ratios, and what doesn't: reading, and reading with writing, cost less than the crate on each
+/// accepted text. Of writing alone this is not so (docs/SPEED.md): its mean must be below 1.
+pub fn direction(counts: &[Cost]) -> Result<Vec<String>, String> {
+    let mut wrong = Vec::new();
+    for work in Work::ALL {
+        let rows: Vec<Row> = rows(counts, work)?.into_iter().filter(|row| row.accepted).collect();
+        let mean = geometric_mean(rows.iter()).ok_or_else(|| format!("{}: no accepted text", work.title()))?;
+        if mean >= 1.0 {
+            wrong.push(format!("{}: the geometric mean is {mean:.3}", work.title()));
+        }
+        if work != Work::Write {
+            let slower = rows.iter().filter(|row| row.ratio() >= 1.0);
+            wrong.extend(slower.map(|row| format!("{}, {}: the ratio is {:.3}", work.title(), row.name, row.ratio())));
+        }
+    }
+    Ok(wrong)
 }
