@@ -40,10 +40,10 @@ fn calls(cases: &[Case]) {
     print!("{said}");
 }
 
-/// The least nanoseconds of a call in several runs of many calls, the two sides in turn.
+/// The least nanoseconds of a call in many short runs, the two sides in turn: so other work of the machine does least harm.
 fn times(cases: &[Case]) {
-    const RUNS: usize = 7;
-    const RUN: Duration = Duration::from_millis(4);
+    const RUNS: usize = 100;
+    const RUN: Duration = Duration::from_micros(200);
     let mut both = sides();
     for case in cases {
         for &work in works(case) {

@@ -81,11 +81,11 @@ pub fn short(counts: &[Cost]) -> Result<String, String> {
 
 /// The cost for each byte, of texts of doubling size.
 pub fn growth(counts: &[Cost]) -> Result<String, String> {
-    let mut out = format!("{:>7}", "bytes");
+    let mut out = format!("instructions for each byte, of texts of doubling size\n{:>7}", "bytes");
     for work in Work::ALL {
         let _ = write!(out, " {:>12} {:>10}", format!("{}: ours", work.name()), "the crate");
     }
-    out += "   (instructions for each byte)\n";
+    out += "\n";
     let all = [rows(counts, Work::Read)?, rows(counts, Work::Write)?, rows(counts, Work::Both)?];
     for at in 0..all[0].len() {
         let bytes = all[0][at].bytes;

@@ -1,4 +1,5 @@
-//! The archive uses no heap: it calls nothing of the C library but what sets or copies memory.
+//! What docs/SPEED.md says of the archive. It uses no heap: it calls nothing of the C library but what sets or copies
+//! memory.
 use std::collections::BTreeSet;
 
 /// What a compiler may call by itself. None of these allocates.
@@ -45,6 +46,11 @@ fn symbols(object: &[u8]) -> (BTreeSet<String>, BTreeSet<String>) {
         }
     }
     (defined, wanted)
+}
+
+#[test]
+fn size_of_the_area() {
+    assert_eq!(compare::area_size(), 14_558);
 }
 
 #[test]

@@ -52,7 +52,7 @@ fn what_is_printed() {
     let accepted: String = GOOD.lines().filter(|line| !line.starts_with("c ")).map(|line| format!("{line}\n")).collect();
     let grown = growth(&bench::cost::counts(&accepted).unwrap()).unwrap();
     assert!(grown.contains("     10         1.00       2.00"), "{grown}");
-    assert!(grown.lines().all(|line| line.len() <= 110), "{grown}");
+    assert!(grown.lines().all(|line| line.len() <= 100), "{grown}");
 }
 
 #[test]
