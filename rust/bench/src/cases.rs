@@ -66,7 +66,10 @@ fn those(texts: &Path, wanted: fn(&str) -> bool) -> Result<Vec<Case>, String> {
         names.sort();
         for name in names {
             let text = std::fs::read(folder.join(format!("{name}.sdp"))).map_err(say)?;
-            cases.extend(Case::new(name, text)?);
+            match Case::new(name.clone(), text)? {
+                Some(case) => cases.push(case),
+                None => eprintln!("bench: {name} is left out: it is refused by a limit that the crate doesn't have"),
+            }
         }
     }
     Ok(cases)
