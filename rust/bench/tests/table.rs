@@ -1,0 +1,96 @@
+//! The tables and the check of the direction, on costs made by hand.
+use bench::cost::{costs, counts, geometric_mean, rows};
+use bench::sides::Work;
+use bench::table::{direction, growth, short, texts};
+
+const GOOD: &str = "\
+nothing 0 none none 3
+known 0 none none 20005
+a 10 read ours 13
+a 10 write ours 403
+a 10 both ours 413
+b 20 read ours 53
+b 20 write ours 53
+b 20 both ours 103
+c 30 read ours 503
+a 10 read crate 23
+a 10 write crate 203
+a 10 both crate 1003
+b 20 read crate 103
+b 20 write crate 203
+b 20 both crate 303
+c 30 read crate 103
+";
+
+#[test]
+fn ratios_and_means() {
+    let counts = counts(GOOD).unwrap();
+    let reading = rows(&counts, Work::Read).unwrap();
+    let seen: Vec<(&str, f64, f64, bool)> =
+        reading.iter().map(|row| (row.name.as_str(), row.ours, row.theirs, row.accepted)).collect();
+    assert_eq!(seen, [("a", 10.0, 20.0, true), ("b", 50.0, 100.0, true), ("c", 500.0, 100.0, false)]);
+    let mean = geometric_mean(reading.iter()).unwrap();
+    assert!((mean - 1.25f64.cbrt()).abs() < 1e-12, "{mean}");
+    assert_eq!(geometric_mean([].iter()), None);
+    // of writing the ratios are 2 and 1/4
+    let mean = geometric_mean(rows(&counts, Work::Write).unwrap().iter()).unwrap();
+    assert!((mean - 0.5f64.sqrt()).abs() < 1e-12, "{mean}");
+}
+
+#[test]
+fn what_is_printed() {
+    let counts = counts(GOOD).unwrap();
+    let timed = costs(&GOOD.lines().skip(2).collect::<Vec<_>>().join("\n")).unwrap();
+    for table in [texts(&counts, None).unwrap(), texts(&counts, Some(&timed)).unwrap()] {
+        assert!(table.contains("geometric mean, accepted"), "{table}");
+        assert!(table.contains("2 texts; ratio not below 1: 1"), "{table}");
+        assert!(table.contains("geometric mean, refused"), "{table}");
+        assert!(table.lines().all(|line| line.len() <= 100), "{table}");
+    }
+    let line = "writing              geometric mean 0.707 over 2 accepted texts, highest 2.000 (a)";
+    assert!(short(&counts).unwrap().lines().any(|found| found == line), "{}", short(&counts).unwrap());
+    let accepted: String = GOOD.lines().filter(|line| !line.starts_with("c ")).map(|line| format!("{line}\n")).collect();
+    let grown = growth(&bench::cost::counts(&accepted).unwrap()).unwrap();
+    assert!(grown.contains("     10         1.00       2.00"), "{grown}");
+    assert!(grown.lines().all(|line| line.len() <= 100), "{grown}");
+}
+
+#[test]
+fn the_direction() {
+    let of = |lines: &str| direction(&counts(lines).unwrap()).unwrap();
+    // writing a is twice as much, and may be; c is refused, and may cost more
+    assert_eq!(of(GOOD), [String::new(); 0]);
+    let slow_read = GOOD.replace("a 10 read ours 13", "a 10 read ours 23");
+    assert_eq!(of(&slow_read), ["reading, a: the ratio is 1.000"]);
+    let slow_both = GOOD.replace("b 20 both ours 103", "b 20 both ours 603");
+    assert_eq!(of(&slow_both), ["reading and writing, b: the ratio is 2.000"]);
+    let slow_mean = GOOD.replace("b 20 write ours 53", "b 20 write ours 203");
+    assert_eq!(of(&slow_mean), ["writing: the geometric mean is 1.414"]);
+    let none: String = GOOD.lines().take(2).map(|line| format!("{line}\n")).collect();
+    assert!(direction(&counts(&none).unwrap()).is_err());
+}
+
+#[test]
+fn bad_counts() {
+    for (from, to, why) in [
+        ("20005", "19002", "a loop that was counted short"),
+        ("20005", "40005", "a loop that was counted twice"),
+        ("nothing 0", "something 0", "no count of nothing"),
+        ("known 0 none none 20005\n", "", "no loop"),
+        ("a 10 read ours 13", "a 10 read ours 3", "no instructions"),
+        ("a 10 read ours 13", "a 10 read ours", "no count"),
+        ("a 10 read ours 13", "a 10 read ours 1 3", "two counts"),
+        ("a 10 read ours 13", "a 10 read ours -13", "a negative count"),
+        ("a 10 read ours 13", "a ten read ours 13", "no length"),
+    ] {
+        assert!(counts(&GOOD.replace(from, to)).is_err(), "{why}");
+    }
+    assert!(counts("").is_err());
+    for (from, to, why) in [
+        ("a 10 read crate 23\n", "", "one side only"),
+        ("a 10 read ours 13\n", "", "the other side only"),
+        ("a 10 read crate 23\n", "a 10 read crate 23\na 10 read crate 24\n", "one side twice"),
+    ] {
+        assert!(rows(&counts(&GOOD.replace(from, to)).unwrap(), Work::Read).is_err(), "{why}");
+    }
+}
