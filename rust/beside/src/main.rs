@@ -20,7 +20,7 @@ from standard input. The lines are numbered on both sides; between them stands a
   -  dropped: an empty line, or a letter that has no use there
   +  added: what every session has and this text doesn't
   >  moved from here, and written where < stands
-  !  the line for which the text is refused; the refusal is below, as docs/FFI.md has it
+  !  the line for which the text is refused; the refusal is below, in the words of docs/REFUSALS.md
 The ends of lines are told above the columns, and not as changes. What can't be seen is shown as \\t, \\xff (a byte) or
 \\u{a0} (a character), a backslash as \\\\, a space at a line's end as \\x20. Long lines go on in the next row. No row is
 wider than 100 columns. There is colour only on a terminal, and none where NO_COLOR is set.
@@ -68,7 +68,7 @@ fn main() -> ExitCode {
     let written = canonical(&text);
     let colour = io::stdout().is_terminal() && std::env::var_os("NO_COLOR").map_or(true, |value| value.is_empty());
     let status = if written.is_ok() { ExitCode::SUCCESS } else { ExitCode::from(REFUSED) };
-    show(&page(&text, written.as_deref().map_err(|refusal| *refusal), colour), status)
+    show(&page(&text, written.as_deref().map_err(|error| *error), colour), status)
 }
 
 fn from_standard_input() -> io::Result<Vec<u8>> {

@@ -2,8 +2,7 @@
 //! alone, with the refused line marked.
 use crate::align::{align, lines, Dropped, Row};
 use crate::cells::{cells, columns, mark_difference, pieces, Cell};
-use crate::words::words;
-use crate::Refusal;
+use sdp::Error;
 
 /// No row is wider than this.
 pub const WIDTH: usize = 100;
@@ -147,7 +146,7 @@ impl Pen {
 }
 
 /// What becomes of a text, and the page that shows it.
-pub fn page(text: &[u8], answer: Result<&[u8], Refusal>, colour: bool) -> String {
+pub fn page(text: &[u8], answer: Result<&[u8], Error>, colour: bool) -> String {
     let pen = Pen { out: String::new(), colour, spaces: 0 };
     match answer {
         Ok(written) => both(pen, text, written),
@@ -226,8 +225,8 @@ fn row_of(row: &Row, left: &[&[u8]], right: &[&[u8]]) -> (Side, char, Side) {
     }
 }
 
-fn refused(mut pen: Pen, text: &[u8], refusal: Refusal) -> String {
-    let Refusal { number, line: at, field } = refusal;
+fn refused(mut pen: Pen, text: &[u8], error: Error) -> String {
+    let at = error.line();
     // of a text that is too long only the beginning was read
     let shown = if text.len() > LONGEST { &[][..] } else { text };
     let title = if text.len() > LONGEST { "more than 32,768 bytes, not shown".into() } else { endings(text) };
@@ -248,7 +247,5 @@ fn refused(mut pen: Pen, text: &[u8], refusal: Refusal) -> String {
         }
     }
     pen.end();
-    let words = words(&refusal);
-    let place = if at == 0 { String::new() } else { format!("line {at}: ") };
-    pen.out + &format!("refused {number} line {at} field {field}\n{place}{words}\n")
+    pen.out + &format!("refused {} line {at} field {}\n{error}\n", error.number(), error.field())
 }

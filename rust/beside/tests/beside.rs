@@ -2,7 +2,7 @@
 use beside::align::{align, lines, Row};
 use beside::cells::{cells, columns};
 use beside::page::{page, LONGEST, WIDTH};
-use beside::{canonical, Refusal};
+use beside::canonical;
 use generate::random::{count, from_env};
 use generate::sessions;
 use std::fs;
@@ -26,7 +26,7 @@ fn texts_in(name: &str) -> Vec<PathBuf> {
 
 struct Case {
     text: Vec<u8>,
-    written: Result<Vec<u8>, Refusal>,
+    written: Result<Vec<u8>, sdp::Error>,
     page: String,
 }
 
@@ -41,7 +41,7 @@ fn cases() -> &'static [Case] {
     CASES.get_or_init(|| texts().into_iter().map(case).collect())
 }
 
-fn page_of(text: &[u8], written: &Result<Vec<u8>, Refusal>, colour: bool) -> String {
+fn page_of(text: &[u8], written: &Result<Vec<u8>, sdp::Error>, colour: bool) -> String {
     page(text, written.as_deref().map_err(|refusal| *refusal), colour)
 }
 
@@ -267,11 +267,11 @@ fn colour_changes_no_text() {
 fn refusals_in_words() {
     let mut refused = 0;
     for Case { written, page, .. } in cases() {
-        let Err(Refusal { number, line, field }) = *written else { continue };
-        let due = format!("\n\nrefused {number} line {line} field {field}\n");
+        let Err(error) = written else { continue };
+        let line = error.line();
+        let due = format!("\n\nrefused {} line {line} field {}\n", error.number(), error.field());
         let (rows, words) = page.split_once(&due).unwrap_or_else(|| panic!("{page}"));
-        assert!(words.lines().count() == 1 && !words.contains("docs/FFI.md"), "{page}");
-        assert!(!words.contains("without a name"), "{page}");
+        assert_eq!(words, format!("{error}\n"), "{page}");
         // the number of the refused line, and then its mark
         let number = rows.lines().filter_map(|row| row.trim_start().split_once(" !"));
         let marked = number.filter(|(number, rest)| *number == line.to_string() && !rest.starts_with('!')).count();
