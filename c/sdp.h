@@ -113,8 +113,8 @@ struct sdp_answer sdp_write(const uint8_t *text, size_t text_len, const uint8_t 
 /* SDP_AREA_SIZE, as the archive has it. */
 size_t sdp_area_size(void);
 
-/* Whether the letters of the text's lines run in the order of RFC 8866. Values are not judged, and sdp_read takes other
- * orders too. */
+/* Whether the letters of the text's lines run in the order of the RFCs, with the z line after all t and r lines, where
+ * RFC 4566 has it. Values are not judged, and sdp_read takes other orders too. */
 struct sdp_order sdp_letter_order(const uint8_t *text, size_t text_len);
 
 /* What stands at a place of the text, where the line of that number is due. Begin with place 0 and line 1; after the

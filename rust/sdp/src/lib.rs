@@ -134,8 +134,8 @@ pub fn read<'a>(text: &'a [u8], area: &'a mut Area) -> Result<Session<'a>, Error
     Ok(Session::new(text, area))
 }
 
-/// Whether the letters of the text's lines run in the order of RFC 8866. Receivers take other orders too, and so does
-/// [`read`]; who wants to know asks here.
+/// Whether the letters of the text's lines run in the order of the RFCs, with the z line after all t and r lines, where
+/// RFC 4566 has it. Receivers take other orders too, and so does [`read`]; who wants to know asks here.
 ///
 /// ```
 /// assert_eq!(sdp::letter_order(b"v=0\no=- 0 0 IN IP4 h\ns=x\nt=0 0\n"), Ok(true));
