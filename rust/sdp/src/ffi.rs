@@ -144,7 +144,7 @@ pub fn write(text: &[u8], area: &[u8], out: &mut [u8]) -> Answer {
     }
 }
 
-/// Whether the letters of a text's lines run in RFC 8866's order.
+/// Whether the letters of a text's lines run in order; see [`letter_order`](crate::letter_order).
 #[inline]
 pub fn letter_order(text: &[u8]) -> Order {
     unsafe { raw::sdp_letter_order(text.as_ptr(), text.len()) }
