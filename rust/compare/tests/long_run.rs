@@ -38,7 +38,9 @@ fn a_folder() {
     let (status, out, errors) = run(&["--folder", folder]);
     assert_eq!((status, errors.as_str()), (Some(0), ""), "{out}");
     assert!(out.starts_with(&format!("long run: {files} files of ")) && out.contains(&format!("\n{files} texts of ")), "{out}");
-    assert_eq!(run(&["--folder", "nothing/there"]).0, Some(2));
+    let (status, out, errors) = run(&["--folder", "nothing/there"]);
+    assert_eq!((status, out.as_str()), (Some(2), ""));
+    assert!(errors.starts_with("long-run: nothing/there: No such file"), "{errors}");
 }
 
 #[test]

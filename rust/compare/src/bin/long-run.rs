@@ -74,8 +74,13 @@ fn generated(words: &[&str]) -> Option<Texts> {
     })
 }
 
+/// The error with the name of what it is about.
+fn named(name: &str) -> impl Fn(io::Error) -> io::Error + '_ {
+    move |error| io::Error::new(error.kind(), format!("{name}: {error}"))
+}
+
 fn files(folder: &str) -> io::Result<Texts> {
-    let paths: io::Result<Vec<_>> = fs::read_dir(folder)?.map(|entry| Ok(entry?.path())).collect();
+    let paths: io::Result<Vec<_>> = fs::read_dir(folder).map_err(named(folder))?.map(|entry| Ok(entry?.path())).collect();
     let mut paths = paths?;
     paths.retain(|path| path.is_file());
     paths.sort();
@@ -83,8 +88,9 @@ fn files(folder: &str) -> io::Result<Texts> {
         title: format!("{} files of {folder}", paths.len()),
         count: paths.len() as u64,
         nth: Box::new(move |at| {
-            let path = &paths[at as usize];
-            Ok((path.display().to_string(), fs::read(path)?))
+            let name = paths[at as usize].display().to_string();
+            let text = fs::read(&paths[at as usize]).map_err(named(&name))?;
+            Ok((name, text))
         }),
     })
 }
