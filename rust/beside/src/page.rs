@@ -247,5 +247,24 @@ fn refused(mut pen: Pen, text: &[u8], error: Error) -> String {
         }
     }
     pen.end();
-    pen.out + &format!("refused {} line {at} field {}\n{error}\n", error.number(), error.field())
+    pen.out + &format!("refused {} line {at} field {}\n{}", error.number(), error.field(), rows(&error.to_string()))
+}
+
+/// A sentence in rows of whole words.
+fn rows(sentence: &str) -> String {
+    let mut out = String::new();
+    let mut width = 0;
+    for word in sentence.split(' ') {
+        if width > 0 && width + 1 + word.len() > WIDTH {
+            out.push('\n');
+            width = 0;
+        } else if width > 0 {
+            out.push(' ');
+            width += 1;
+        }
+        out.push_str(word);
+        width += word.len();
+    }
+    out.push('\n');
+    out
 }

@@ -271,7 +271,7 @@ fn refusals_in_words() {
         let line = error.line();
         let due = format!("\n\nrefused {} line {line} field {}\n", error.number(), error.field());
         let (rows, words) = page.split_once(&due).unwrap_or_else(|| panic!("{page}"));
-        assert_eq!(words, format!("{error}\n"), "{page}");
+        assert_eq!(words.trim_end().replace('\n', " "), error.to_string(), "{page}");
         // the number of the refused line, and then its mark
         let number = rows.lines().filter_map(|row| row.trim_start().split_once(" !"));
         let marked = number.filter(|(number, rest)| *number == line.to_string() && !rest.starts_with('!')).count();
