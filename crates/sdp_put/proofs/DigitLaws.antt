@@ -1,12 +1,12 @@
 -- Laws of digits. Assumes nothing.
-use mathlib.Core.Path.{_≡_, refl, ap}
+use mathlib.Core.Path.{_≡_, refl, sym, ap, _∙_}
 use mathlib.Core.Bool.{Bool, true, false, cond}
-use mathlib.Core.List.{List, [], _∷_, _++_}
+use mathlib.Core.List.{List, [], _∷_, _++_, append-assoc}
 use Prim.Native.Nat.{ℕ, zero, suc, _+_, _-_, _/_, _%_, _≤_, _<_}
 use native.Mathlib.Omega.{arith}
 use lib.Dec.{ltb}
 use borrow.Author.Tests.{lt-ltb, le-ltb, eq-eqb, ne-eqb, ltb-false}
-use Rattle.sdp_put.specs.Digits.{digitsIn, digits, timeText, offsetText}
+use Rattle.sdp_put.specs.Digits.{digitsIn, digits, fourDigits, timeText, offsetText}
 
 -- more steps than the number change nothing
 steps : (n m v : ℕ) → v ≤ n → v ≤ m → digitsIn n v ≡ digitsIn m v
@@ -31,6 +31,63 @@ unfolding digits digitsIn
 digits-more zero h = absurd (omega arith)
 digits-more (suc n) h =
     rw (le-ltb (suc n) 10 h) (ap (λ (l : List ℕ). l ++ ((0x30 + suc n % 10) ∷ [])) (steps n (suc n / 10) (suc n / 10) (omega arith) (omega arith)))
+
+-- ---- up to four digits
+one-digit : (v : ℕ) → v < 10 → digits v ≡ (0x30 + v % 10) ∷ []
+one-digit v h = digits-one v h ∙ ap (λ (d : ℕ). (0x30 + d) ∷ []) (let e : v ≡ v % 10 = omega arith in e)
+
+-- one digit more behind those of v / 10
+behind : (v : ℕ) (p ds : List ℕ) → 10 ≤ v → digits (v / 10) ≡ p ++ ds → digits v ≡ p ++ (ds ++ ((0x30 + v % 10) ∷ []))
+behind v p ds h e =
+    digits-more v h ∙ ap (λ (l : List ℕ). l ++ ((0x30 + v % 10) ∷ [])) e ∙ append-assoc p ds ((0x30 + v % 10) ∷ [])
+
+tenth : (v : ℕ) → v / 10 / 10 ≡ v / 100
+tenth v = omega arith
+
+hundredth : (v : ℕ) → v / 10 / 100 ≡ v / 1000
+hundredth v = omega arith
+
+two-digits : (v : ℕ) → 10 ≤ v → v < 100 → digits v ≡ (0x30 + v / 10 % 10) ∷ (0x30 + v % 10) ∷ []
+two-digits v h l = behind v [] _ h (one-digit (v / 10) (omega arith))
+
+three-digits : (v : ℕ) → 100 ≤ v → v < 1000 → digits v ≡ (0x30 + v / 100 % 10) ∷ (0x30 + v / 10 % 10) ∷ (0x30 + v % 10) ∷ []
+three-digits v h l =
+    behind v [] _ (omega arith) (rw (tenth v) at (two-digits (v / 10) (omega arith) (omega arith)))
+
+pub four-digits : (v : ℕ) → 1000 ≤ v → v < 10000 → digits v ≡ fourDigits v
+four-digits v h l =
+    behind v [] _ (omega arith) (rw (hundredth v, tenth v) at (three-digits (v / 10) (omega arith) (omega arith)))
+
+pub one-is : (v a : ℕ) → v < 10 → a ≡ 0x30 + v % 10 → a ∷ [] ≡ digits v
+one-is v a h e = rw e (sym (one-digit v h))
+
+pub two-are : (v a b : ℕ) → 10 ≤ v → v < 100 → a ≡ 0x30 + v / 10 % 10 → b ≡ 0x30 + v % 10 → a ∷ b ∷ [] ≡ digits v
+two-are v a b h l e f = rw (e, f) (sym (two-digits v h l))
+
+pub three-are : (v a b c : ℕ) → 100 ≤ v → v < 1000 → a ≡ 0x30 + v / 100 % 10 → b ≡ 0x30 + v / 10 % 10 → c ≡ 0x30 + v % 10 → a ∷ b ∷ c ∷ [] ≡ digits v
+three-are v a b c h l e f g = rw (e, f, g) (sym (three-digits v h l))
+
+pub four-are : (v a b c d : ℕ) → a ≡ 0x30 + v / 1000 % 10 → b ≡ 0x30 + v / 100 % 10 → c ≡ 0x30 + v / 10 % 10 → d ≡ 0x30 + v % 10
+    → a ∷ b ∷ c ∷ d ∷ [] ≡ fourDigits v
+four-are v a b c d e f g h = rw (e, f, g, h)
+
+-- ---- four digits at once
+four-last : (v : ℕ) → fourDigits (v % 10000) ≡ fourDigits v
+four-last v =
+    four-are v _ _ _ _ (let e : 0x30 + v % 10000 / 1000 % 10 ≡ 0x30 + v / 1000 % 10 = omega arith in e)
+    (let e : 0x30 + v % 10000 / 100 % 10 ≡ 0x30 + v / 100 % 10 = omega arith in e)
+    (let e : 0x30 + v % 10000 / 10 % 10 ≡ 0x30 + v / 10 % 10 = omega arith in e)
+    (let e : 0x30 + v % 10000 % 10 ≡ 0x30 + v % 10 = omega arith in e)
+
+pub digits-four : (v : ℕ) → 10000 ≤ v → digits (v / 10000) ++ fourDigits (v % 10000) ≡ digits v
+digits-four v h =
+    let a : v / 1000 / 10 ≡ v / 10000 = omega arith in
+    let b : v / 100 / 10 ≡ v / 1000 = omega arith in
+    let p = digits (v / 10000) in
+    let e = rw a at (digits-more (v / 1000) (omega arith)) in
+    let f = behind (v / 100) p _ (omega arith) (ap digits b ∙ e) in
+    let g = behind (v / 10) p _ (omega arith) (ap digits (tenth v) ∙ f) in
+    ap (λ (l : List ℕ). p ++ l) (four-last v) ∙ sym (behind v p _ (omega arith) g)
 
 -- ---- times
 module _ (t : ℕ) where

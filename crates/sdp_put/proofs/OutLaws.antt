@@ -1,9 +1,10 @@
 -- Laws of a bounded output: none of them asks for room. Assumes nothing.
 use mathlib.Core.Path.{_≡_, refl, sym, ap, ap₂, _∙_}
 use mathlib.Core.Bool.{Bool, true, false}
-use mathlib.Core.List.{List, [], _∷_, _++_}
+use mathlib.Core.List.{List, [], _∷_, _++_, append-nil}
 use Prim.Native.Nat.{ℕ, suc, _+_, _-_, _≤_, _<_, _^_}
 use native.Mathlib.Nat.{add-suc, suc-add, add-zero}
+use native.Mathlib.Numerals.{add-one, add-two, add-three, add-four, add-five, add-six, add-seven}
 use native.Mathlib.Omega.{arith}
 use lib.ListN.{length, drop, set, length-append, length-set}
 use lib.Seq.{sets, sets-eq, length-sets, set-out}
@@ -76,8 +77,21 @@ pub byte-in : (o : List ℕ) (at b : ℕ) → at < length o → Put o at (b ∷ 
 unfolding put
 byte-in o at b i = record { puts = λ l h. (refl, omega arith) }
 
-pub byte-out : (o : List ℕ) (at b r : ℕ) → length o ≤ at → r ≡ placed (at + 1) → Put o at (b ∷ []) o r
-byte-out o at b r i e = record { puts = λ l h. (sym (put-out (b ∷ []) o at i), e) }
+pub no-room : (o bs : List ℕ) (at n r : ℕ) → length o ≤ at → length bs ≡ n → r ≡ placed (at + n) → Put o at bs o r
+no-room o bs at n r i m e = record { puts = λ l h. (sym (put-out bs o at i), e ∙ ap (λ (k : ℕ). placed (at + k)) (sym m)) }
+
+-- several stores, one after the other
+pub four-in : (o : List ℕ) (at a b c d : ℕ) → at + 4 ≤ length o
+    → Put o at (a ∷ b ∷ c ∷ d ∷ []) (set (set (set (set o at a) (at + 1) b) (at + 2) c) (at + 3) d) (at + 4)
+unfolding put
+four-in o at a b c d i = record { puts = λ l h. (rw (add-one, add-two, add-three), omega arith) }
+
+pub eight-in : (o : List ℕ) (at a b c d e f g h : ℕ) → at + 8 ≤ length o
+    → Put o at (a ∷ b ∷ c ∷ d ∷ e ∷ f ∷ g ∷ h ∷ [])
+    (set (set (set (set (set (set (set (set o at a) (at + 1) b) (at + 2) c) (at + 3) d) (at + 4) e) (at + 5) f) (at + 6) g) (at + 7) h) (at + 8)
+unfolding put
+eight-in o at a b c d e f g h i =
+    record { puts = λ l k. (rw (add-one, add-two, add-three, add-four, add-five, add-six, add-seven), omega arith) }
 
 -- ---- what is left to be put: the invariant of a loop
 pub record Same (o₀ : List ℕ) (at₀ : ℕ) (whole : List ℕ) (o : List ℕ) (at : ℕ) (rest : List ℕ) : Type 0 where
@@ -113,3 +127,7 @@ finish {o₀} {bs₀} {o} {rest} {at₀} {at} s e =
           let f = s .puts l h in
           (sym (f .0 ∙ ap (put o at) e), omega (arith, ap length e, f .1, f .3));
     }
+
+-- the rest was put
+pub ends : {o₀ bs₀ o o′ rest : List ℕ} {at₀ at r : ℕ} → Same o₀ at₀ bs₀ o at rest → Put o at rest o′ r → Put o₀ at₀ bs₀ o′ r
+ends {rest = rest} s p = finish (turn s (record { is = sym (append-nil rest) }) p) refl

@@ -2,27 +2,28 @@
 // So a call with at = out.len() changes nothing and counts.
 ghost use mathlib.Core.Path.{_≡_};
 ghost use mathlib.Core.List.{List, [], _∷_, _++_};
-ghost use Prim.Native.Nat.{_+_, _≤_, _<_};
-ghost use lib.ListN.{length};
+ghost use Prim.Native.Nat.{_+_, _/_, _%_, _≤_, _<_};
+ghost use lib.ListN.{length, take};
 ghost use Rattle.sdp_put.specs.Out.{placed, Put};
-ghost use Rattle.sdp_put.specs.Digits.{digits, timeText, offsetText};
+ghost use Rattle.sdp_put.specs.Digits.{digits, fourDigits, timeText, offsetText};
 ghost use Rattle.sdp_put.specs.Strings.{part, dropped, kept, clean};
+use sdp_bytes::quiet::quiet8;
 
-// The place behind at; the last place stays, so that no sum wraps.
-fn next(at: usize) -> usize
-    ensures { λ r. ⌜ r ≡ placed (at + 1) ⌝ }
+// The place n behind at; the last place stays, so that no sum wraps.
+fn past(at: usize, n: usize) -> usize
+    ensures { λ r. ⌜ r ≡ placed (at + n) ⌝ }
 {
-    if at < 0xffff_ffff_ffff_ffff {
-        return at + 1;
+    if n <= 0xffff_ffff_ffff_ffff - at {
+        return at + n;
     }
-    at
+    0xffff_ffff_ffff_ffff
 }
 
 pub fn put_byte(out: &mut [u8], at: usize, b: u8) -> usize
     ensures { λ r. ⌜ Put (now (out .entry)) at (b ∷ []) (now (out .exit)) r ⌝ }
 {
     if out.len() <= at {
-        return next(at);
+        return past(at, 1);
     }
     out[at] = b;
     at + 1
@@ -64,27 +65,146 @@ fn end_of(n: usize, place: usize, len: usize) -> usize
     place + len
 }
 
-pub fn put_text(out: &mut [u8], at: usize, text: &[u8], place: usize, len: usize) -> usize
-    ensures { λ r. ⌜ Put (now (out .entry)) at (clean (part (now (text .entry)) place len)) (now (out .exit)) r ⌝ }
+// The bytes of s that are not left out, one by one.
+fn put_rest(out: &mut [u8], at: usize, s: &[u8]) -> usize
+    ensures { λ r. ⌜ Put (now (out .entry)) at (clean (now (s .entry))) (now (out .exit)) r ⌝ }
 {
-    let end = end_of(text.len(), place, len);
-    let mut i = place;
+    let mut i: usize = 0;
     let mut p = at;
-    while i < end {
-        p = put_kept(out, p, text[i]);
+    while i < s.len() {
+        p = put_kept(out, p, s[i]);
         i += 1;
     }
     p
 }
 
-pub fn put_number(out: &mut [u8], at: usize, v: u64) -> usize
+// Eight bytes where there is room. All are read before one is stored, so that both are one step of the machine.
+fn store8(out: &mut [u8], at: usize, s: &[u8]) -> usize
+    requires { ⌜ (at + 8 ≤ length (now out)) × (8 ≤ length (now s)) ⌝ }
+    ensures { λ r. ⌜ Put (now (out .entry)) at (take 8 (now (s .entry))) (now (out .exit)) r ⌝ }
+{
+    let a = s[0];
+    let b = s[1];
+    let c = s[2];
+    let d = s[3];
+    let e = s[4];
+    let f = s[5];
+    let g = s[6];
+    let h = s[7];
+    out[at] = a;
+    out[at + 1] = b;
+    out[at + 2] = c;
+    out[at + 3] = d;
+    out[at + 4] = e;
+    out[at + 5] = f;
+    out[at + 6] = g;
+    out[at + 7] = h;
+    at + 8
+}
+
+// The first eight bytes of s.
+fn put8(out: &mut [u8], at: usize, s: &[u8]) -> usize
+    requires { ⌜ 8 ≤ length (now s) ⌝ }
+    ensures { λ r. ⌜ Put (now (out .entry)) at (take 8 (now (s .entry))) (now (out .exit)) r ⌝ }
+{
+    if out.len() <= at {
+        return past(at, 8);
+    }
+    if out.len() - at < 8 {
+        return put_all(out, at, &s[0..8]);
+    }
+    store8(out, at, s)
+}
+
+// The bytes of s that are not left out: by eights as long as there is none to leave out.
+fn put_clean(out: &mut [u8], at: usize, s: &[u8]) -> usize
+    ensures { λ r. ⌜ Put (now (out .entry)) at (clean (now (s .entry))) (now (out .exit)) r ⌝ }
+{
+    let mut i: usize = 0;
+    let mut p = at;
+    while quiet8(&s[i..]) {
+        p = put8(out, p, &s[i..]);
+        i += 8;
+    }
+    put_rest(out, p, &s[i..])
+}
+
+pub fn put_text(out: &mut [u8], at: usize, text: &[u8], place: usize, len: usize) -> usize
+    ensures { λ r. ⌜ Put (now (out .entry)) at (clean (part (now (text .entry)) place len)) (now (out .exit)) r ⌝ }
+{
+    let end = end_of(text.len(), place, len);
+    if end <= place {
+        return at;
+    }
+    put_clean(out, at, &text[place..end])
+}
+
+// The last digit of v.
+fn digit(v: u64) -> u8
+    ensures { λ r. ⌜ r ≡ 0x30 + v % 10 ⌝ }
+{
+    0x30 + (v % 10) as u8
+}
+
+fn put4(out: &mut [u8], at: usize, a: u8, b: u8, c: u8, d: u8) -> usize
+    requires { ⌜ at < length (now out) ⌝ }
+    ensures { λ r. ⌜ Put (now (out .entry)) at (a ∷ b ∷ c ∷ d ∷ []) (now (out .exit)) r ⌝ }
+{
+    if out.len() - at < 4 {
+        let next = put_two(out, at, a, b);
+        return put_two(out, next, c, d);
+    }
+    out[at] = a;
+    out[at + 1] = b;
+    out[at + 2] = c;
+    out[at + 3] = d;
+    at + 4
+}
+
+// The last four digits of v, which are not even found where there is no room.
+fn put_four(out: &mut [u8], at: usize, v: u64) -> usize
+    ensures { λ r. ⌜ Put (now (out .entry)) at (fourDigits v) (now (out .exit)) r ⌝ }
+{
+    if out.len() <= at {
+        return past(at, 4);
+    }
+    put4(
+        out,
+        at,
+        digit(v / 1000),
+        digit(v / 100),
+        digit(v / 10),
+        digit(v),
+    )
+}
+
+// A number of at most four digits.
+fn put_short(out: &mut [u8], at: usize, v: u64) -> usize
+    requires { ⌜ v < 10000 ⌝ }
     ensures { λ r. ⌜ Put (now (out .entry)) at (digits v) (now (out .exit)) r ⌝ }
 {
     if v < 10 {
-        return put_byte(out, at, 0x30 + v as u8);
+        return put_byte(out, at, digit(v));
     }
-    let next = put_number(out, at, v / 10);
-    put_byte(out, next, 0x30 + (v % 10) as u8)
+    if v < 100 {
+        return put_two(out, at, digit(v / 10), digit(v));
+    }
+    if v < 1000 {
+        let next = put_byte(out, at, digit(v / 100));
+        return put_two(out, next, digit(v / 10), digit(v));
+    }
+    put_four(out, at, v)
+}
+
+// Four digits at once.
+pub fn put_number(out: &mut [u8], at: usize, v: u64) -> usize
+    ensures { λ r. ⌜ Put (now (out .entry)) at (digits v) (now (out .exit)) r ⌝ }
+{
+    if v < 10000 {
+        return put_short(out, at, v);
+    }
+    let next = put_number(out, at, v / 10000);
+    put_four(out, next, v % 10000)
 }
 
 fn put_unit(out: &mut [u8], at: usize, v: u64, unit: u8) -> usize
