@@ -14,3 +14,8 @@ unfoldable pub run : (ℕ → Bool) → ℕ → List ℕ → Bool
 run p zero s = true
 run p (suc k) [] = false
 run p (suc k) (b ∷ s) = p b && run p k s
+
+-- how many bytes at the beginning pass the test
+unfoldable pub runLen : (ℕ → Bool) → List ℕ → ℕ
+runLen p [] = 0
+runLen p (b ∷ s) = cond (p b) (suc (runLen p s)) 0
