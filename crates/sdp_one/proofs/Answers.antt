@@ -4,6 +4,7 @@ use mathlib.Core.Path.{refl}
 use denote.Ref.{now}
 use Rattle.sdp_one.specs.One.{OneAnswer, OneState, OnePut}
 use Rattle.sdp_one.proofs.OneLaws.{same, same-put}
+use Rattle.sdp_bytes.proofs.runs.run_len.Reads as sdpBytesRunsRunLen
 use Rattle.sdp_bytes.proofs.search.index_of.Reads as sdpBytesSearchIndexOf
 use Rattle.sdp_bytes.proofs.token.token_char.Reads as sdpBytesTokenTokenChar
 use Rattle.sdp_bytes.proofs.token.is_token.Reads as sdpBytesTokenIsToken
@@ -114,6 +115,9 @@ use Rattle.sdp.proofs.sdp_letter_order.Reads as sdpSdpLetterOrder
 use Rattle.sdp.proofs.sdp_area_size.Reads as sdpSdpAreaSize
 
 -- ---- sdp_bytes
+pub sdp-bytes-runs-run-len : OneAnswer sdpBytesRunsRunLen.Learnt
+sdp-bytes-runs-run-len κs a z z′ e e′ p q = same p q
+
 pub sdp-bytes-search-index-of : OneAnswer sdpBytesSearchIndexOf.Learnt
 sdp-bytes-search-index-of κs a z z′ e e′ p q = same p q
 
