@@ -4,23 +4,20 @@ use Prim.Native.Nat.{ℕ, zero, suc, _+_, _-_, _≤_, _<_}
 use mathlib.Core.Path.{_≡_, refl, sym, ap, _∙_}
 use mathlib.Core.List.{List, [], _∷_}
 use mathlib.Core.Bool.{Bool, true, false, _&&_, _||_, not, cond, false≢true}
-use native.Mathlib.Numerals.{add-one}
 use native.Mathlib.Omega.{arith}
 use lib.Dec.{ltb, eqb, leb·suc-suc}
 use lib.ListN.{length, getD, take, drop, length-take, length-drop}
-use lib.Seq.{drop-cons, take-all, take-take, length-take-le, drop-drop, getD-take}
+use lib.Seq.{take-take, length-take-le, drop-drop, getD-take}
 use borrow.Author.Tests.{eq-eqb, ne-eqb, lt-ltb, le-ltb, ltb-true, ltb-false, eqb-true, eqb-false}
 use Rattle.sdp_bytes.specs.Runs.{indexOf}
 use Rattle.sdp_bytes.proofs.ScanLaws.{and-left, and-right, index-le}
-use Rattle.sdp_lines.specs.Lines.{Raw, onto, split, chop, content, width, hasNulOrCr, plainForm, formOf}
+use Rattle.sdp_lines.specs.Lines.{Raw, split, chop, content, width, hasNulOrCr, plainForm, formOf}
 use Rattle.sdp_lines.specs.Quick.{stopIndex, crlfAt, firstRaw, firstOf, equalsSecond}
 use Rattle.sdp_lines.specs.declared.Fault.the-variants as fault
 use Rattle.sdp_lines.specs.declared.Fault.the-variants.{NoEquals, NotSecond}
-use Rattle.sdp_lines.specs.declared.Form.{Form}
 use Rattle.sdp_lines.specs.declared.Form.the-variants.{Blank, Good, Bad}
-use Rattle.sdp_lines.specs.declared.First.{First}
 use Rattle.sdp_lines.specs.declared.First.the-variants.{Whole, NulOrCr}
-use Rattle.sdp_lines.proofs.StopLaws.{Clear, stop-le, stop-before, stop-here, bad-none, bad-at, index-from, index-at, index-found, crlf-yes}
+use Rattle.sdp_lines.proofs.StopLaws.{stop-le, stop-before, stop-here, bad-none, bad-at, index-from, index-at, index-found, crlf-yes}
 
 -- ---- bounds
 chop-le : (l : List ℕ) → length (chop l) ≤ length l
@@ -280,11 +277,11 @@ module _ (l : List ℕ) where
     unfolding plainForm
     form-none h = rw (ne-eqb _ _ n, ← i, eq-eqb _ _ h)
 
-    pub form-good : (e ≡ length l → ⊥) → e ≡ 1 → plainForm l ≡ Good (getD l 0 0)
+    form-good : (e ≡ length l → ⊥) → e ≡ 1 → plainForm l ≡ Good (getD l 0 0)
     unfolding plainForm
     form-good h k = rw (ne-eqb _ _ n, ← i, ne-eqb _ _ h, eq-eqb _ _ k)
 
-    pub form-far : (e ≡ length l → ⊥) → (e ≡ 1 → ⊥) → plainForm l ≡ Bad NotSecond
+    form-far : (e ≡ length l → ⊥) → (e ≡ 1 → ⊥) → plainForm l ≡ Bad NotSecond
     unfolding plainForm
     form-far h k = rw (ne-eqb _ _ n, ← i, ne-eqb _ _ h, ne-eqb _ _ k)
 

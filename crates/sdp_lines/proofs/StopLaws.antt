@@ -1,21 +1,18 @@
 -- Laws of the quick way: what the first NUL, LF or CR of a text says of its first line.
 -- Assumes nothing.
 use Prim.Native.Nat.{ℕ, zero, suc, _+_, _-_, _≤_, _<_}
-use mathlib.Core.Path.{_≡_, refl, sym, ap, _∙_}
+use mathlib.Core.Path.{_≡_, refl, sym}
 use mathlib.Core.List.{List, [], _∷_}
 use mathlib.Core.Bool.{Bool, true, false, _&&_, _||_, cond, false≢true}
 use native.Mathlib.Omega.{arith}
-use lib.Dec.{ltb, leb, eqb}
-use lib.ListN.{length, getD, take, drop}
-use lib.Seq.{getD-take, take-all, length-take-le}
-use borrow.Author.Tests.{eq-eqb, ne-eqb, lt-ltb, le-ltb, ltb-true, leb-true, eqb-true, eqb-false}
+use lib.Dec.{leb, eqb}
+use lib.ListN.{length, getD}
+use borrow.Author.Tests.{eq-eqb, ne-eqb, lt-ltb, le-ltb, leb-true, eqb-true, eqb-false}
 use Rattle.sdp_bytes.specs.Ranges.{_to_, within}
 use Rattle.sdp_bytes.specs.Runs.{indexOf}
-use Rattle.sdp_bytes.proofs.ScanLaws.{Until, and-left, index-le}
-use Rattle.sdp_lines.specs.Lines.{Raw, chop, content, width, hasNulOrCr}
-use Rattle.sdp_lines.specs.Quick.{stopByte, stopIndex, crlfAt, firstRaw, firstOf}
-use Rattle.sdp_lines.specs.declared.First.{First}
-use Rattle.sdp_lines.specs.declared.First.the-variants.{Whole, NulOrCr}
+use Rattle.sdp_bytes.proofs.ScanLaws.{Until, and-left}
+use Rattle.sdp_lines.specs.Lines.{hasNulOrCr}
+use Rattle.sdp_lines.specs.Quick.{stopByte, stopIndex, crlfAt}
 
 -- ---- the way to the first stop
 -- a byte above CR is passed

@@ -1,7 +1,7 @@
 -- The quick way to a line's end: the first NUL, LF or CR of the text tells where its first line ends, or that it has NUL or CR.
 use Prim.Native.Nat.{ℕ, suc, _+_}
 use mathlib.Core.List.{List, [], _∷_}
-use mathlib.Core.Bool.{Bool, true, false, _&&_, _||_, cond}
+use mathlib.Core.Bool.{Bool, _&&_, _||_, cond}
 use lib.ListN.{length, getD, take}
 use lib.Dec.{ltb, eqb}
 use Rattle.sdp_bytes.specs.Runs.{indexOf}

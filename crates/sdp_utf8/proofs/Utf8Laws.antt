@@ -1,21 +1,20 @@
 -- Laws of charLen and utf8End: one step of a loop over the characters, and of its quick way.
 -- Assumes nothing.
-use Prim.Native.Nat.{ℕ, zero, suc, pred, _+_, _-_, _<_, _≤_}
-use native.Mathlib.Nat.{add-zero}
+use Prim.Native.Nat.{ℕ, zero, suc, _+_, _-_, _<_, _≤_}
 use native.Mathlib.Numerals.{add-one}
 use native.Mathlib.Decide.{decLt}
 use native.Mathlib.Omega.{arith}
 use mathlib.Core.Path.{_≡_, refl, sym, ap, _∙_}
 use mathlib.Core.Bool.{Bool, true, false, _&&_, _||_, and-true, and-false, false≢true, cond}
 use mathlib.Core.List.{List, [], _∷_}
-use borrow.Author.Tests.{lt-ltb, le-ltb, le-leb, lt-leb, eq-eqb, ne-eqb, ltb-true, leb-true}
-use lib.Dec.{ltb, leb, eqb}
+use borrow.Author.Tests.{lt-ltb, le-ltb, le-leb, lt-leb, leb-true}
+use lib.Dec.{leb}
 use lib.ListN.{length, getD, drop, drop-of-length-le, length-drop}
-use lib.Seq.{drop-cons, drop-drop}
+use lib.Seq.{drop-cons}
 use Rattle.sdp_bytes.proofs.ScanLaws.{and-right, Reached, reached-on, run-passed, Steps}
 use Rattle.sdp_bytes.specs.Ranges.{Range, _to_, within, fits, inAt}
 use Rattle.sdp_bytes.specs.Runs.{runLen}
-use Rattle.sdp_utf8.specs.Utf8.{char1, char2, char3, char4, charLen, endFrom, utf8End, isUtf8, stopAt, ascii, stepLen}
+use Rattle.sdp_utf8.specs.Utf8.{char1, char2, char3, char4, charLen, endFrom, utf8End, stopAt, ascii, stepLen}
 
 or-elim : (a b : Bool) {P : Type 0} → (a ≡ true → P) → (b ≡ true → P) → (a || b) ≡ true → P
 or-elim true b p q e = p refl

@@ -4,7 +4,7 @@ ghost use mathlib.Core.Bool.{cond};
 ghost use mathlib.Core.List.{[], _∷_};
 ghost use Rattle.sdp_bytes.specs.Ranges.{_to_, inAt, fits};
 ghost use Rattle.sdp_bytes.specs.Runs.{runLen};
-ghost use Rattle.sdp_utf8.specs.Utf8.{tail, char1, char2, char3, char4, charLen, ascii, stepLen, utf8End, isUtf8};
+ghost use Rattle.sdp_utf8.specs.Utf8.{tail, char2, char3, char4, charLen, ascii, stepLen, utf8End, isUtf8};
 use sdp_bytes::runs::run_len;
 
 // Whether a byte of lo..=hi stands at place i of s.

@@ -2,7 +2,6 @@
 -- Assumes nothing.
 use Prim.Native.Nat.{_-_}
 use mathlib.Core.Path.{sym, _∙_}
-use native.Mathlib.Omega.{arith}
 use native.Mathlib.Nat.{le-of-eq}
 use borrow.Author.Needs.{needs}
 use lib.ListN.{length}

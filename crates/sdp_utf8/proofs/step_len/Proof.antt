@@ -1,11 +1,7 @@
 -- `sdp_utf8::step_len` meets its contract. Assumes nothing.
-use mathlib.Core.Path.{_≡_}
 use native.Mathlib.Omega.{arith}
 use borrow.Author.Needs.{needs}
-use lib.ListN.{drop}
-use Rattle.sdp_bytes.specs.Runs.{runLen}
 use Rattle.sdp_bytes.proofs.ScanLaws.{rest-from}
-use Rattle.sdp_utf8.specs.Utf8.{ascii}
 use Rattle.sdp_utf8.proofs.Utf8Laws.{len-none, len-fits, len-some, len-le}
 use Rattle.sdp_utf8.proofs.step_len.Statement.{statement}
 use Rattle.sdp_utf8.proofs.step_len.Tie as tie

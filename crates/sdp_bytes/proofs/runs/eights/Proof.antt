@@ -1,7 +1,7 @@
 -- `sdp_bytes::runs::eights` meets its contract. The invariant: the whole list's run is i and the run of the rest from i.
 -- Assumes nothing.
 use Prim.Native.Nat.{_-_}
-use mathlib.Core.Path.{_≡_, sym, _∙_}
+use mathlib.Core.Path.{sym, _∙_}
 use native.Mathlib.Omega.{arith}
 use borrow.Author.Needs.{needs}
 use lib.ListN.{length}

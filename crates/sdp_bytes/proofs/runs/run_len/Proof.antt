@@ -1,9 +1,8 @@
 -- `sdp_bytes::runs::run_len` meets its contract. The invariant: the whole list's run is i and the run of the rest from i.
 -- Assumes nothing.
 use Prim.Native.Nat.{_-_}
-use mathlib.Core.Path.{_≡_, sym, ap, _∙_}
+use mathlib.Core.Path.{sym, ap, _∙_}
 use mathlib.Core.Bool.{not}
-use native.Mathlib.Omega.{arith}
 use borrow.Author.Needs.{needs}
 use lib.ListN.{length}
 use Rattle.sdp_bytes.specs.Ranges.{_to_, within}

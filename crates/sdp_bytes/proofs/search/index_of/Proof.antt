@@ -1,7 +1,6 @@
 -- `sdp_bytes::search::index_of` meets its contract. The invariant: i and the index in the rest from i make the index in the whole.
 -- Assumes nothing.
 use Prim.Native.Nat.{_-_}
-use native.Mathlib.Omega.{arith}
 use borrow.Author.Needs.{needs}
 use borrow.Author.Tests.{eq-eqb, ne-eqb}
 use lib.ListN.{length}
