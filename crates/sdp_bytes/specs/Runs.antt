@@ -18,3 +18,8 @@ run p (suc k) (b ∷ s) = p b && run p k s
 -- above CR, the largest of NUL, LF and CR
 abbrev pub quiet : ℕ → Bool
 quiet b = ltb 13 b
+
+-- how many bytes at the beginning pass the test
+unfoldable pub runLen : (ℕ → Bool) → List ℕ → ℕ
+runLen p [] = 0
+runLen p (b ∷ s) = cond (p b) (suc (runLen p s)) 0

@@ -74,6 +74,12 @@ num-at k v p q n e h =
     ∙ num-skip k p (le k v ++ q) 0
     ∙ num-le k v q h
 
+-- bytes spell no more than their number allows
+pub num-below : (a : List ℕ) → ((i : ℕ) → getD a i 0 < 256) → (k p : ℕ) → num k a p < 256 ^ k
+unfolding num
+num-below a byte zero p = omega arith
+num-below a byte (suc k) p = omega (arith, byte p, num-below a byte k (p + 1), pow-suc 256 k)
+
 le-two : (k v : ℕ) → le (suc (suc k)) v ≡ le 2 v ++ le k (v / 65536)
 unfolding le
 le-two k v = ap (λ (x : ℕ). v % 256 ∷ v / 256 % 256 ∷ le k x) (div-div-eq-div-mul v 256 256)

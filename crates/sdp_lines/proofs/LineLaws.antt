@@ -3,24 +3,21 @@
 use Prim.Native.Nat.{ℕ, zero, suc, _+_, _-_, _≤_, _<_}
 use mathlib.Core.Path.{_≡_, refl, sym, ap, _∙_}
 use mathlib.Core.List.{List, [], _∷_}
-use mathlib.Core.Bool.{Bool, true, false, _&&_, _||_, cond, false≢true}
-use native.Mathlib.Numerals.{add-one}
+use mathlib.Core.Bool.{Bool, true, false, _&&_, _||_, not, cond, false≢true}
 use native.Mathlib.Omega.{arith}
 use lib.Dec.{ltb, eqb, leb·suc-suc}
 use lib.ListN.{length, getD, take, drop, length-take, length-drop}
-use lib.Seq.{drop-cons, take-all, take-take, length-take-le, drop-drop, getD-take}
+use lib.Seq.{take-take, length-take-le, drop-drop, getD-take}
 use borrow.Author.Tests.{eq-eqb, ne-eqb, lt-ltb, le-ltb, ltb-true, ltb-false, eqb-true, eqb-false}
 use Rattle.sdp_bytes.specs.Runs.{indexOf}
 use Rattle.sdp_bytes.proofs.ScanLaws.{and-left, and-right, index-le}
-use Rattle.sdp_lines.specs.Lines.{Raw, onto, split, chop, content, width, hasNulOrCr, plainForm, formOf}
-use Rattle.sdp_lines.specs.Quick.{stopIndex, crlfAt, firstRaw, firstOf}
+use Rattle.sdp_lines.specs.Lines.{Raw, split, chop, content, width, hasNulOrCr, plainForm, formOf}
+use Rattle.sdp_lines.specs.Quick.{stopIndex, crlfAt, firstRaw, firstOf, equalsSecond}
 use Rattle.sdp_lines.specs.declared.Fault.the-variants as fault
 use Rattle.sdp_lines.specs.declared.Fault.the-variants.{NoEquals, NotSecond}
-use Rattle.sdp_lines.specs.declared.Form.{Form}
 use Rattle.sdp_lines.specs.declared.Form.the-variants.{Blank, Good, Bad}
-use Rattle.sdp_lines.specs.declared.First.{First}
 use Rattle.sdp_lines.specs.declared.First.the-variants.{Whole, NulOrCr}
-use Rattle.sdp_lines.proofs.StopLaws.{Clear, stop-le, stop-before, stop-here, bad-none, bad-at, index-from, index-at, index-found, crlf-yes}
+use Rattle.sdp_lines.proofs.StopLaws.{stop-le, stop-before, stop-here, bad-none, bad-at, index-from, index-at, index-found, crlf-yes}
 
 -- ---- bounds
 chop-le : (l : List ℕ) → length (chop l) ≤ length l
@@ -280,13 +277,44 @@ module _ (l : List ℕ) where
     unfolding plainForm
     form-none h = rw (ne-eqb _ _ n, ← i, eq-eqb _ _ h)
 
-    pub form-good : (e ≡ length l → ⊥) → e ≡ 1 → plainForm l ≡ Good (getD l 0 0)
+    form-good : (e ≡ length l → ⊥) → e ≡ 1 → plainForm l ≡ Good (getD l 0 0)
     unfolding plainForm
     form-good h k = rw (ne-eqb _ _ n, ← i, ne-eqb _ _ h, eq-eqb _ _ k)
 
-    pub form-far : (e ≡ length l → ⊥) → (e ≡ 1 → ⊥) → plainForm l ≡ Bad NotSecond
+    form-far : (e ≡ length l → ⊥) → (e ≡ 1 → ⊥) → plainForm l ≡ Bad NotSecond
     unfolding plainForm
     form-far h k = rw (ne-eqb _ _ n, ← i, ne-eqb _ _ h, ne-eqb _ _ k)
+
+-- where the first `=` is the second byte, or not
+pub second-short : (l : List ℕ) → length l < 2 → false ≡ equalsSecond l
+unfolding equalsSecond
+second-short l h = rw (le-ltb 1 (length l) (omega arith))
+
+pub second-is : (l : List ℕ) → 2 ≤ length l → (not (eqb (getD l 0 0) 0x3d) && eqb (getD l 1 0) 0x3d) ≡ equalsSecond l
+unfolding equalsSecond indexOf
+second-is [] h = absurd (omega arith)
+second-is (a ∷ []) h = absurd (omega arith)
+second-is (a ∷ b ∷ l) h = rw (lt-ltb 1 (length (a ∷ b ∷ l)) (omega arith)) (go (eqb a 0x3d) (eqb b 0x3d))
+  where
+    go : (p q : Bool) → (not p && q) ≡ eqb (cond p 0 (suc (cond q 0 (suc (indexOf 0x3d l))))) 1
+    go true q = refl
+    go false true = refl
+    go false false = sym (ne-eqb (suc (suc (indexOf 0x3d l))) 1 (λ (e : suc (suc (indexOf 0x3d l)) ≡ 1). omega arith))
+
+module _ (l : List ℕ) where
+  pub form-second : equalsSecond l ≡ true → plainForm l ≡ Good (getD l 0 0)
+  unfolding equalsSecond
+  form-second e =
+      let a = ltb-true 1 (length l) (and-left (ltb 1 (length l)) (eqb (indexOf 0x3d l) 1) e) in
+      let b = eqb-true (indexOf 0x3d l) 1 (and-right (ltb 1 (length l)) (eqb (indexOf 0x3d l) 1) e) in
+      form-good l (λ (h : length l ≡ 0). omega arith) (indexOf 0x3d l) refl (λ (h : indexOf 0x3d l ≡ length l). omega arith) b
+
+  pub form-later : equalsSecond l ≡ false → (length l ≡ 0 → ⊥) → (e : ℕ) → e ≡ indexOf 0x3d l → (e ≡ length l → ⊥) → plainForm l ≡ Bad NotSecond
+  unfolding equalsSecond
+  form-later f n e i h =
+      let a = index-le 0x3d l in
+      form-far l n e i h
+      (λ (k : e ≡ 1). false≢true (sym f ∙ rw (lt-ltb 1 (length l) (omega arith), eq-eqb (indexOf 0x3d l) 1 (omega arith))))
 
 -- a line of good form has two bytes at least
 pub good-long : (l : List ℕ) (c : ℕ) → plainForm l ≡ Good c → 2 ≤ length l

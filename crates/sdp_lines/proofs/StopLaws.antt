@@ -1,102 +1,30 @@
 -- Laws of the quick way: what the first NUL, LF or CR of a text says of its first line.
 -- Assumes nothing.
 use Prim.Native.Nat.{ℕ, zero, suc, _+_, _-_, _≤_, _<_}
-use mathlib.Core.Path.{_≡_, refl, sym, ap, _∙_}
+use mathlib.Core.Path.{_≡_, refl, sym}
 use mathlib.Core.List.{List, [], _∷_}
 use mathlib.Core.Bool.{Bool, true, false, _&&_, _||_, cond, false≢true}
 use native.Mathlib.Omega.{arith}
-use lib.Dec.{ltb, eqb}
-use lib.ListN.{length, getD, take, drop}
-use lib.Seq.{getD-take, take-all, length-take-le}
-use borrow.Author.Tests.{eq-eqb, ne-eqb, lt-ltb, le-ltb, ltb-true, eqb-true, eqb-false}
-use Rattle.sdp_bytes.specs.Runs.{indexOf, run}
-use Rattle.sdp_bytes.proofs.ScanLaws.{Steps, and-left, and-right, index-le}
-use Rattle.sdp_lines.specs.Lines.{Raw, chop, content, width, hasNulOrCr}
-use Rattle.sdp_lines.specs.Quick.{stopByte, quiet, stopIndex, stepOne, stepLen, crlfAt, firstRaw, firstOf}
-use Rattle.sdp_lines.specs.declared.First.{First}
-use Rattle.sdp_lines.specs.declared.First.the-variants.{Whole, NulOrCr}
+use lib.Dec.{leb, eqb}
+use lib.ListN.{length, getD}
+use borrow.Author.Tests.{eq-eqb, ne-eqb, lt-ltb, le-ltb, leb-true, eqb-true, eqb-false}
+use Rattle.sdp_bytes.specs.Ranges.{_to_, within}
+use Rattle.sdp_bytes.specs.Runs.{indexOf}
+use Rattle.sdp_bytes.proofs.ScanLaws.{Until, and-left}
+use Rattle.sdp_lines.specs.Lines.{hasNulOrCr}
+use Rattle.sdp_lines.specs.Quick.{stopByte, stopIndex, crlfAt}
 
--- ---- the steps to the first stop
-quiet-on : (b : ℕ) → 13 < b → stopByte b ≡ false
-quiet-on b h = rw (ne-eqb b 0 (λ e. omega arith), ne-eqb b 10 (λ e. omega arith), ne-eqb b 13 (λ e. omega arith))
-
-stop-cons : (b : ℕ) (s : List ℕ) → stopByte b ≡ false → stopIndex (b ∷ s) ≡ suc (stopIndex s)
+-- ---- the way to the first stop
+-- a byte above CR is passed
+pub quiet-pass : (b : ℕ) (s : List ℕ) → within (14 to 255) b ≡ true → stopIndex (b ∷ s) ≡ suc (stopIndex s)
 unfolding stopIndex
-stop-cons b s e = rw e
+quiet-pass b s e =
+    let h = leb-true 14 b (and-left (leb 14 b) (leb b 255) e) in
+    rw (ne-eqb b 0 (λ (q : b ≡ 0). omega arith), ne-eqb b 10 (λ (q : b ≡ 10). omega arith), ne-eqb b 13 (λ (q : b ≡ 13). omega arith))
 
-quiet-run : (k : ℕ) (s : List ℕ) → run quiet k s ≡ true → (k ≤ length s) × (stopIndex s ≡ k + stopIndex (drop k s))
-unfolding run
-quiet-run zero s h = (omega arith, omega arith)
-quiet-run (suc k) [] h = absurd (false≢true h)
-quiet-run (suc k) (b ∷ s) h =
-    let e = stop-cons b s (quiet-on b (ltb-true 13 b (and-left _ _ h))) in
-    let f = quiet-run k s (and-right (ltb 13 b) _ h) in
-    (omega arith, omega arith)
-
-one-next : (s : List ℕ) (n : ℕ) → stepOne s ≡ suc n → (suc n ≤ length s) × (stopIndex s ≡ suc n + stopIndex (drop (suc n) s))
-one-next [] n e = absurd (omega arith)
-one-next (b ∷ s) n e = go (stopByte b) n refl e
-  where
-    go : (t : Bool) (n : ℕ) → stopByte b ≡ t → cond {A = ℕ} t 0 1 ≡ suc n
-        → (suc n ≤ length (b ∷ s)) × (stopIndex (b ∷ s) ≡ suc n + stopIndex (drop (suc n) (b ∷ s)))
-    go true n p e = absurd (omega arith)
-    go false zero p e = let q = stop-cons b s p in (omega arith, omega arith)
-    go false (suc n) p e = absurd (omega arith)
-
-one-stop : (s : List ℕ) → stepOne s ≡ 0 → stopIndex s ≡ 0
+pub stop-until : Until stopByte stopIndex
 unfolding stopIndex
-one-stop [] e = refl
-one-stop (b ∷ s) e = go (stopByte b) e
-  where
-    go : (t : Bool) → cond {A = ℕ} t 0 1 ≡ 0 → cond t 0 (suc (stopIndex s)) ≡ 0
-    go true e = refl
-    go false e = absurd (omega arith)
-
-step-next : (s : List ℕ) (n : ℕ) → stepLen s ≡ suc n → (suc n ≤ length s) × (stopIndex s ≡ suc n + stopIndex (drop (suc n) s))
-unfolding stepLen
-step-next s n = go (run quiet 8 s) refl
-  where
-    go : (t : Bool) → run quiet 8 s ≡ t → cond t 8 (stepOne s) ≡ suc n → (suc n ≤ length s) × (stopIndex s ≡ suc n + stopIndex (drop (suc n) s))
-    go true p e = rw (← e) (quiet-run 8 s p)
-    go false p e = one-next s n e
-
-step-stop : (s : List ℕ) → stepLen s ≡ 0 → stopIndex s ≡ 0
-unfolding stepLen
-step-stop s = go (run quiet 8 s)
-  where
-    go : (t : Bool) → cond t 8 (stepOne s) ≡ 0 → stopIndex s ≡ 0
-    go true e = absurd (omega arith)
-    go false e = one-stop s e
-
-stop-none : stopIndex [] ≡ 0
-unfolding stopIndex
-stop-none = refl
-
-pub stop-steps : Steps stopIndex stepLen
-stop-steps = record { next = step-next; stop = step-stop; none = stop-none }
-
--- ---- the step by its tests
-module _ (s : List ℕ) where
-  pub step-eight : run quiet 8 s ≡ true → 8 ≡ stepLen s
-  unfolding stepLen
-  step-eight e = rw e
-
-  module _ (e : run quiet 8 s ≡ false) where
-    pub step-none : length s ≡ 0 → 0 ≡ stepLen s
-    unfolding stepLen
-    step-none h = rw e (go s h)
-      where
-        go : (s : List ℕ) → length s ≡ 0 → 0 ≡ stepOne s
-        go [] h = refl
-        go (b ∷ s) h = absurd (omega arith)
-
-    pub step-one : 0 < length s → (t : Bool) → t ≡ stopByte (getD s 0 0) → cond {A = ℕ} t 0 1 ≡ stepLen s
-    unfolding stepLen
-    step-one h t q = rw e (go s h q)
-      where
-        go : (s : List ℕ) → 0 < length s → t ≡ stopByte (getD s 0 0) → cond {A = ℕ} t 0 1 ≡ stepOne s
-        go [] h q = absurd (omega arith)
-        go (b ∷ s) h q = ap (λ (u : Bool). cond {A = ℕ} u 0 1) q
+stop-until = record { next = λ b s e. rw e; here = λ b s e. rw e; none = refl }
 
 -- ---- the bytes before the first stop, and the stop
 pub stop-le : (s : List ℕ) → stopIndex s ≤ length s

@@ -1,10 +1,10 @@
 -- The quick way to a line's end: the first NUL, LF or CR of the text tells where its first line ends, or that it has NUL or CR.
 use Prim.Native.Nat.{ℕ, suc, _+_}
 use mathlib.Core.List.{List, [], _∷_}
-use mathlib.Core.Bool.{Bool, true, false, _&&_, _||_, cond}
+use mathlib.Core.Bool.{Bool, _&&_, _||_, cond}
 use lib.ListN.{length, getD, take}
 use lib.Dec.{ltb, eqb}
-use Rattle.sdp_bytes.specs.Runs.{indexOf, run}
+use Rattle.sdp_bytes.specs.Runs.{indexOf}
 use Rattle.sdp_lines.specs.Lines.{Raw, content, width, hasNulOrCr}
 use Rattle.sdp_lines.specs.declared.First.{First}
 use Rattle.sdp_lines.specs.declared.First.the-variants.{Whole, NulOrCr}
@@ -13,23 +13,10 @@ use Rattle.sdp_lines.specs.declared.First.the-variants.{Whole, NulOrCr}
 abbrev pub stopByte : ℕ → Bool
 stopByte b = eqb b 0 || eqb b 10 || eqb b 13
 
--- surely no stop
-abbrev pub quiet : ℕ → Bool
-quiet b = ltb 13 b
-
 -- the index of the first stop, or the length where there is none
 unfoldable pub stopIndex : List ℕ → ℕ
 stopIndex [] = 0
 stopIndex (b ∷ s) = cond (stopByte b) 0 (suc (stopIndex s))
-
--- one byte that is no stop
-abbrev pub stepOne : List ℕ → ℕ
-stepOne [] = 0
-stepOne (b ∷ s) = cond (stopByte b) 0 1
-
--- how many bytes are passed at once
-unfoldable pub stepLen : List ℕ → ℕ
-stepLen s = cond (run quiet 8 s) 8 (stepOne s)
 
 -- CR and LF stand at k
 unfoldable pub crlfAt : List ℕ → ℕ → Bool
@@ -44,3 +31,7 @@ unfoldable pub firstOf : List ℕ → First
 firstOf s =
     cond (hasNulOrCr (content (firstRaw s))) NulOrCr
     (Whole (length (content (firstRaw s))) (width (firstRaw s)))
+
+-- a line's first `=` is its second byte
+unfoldable pub equalsSecond : List ℕ → Bool
+equalsSecond l = ltb 1 (length l) && eqb (indexOf 0x3d l) 1

@@ -1,9 +1,9 @@
 // Document 01, module 2: cutting a text into lines, and line form.
 ghost use mathlib.Core.Path.{_≡_};
-ghost use Rattle.sdp_bytes.specs.Runs.{run};
 ghost use Rattle.sdp_lines.specs.Lines.{plainForm, nextLine, start, cutAt};
-ghost use Rattle.sdp_lines.specs.Quick.{quiet, stopByte, stepLen, stopIndex, crlfAt, firstOf};
+ghost use Rattle.sdp_lines.specs.Quick.{stopByte, stopIndex, crlfAt, firstOf, equalsSecond};
 ghost use Rattle.sdp_lines.specs.Answers.{faultNumber};
+use sdp_bytes::runs::run_len;
 use sdp_bytes::search::index_of;
 
 // A byte's place in the text, from 0.
@@ -71,19 +71,6 @@ pub enum Cut {
     End,
 }
 
-// Whether s begins with eight bytes above CR, the largest byte that can end a line or spoil it.
-fn quiet8(s: &[u8]) -> bool
-    ensures { λ r. ⌜ r ≡ run quiet 8 (now (s .entry)) ⌝ }
-{
-    if s.len() < 8 {
-        return false;
-    }
-    (13 < s[0])
-        & ((13 < s[1])
-            & ((13 < s[2])
-                & ((13 < s[3]) & ((13 < s[4]) & ((13 < s[5]) & ((13 < s[6]) & (13 < s[7])))))))
-}
-
 // NUL, LF or CR.
 fn stop_byte(b: u8) -> bool
     ensures { λ r. ⌜ r ≡ stopByte b ⌝ }
@@ -91,33 +78,16 @@ fn stop_byte(b: u8) -> bool
     (b == 0) | (b == 10) | (b == 13)
 }
 
-// How many bytes can be passed at once: eight quiet ones, else one that is no stop; 0 where a stop stands.
-fn step_len(s: &[u8]) -> usize
-    ensures { λ r. ⌜ r ≡ stepLen (now (s .entry)) ⌝ }
-{
-    if quiet8(s) {
-        return 8;
-    }
-    if s.len() == 0 {
-        return 0;
-    }
-    if stop_byte(s[0]) {
-        return 0;
-    }
-    1
-}
-
-// The index of the first NUL, LF or CR, or the length where there is none.
+// The index of the first NUL, LF or CR, or the length where there is none. All bytes above CR are passed first.
 fn stop_index(s: &[u8]) -> usize
     ensures { λ r. ⌜ r ≡ stopIndex (now (s .entry)) ⌝ }
 {
-    let mut i = 0;
+    let mut i = run_len(s, 14, 255);
     while i < s.len() {
-        let n = step_len(&s[i..]);
-        if n == 0 {
+        if stop_byte(s[i]) {
             return i;
         }
-        i += n;
+        i += 1;
     }
     i
 }
@@ -158,6 +128,16 @@ fn first_line(s: &[u8]) -> First
     First::NulOrCr
 }
 
+// Whether the first `=` is the second byte.
+fn equals_second(s: &[u8]) -> bool
+    ensures { λ r. ⌜ r ≡ equalsSecond (now (s .entry)) ⌝ }
+{
+    if s.len() < 2 {
+        return false;
+    }
+    (s[0] != b'=') & (s[1] == b'=')
+}
+
 // The form of a line without its ending that has neither NUL nor CR.
 fn form_of(s: &[u8]) -> Form
     ensures { λ r. ⌜ r ≡ plainForm (now (s .entry)) ⌝ }
@@ -165,12 +145,11 @@ fn form_of(s: &[u8]) -> Form
     if s.len() == 0 {
         return Form::Blank;
     }
-    let e = index_of(s, b'=');
-    if e == s.len() {
-        return Form::Bad(Fault::NoEquals);
-    }
-    if e == 1 {
+    if equals_second(s) {
         return Form::Good(s[0]);
+    }
+    if index_of(s, b'=') == s.len() {
+        return Form::Bad(Fault::NoEquals);
     }
     Form::Bad(Fault::NotSecond)
 }

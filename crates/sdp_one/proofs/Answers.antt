@@ -5,6 +5,7 @@ use denote.Ref.{now}
 use Rattle.sdp_one.specs.One.{OneAnswer, OneState, OnePut}
 use Rattle.sdp_one.proofs.OneLaws.{same, same-put}
 use Rattle.sdp_bytes.proofs.quiet.quiet8.Reads as sdpBytesQuietQuiet8
+use Rattle.sdp_bytes.proofs.runs.run_len.Reads as sdpBytesRunsRunLen
 use Rattle.sdp_bytes.proofs.search.index_of.Reads as sdpBytesSearchIndexOf
 use Rattle.sdp_bytes.proofs.token.token_char.Reads as sdpBytesTokenTokenChar
 use Rattle.sdp_bytes.proofs.token.is_token.Reads as sdpBytesTokenIsToken
@@ -120,6 +121,9 @@ use Rattle.sdp.proofs.sdp_area_size.Reads as sdpSdpAreaSize
 -- ---- sdp_bytes
 pub sdp-bytes-quiet-quiet8 : OneAnswer sdpBytesQuietQuiet8.Learnt
 sdp-bytes-quiet-quiet8 κs a z z′ e e′ p q = same p q
+
+pub sdp-bytes-runs-run-len : OneAnswer sdpBytesRunsRunLen.Learnt
+sdp-bytes-runs-run-len κs a z z′ e e′ p q = same p q
 
 pub sdp-bytes-search-index-of : OneAnswer sdpBytesSearchIndexOf.Learnt
 sdp-bytes-search-index-of κs a z z′ e e′ p q = same p q

@@ -1,21 +1,20 @@
 -- Laws of charLen and utf8End: one step of a loop over the characters, and of its quick way.
 -- Assumes nothing.
-use Prim.Native.Nat.{ℕ, zero, suc, pred, _+_, _-_, _<_, _≤_}
-use native.Mathlib.Nat.{add-zero}
+use Prim.Native.Nat.{ℕ, zero, suc, _+_, _-_, _<_, _≤_}
 use native.Mathlib.Numerals.{add-one}
 use native.Mathlib.Decide.{decLt}
 use native.Mathlib.Omega.{arith}
 use mathlib.Core.Path.{_≡_, refl, sym, ap, _∙_}
 use mathlib.Core.Bool.{Bool, true, false, _&&_, _||_, and-true, and-false, false≢true, cond}
 use mathlib.Core.List.{List, [], _∷_}
-use borrow.Author.Tests.{lt-ltb, le-ltb, le-leb, lt-leb, eq-eqb, ne-eqb, ltb-true, leb-true}
-use lib.Dec.{ltb, leb, eqb}
+use borrow.Author.Tests.{lt-ltb, le-ltb, le-leb, lt-leb, leb-true}
+use lib.Dec.{leb}
 use lib.ListN.{length, getD, drop, drop-of-length-le, length-drop}
-use lib.Seq.{drop-cons, drop-drop}
-use Rattle.sdp_bytes.proofs.ScanLaws.{and-left, and-right, Steps}
+use lib.Seq.{drop-cons}
+use Rattle.sdp_bytes.proofs.ScanLaws.{and-right, Reached, reached-on, run-passed, Steps}
 use Rattle.sdp_bytes.specs.Ranges.{Range, _to_, within, fits, inAt}
-use Rattle.sdp_bytes.specs.Runs.{run}
-use Rattle.sdp_utf8.specs.Utf8.{char1, char2, char3, char4, charLen, endFrom, utf8End, isUtf8, ascii, stepLen}
+use Rattle.sdp_bytes.specs.Runs.{runLen}
+use Rattle.sdp_utf8.specs.Utf8.{char1, char2, char3, char4, charLen, endFrom, utf8End, stopAt, ascii, stepLen}
 
 or-elim : (a b : Bool) {P : Type 0} → (a ≡ true → P) → (b ≡ true → P) → (a || b) ≡ true → P
 or-elim true b p q e = p refl
@@ -169,31 +168,30 @@ utf8-stop (b ∷ s) e = rw e
 pub utf8-plain : (b : ℕ) (s : List ℕ) → b < 0x80 → utf8End (b ∷ s) ≡ suc (utf8End s)
 utf8-plain b s h = let e = utf8-next (b ∷ s) 0 (plain-one b s h) in omega arith
 
-plain-run : (k : ℕ) (s : List ℕ) → run ascii k s ≡ true → (k ≤ length s) × (utf8End s ≡ k + utf8End (drop k s))
-unfolding run
-plain-run zero s h = (omega arith, omega arith)
-plain-run (suc k) [] h = absurd (false≢true h)
-plain-run (suc k) (b ∷ s) h =
-    let e = utf8-plain b s (ltb-true b 0x80 (and-left _ _ h)) in
-    let f = plain-run k s (and-right (ltb b 0x80) _ h) in
-    (omega arith, omega arith)
+pub plain-pass : (b : ℕ) (s : List ℕ) → ascii b ≡ true → utf8End (b ∷ s) ≡ suc (utf8End s)
+plain-pass b s e = let l = leb-true b 0x7f (and-right (leb 0 b) (leb b 0x7f) e) in utf8-plain b s (omega arith)
+
+pub plain-on : (s : List ℕ) → Reached utf8End s (runLen ascii s)
+plain-on s = run-passed ascii plain-pass (runLen ascii s) s (omega arith)
 
 -- a step passes well-formed bytes, or stands where there is no character
-step-next : (s : List ℕ) (n : ℕ) → stepLen s ≡ suc n → (suc n ≤ length s) × (utf8End s ≡ suc n + utf8End (drop (suc n) s))
+step-next : (s : List ℕ) (n : ℕ) → stepLen s ≡ suc n → Reached utf8End s (suc n)
 unfolding stepLen
-step-next s n = go (run ascii 8 s) refl
+step-next s n = go (charLen s) refl
   where
-    go : (t : Bool) → run ascii 8 s ≡ t → cond t 8 (charLen s) ≡ suc n → (suc n ≤ length s) × (utf8End s ≡ suc n + utf8End (drop (suc n) s))
-    go true p e = rw (← e) (plain-run 8 s p)
-    go false p e = let l = charLen-le s in (omega arith, utf8-next s n e)
+    go : (m : ℕ) → charLen s ≡ m → stopAt m (m + runLen ascii (drop m s)) ≡ suc n → Reached utf8End s (suc n)
+    go zero p e = absurd (omega arith)
+    go (suc m) p e =
+        let l = charLen-le s in
+        rw (← e) (reached-on utf8End s (suc m) (omega arith, utf8-next s m p) (runLen ascii (drop (suc m) s)) (plain-on (drop (suc m) s)))
 
 step-stop : (s : List ℕ) → stepLen s ≡ 0 → utf8End s ≡ 0
 unfolding stepLen
-step-stop s = go (run ascii 8 s)
+step-stop s = go (charLen s) refl
   where
-    go : (t : Bool) → cond t 8 (charLen s) ≡ 0 → utf8End s ≡ 0
-    go true e = absurd (omega arith)
-    go false e = utf8-stop s e
+    go : (m : ℕ) → charLen s ≡ m → stopAt m (m + runLen ascii (drop m s)) ≡ 0 → utf8End s ≡ 0
+    go zero p e = utf8-stop s p
+    go (suc m) p e = absurd (omega arith)
 
 utf8-none : utf8End [] ≡ 0
 unfolding utf8End endFrom
@@ -201,3 +199,24 @@ utf8-none = refl
 
 pub utf8-steps : Steps utf8End stepLen
 utf8-steps = record { next = step-next; stop = step-stop; none = utf8-none }
+
+-- ---- the step by its tests
+module _ (s : List ℕ) (n : ℕ) (e : n ≡ charLen s) where
+  pub len-none : n ≡ 0 → 0 ≡ stepLen s
+  unfolding stepLen
+  len-none z = ap (λ (m : ℕ). stopAt m (m + runLen ascii (drop m s))) (sym z ∙ e)
+
+  pub len-fits : n ≤ length s
+  len-fits = omega (arith, charLen-le s)
+
+  module _ (r : ℕ) (q : r ≡ runLen ascii (drop n s)) where
+    pub len-some : (n ≡ 0 → ⊥) → n + r ≡ stepLen s
+    unfolding stepLen
+    len-some p = ap (λ (x : ℕ). n + x) q ∙ go n e p
+      where
+        go : (n : ℕ) → n ≡ charLen s → (n ≡ 0 → ⊥) → n + runLen ascii (drop n s) ≡ stopAt (charLen s) (charLen s + runLen ascii (drop (charLen s) s))
+        go zero e p = absurd (p refl)
+        go (suc m) e p = ap (λ (m : ℕ). stopAt m (m + runLen ascii (drop m s))) e
+
+    pub len-le : n + r ≤ length s
+    len-le = omega (arith, charLen-le s, plain-on (drop n s) .0, length-drop n s)

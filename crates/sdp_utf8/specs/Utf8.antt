@@ -1,12 +1,12 @@
 -- RFC 3629, section 4: the syntax of UTF-8 byte sequences.
-use Prim.Native.Nat.{ℕ, zero, suc, pred, _<_}
+use Prim.Native.Nat.{ℕ, zero, suc, pred, _+_, _<_}
 use mathlib.Core.Path.{_≡_}
 use mathlib.Core.Bool.{Bool, _||_, cond}
 use mathlib.Core.List.{List, [], _∷_, _++_}
-use lib.ListN.{length}
-use lib.Dec.{ltb, eqb}
-use Rattle.sdp_bytes.specs.Ranges.{Range, _to_, fits}
-use Rattle.sdp_bytes.specs.Runs.{run}
+use lib.ListN.{length, drop}
+use lib.Dec.{eqb}
+use Rattle.sdp_bytes.specs.Ranges.{Range, _to_, within, fits}
+use Rattle.sdp_bytes.specs.Runs.{runLen}
 
 -- UTF8-tail = %x80-BF
 abbrev pub tail : Range
@@ -68,11 +68,11 @@ utf8End s = endFrom 0 s
 unfoldable pub isUtf8 : List ℕ → Bool
 isUtf8 s = eqb (utf8End s) (length s)
 
--- ---- the quick way through ASCII: eight bytes at once, else one character
+-- ---- the quick way through ASCII: a character, and the run of ASCII bytes after it, at once
 -- a byte of one character by itself
 abbrev pub ascii : ℕ → Bool
-ascii b = ltb b 0x80
+ascii = within (0x00 to 0x7f)
 
 -- how many bytes are passed at once
 unfoldable pub stepLen : List ℕ → ℕ
-stepLen s = cond (run ascii 8 s) 8 (charLen s)
+stepLen s = stopAt (charLen s) (charLen s + runLen ascii (drop (charLen s) s))

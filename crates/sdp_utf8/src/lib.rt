@@ -3,8 +3,9 @@ ghost use mathlib.Core.Path.{_≡_};
 ghost use mathlib.Core.Bool.{cond};
 ghost use mathlib.Core.List.{[], _∷_};
 ghost use Rattle.sdp_bytes.specs.Ranges.{_to_, inAt, fits};
-ghost use Rattle.sdp_bytes.specs.Runs.{run};
-ghost use Rattle.sdp_utf8.specs.Utf8.{tail, char1, char2, char3, char4, charLen, ascii, stepLen, utf8End, isUtf8};
+ghost use Rattle.sdp_bytes.specs.Runs.{runLen};
+ghost use Rattle.sdp_utf8.specs.Utf8.{tail, char2, char3, char4, charLen, ascii, stepLen, utf8End, isUtf8};
+use sdp_bytes::runs::run_len;
 
 // Whether a byte of lo..=hi stands at place i of s.
 fn in_at(s: &[u8], i: usize, lo: u8, hi: u8) -> bool
@@ -86,35 +87,29 @@ fn char_len(s: &[u8]) -> usize
     len_if(is_four(s), 4)
 }
 
-// Whether s begins with eight ASCII bytes.
-fn plain8(s: &[u8]) -> bool
-    ensures { λ r. ⌜ r ≡ run ascii 8 (now (s .entry)) ⌝ }
+// How many ASCII bytes s begins with.
+fn plain_len(s: &[u8]) -> usize
+    ensures { λ r. ⌜ r ≡ runLen ascii (now (s .entry)) ⌝ }
 {
-    if s.len() < 8 {
-        return false;
-    }
-    (s[0] < 0x80)
-        & ((s[1] < 0x80)
-            & ((s[2] < 0x80)
-                & ((s[3] < 0x80)
-                    & ((s[4] < 0x80) & ((s[5] < 0x80) & ((s[6] < 0x80) & (s[7] < 0x80)))))))
+    run_len(s, 0, 0x7f)
 }
 
-// How many bytes can be passed at once: eight plain ones, else one character; 0 where neither is there.
+// How many bytes can be passed at once: a character and the ASCII bytes after it; 0 where there is no character.
 fn step_len(s: &[u8]) -> usize
     ensures { λ r. ⌜ r ≡ stepLen (now (s .entry)) ⌝ }
 {
-    if plain8(s) {
-        return 8;
+    let n = char_len(s);
+    if n == 0 {
+        return 0;
     }
-    char_len(s)
+    n + plain_len(&s[n..])
 }
 
 // The end of the longest well-formed beginning of s.
 pub fn utf8_end(s: &[u8]) -> usize
     ensures { λ r. ⌜ r ≡ utf8End (now (s .entry)) ⌝ }
 {
-    let mut i = 0;
+    let mut i = plain_len(s);
     while i < s.len() {
         let n = step_len(&s[i..]);
         if n == 0 {

@@ -16,8 +16,8 @@ use Rattle.sdp_put.specs.Strings.{dropped, kept, clean}
 use Rattle.sdp_put.proofs.DigitLaws.{digits-one, digits-more}
 use Rattle.sdp_lines.specs.Strings.{bytesOf}
 use Rattle.sdp_lines.specs.declared.Span.{Span}
-use Rattle.sdp_cells.specs.Bytes as bytes
 use Rattle.sdp_cells.specs.Bytes.{num}
+use Rattle.sdp_cells.proofs.ByteLaws.{num-below}
 use Rattle.sdp_area.specs.Session.{Key}
 use Rattle.sdp_area.specs.Area.{originAt, nameAt, descriptionAt, uriAt, connectionAt, keyAt, emailsAt, phonesAt, connectionsAt, bandwidthsAt, timesAt, repeatsAt, offsetsAt, zonesAt, attributesAt, mediasAt}
 use Rattle.sdp_decode.specs.Rows as rows
@@ -105,16 +105,11 @@ length-each f rd a k h w (suc n) i p =
 
 -- ---- the whole, of an area of bytes and a text of at most 32,768
 module _ (t a : List ℕ) (small : length t ≤ 32768) (byte : (i : ℕ) → getD a i 0 < 256) where
-  num-below : (k p : ℕ) → num k a p < 256 ^ k
-  unfolding bytes.num
-  num-below zero p = omega arith
-  num-below (suc k) p = omega (arith, byte p, num-below k (p + 1), pow-suc 256 k)
-
   num8-below : (p : ℕ) → num 8 a p < 2 ^ 64
-  num8-below p = num-below 8 p
+  num8-below p = num-below a byte 8 p
 
   num2-below : (p : ℕ) → num 2 a p < 65536
-  num2-below p = num-below 2 p
+  num2-below p = num-below a byte 2 p
 
   string : (x : Span) → length (clean (bytesOf t x)) ≤ 32768
   string x = omega (arith, length-clean (bytesOf t x), length-take (x .len) (drop (x .at .0) t), length-drop (x .at .0) t)
