@@ -2,7 +2,7 @@
 use Prim.Native.Nat.{ℕ, zero, suc}
 use mathlib.Core.Bool.{Bool, true, false, _&&_, cond}
 use mathlib.Core.List.{List, [], _∷_}
-use lib.Dec.{eqb, ltb}
+use lib.Dec.{eqb}
 
 -- the index of the first b, or the length where there is none
 unfoldable pub indexOf : ℕ → List ℕ → ℕ
@@ -14,10 +14,6 @@ unfoldable pub run : (ℕ → Bool) → ℕ → List ℕ → Bool
 run p zero s = true
 run p (suc k) [] = false
 run p (suc k) (b ∷ s) = p b && run p k s
-
--- above CR, the largest of NUL, LF and CR
-abbrev pub quiet : ℕ → Bool
-quiet b = ltb 13 b
 
 -- how many bytes at the beginning pass the test
 unfoldable pub runLen : (ℕ → Bool) → List ℕ → ℕ

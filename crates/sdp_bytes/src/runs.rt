@@ -37,7 +37,7 @@ fn all_from(x: usize, lo: usize) -> bool
 }
 
 // Whether the first eight bytes are of lo..=hi: 255 - b is 255 - hi or more where b is hi or less.
-fn eight(s: &[u8], lo: u8, hi: u8) -> bool
+pub fn eight(s: &[u8], lo: u8, hi: u8) -> bool
     requires { ⌜ lo ≤ 128 ⌝ }
     requires { ⌜ 127 ≤ hi ⌝ }
     ensures { λ r. ⌜ r ≡ run (within (lo to hi)) 8 (now (s .entry)) ⌝ }

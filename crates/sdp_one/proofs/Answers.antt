@@ -4,7 +4,7 @@ use mathlib.Core.Path.{refl}
 use denote.Ref.{now}
 use Rattle.sdp_one.specs.One.{OneAnswer, OneState, OnePut}
 use Rattle.sdp_one.proofs.OneLaws.{same, same-put}
-use Rattle.sdp_bytes.proofs.quiet.quiet8.Reads as sdpBytesQuietQuiet8
+use Rattle.sdp_bytes.proofs.runs.eight.Reads as sdpBytesRunsEight
 use Rattle.sdp_bytes.proofs.runs.run_len.Reads as sdpBytesRunsRunLen
 use Rattle.sdp_bytes.proofs.search.index_of.Reads as sdpBytesSearchIndexOf
 use Rattle.sdp_bytes.proofs.token.token_char.Reads as sdpBytesTokenTokenChar
@@ -119,8 +119,8 @@ use Rattle.sdp.proofs.sdp_letter_order.Reads as sdpSdpLetterOrder
 use Rattle.sdp.proofs.sdp_area_size.Reads as sdpSdpAreaSize
 
 -- ---- sdp_bytes
-pub sdp-bytes-quiet-quiet8 : OneAnswer sdpBytesQuietQuiet8.Learnt
-sdp-bytes-quiet-quiet8 κs a z z′ e e′ p q = same p q
+pub sdp-bytes-runs-eight : OneAnswer sdpBytesRunsEight.Learnt
+sdp-bytes-runs-eight κs a z z′ e e′ p q = same p q
 
 pub sdp-bytes-runs-run-len : OneAnswer sdpBytesRunsRunLen.Learnt
 sdp-bytes-runs-run-len κs a z z′ e e′ p q = same p q

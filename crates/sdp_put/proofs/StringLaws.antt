@@ -7,9 +7,10 @@ use native.Mathlib.Numerals.{add-one}
 use native.Mathlib.Omega.{arith}
 use lib.ListN.{length, take, drop, getD, length-drop, drop-of-length-le}
 use lib.Seq.{drop-cons, drop-drop, take-all}
-use lib.Dec.{ltb}
-use borrow.Author.Tests.{ltb-true, ltb-false, ne-eqb}
-use Rattle.sdp_bytes.specs.Runs.{run, quiet}
+use lib.Dec.{ltb, leb}
+use borrow.Author.Tests.{leb-true, ltb-true, ltb-false, ne-eqb}
+use Rattle.sdp_bytes.specs.Ranges.{_to_, within}
+use Rattle.sdp_bytes.specs.Runs.{run}
 use Rattle.sdp_bytes.proofs.ScanLaws.{and-left, and-right, rest-from}
 use Rattle.sdp_put.proofs.OutLaws.{Cut}
 use Rattle.sdp_put.specs.Strings.{part, dropped, kept, clean}
@@ -68,16 +69,20 @@ unfolding kept
 kept-is b e = rw e
 
 -- ---- eight bytes at once
-quiet-kept : (b : ℕ) → 13 < b → dropped b ≡ false
+quiet-kept : (b : ℕ) → 14 ≤ b → dropped b ≡ false
 quiet-kept b h = rw (ne-eqb b 0 (λ e. omega arith), ne-eqb b 13 (λ e. omega arith), ne-eqb b 10 (λ e. omega arith))
+
+-- the bytes above CR, the largest byte that is left out
+abbrev pub quiet : ℕ → Bool
+quiet = within (14 to 255)
 
 run-clean : (k : ℕ) (s : List ℕ) → run quiet k s ≡ true → (k ≤ length s) × (clean s ≡ take k s ++ clean (drop k s))
 unfolding run clean
 run-clean zero s e = (omega arith, refl)
 run-clean (suc k) [] e = absurd (false≢true e)
 run-clean (suc k) (b ∷ s) e =
-    let f = run-clean k s (and-right (ltb 13 b) _ e) in
-    (omega arith, ap₂ (λ (x y : List ℕ). x ++ y) (kept-is b (quiet-kept b (ltb-true 13 b (and-left _ _ e)))) (f .1))
+    let f = run-clean k s (and-right (quiet b) _ e) in
+    (omega arith, ap₂ (λ (x y : List ℕ). x ++ y) (kept-is b (quiet-kept b (leb-true 14 b (and-left (leb 14 b) _ (and-left (quiet b) _ e))))) (f .1))
 
 -- eight bytes of s from i on are there, and all of them are kept
 abbrev pub Eight : List ℕ → ℕ → Type 0

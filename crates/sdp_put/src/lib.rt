@@ -7,7 +7,7 @@ ghost use lib.ListN.{length, take};
 ghost use Rattle.sdp_put.specs.Out.{placed, Put};
 ghost use Rattle.sdp_put.specs.Digits.{digits, fourDigits, timeText, offsetText};
 ghost use Rattle.sdp_put.specs.Strings.{part, dropped, kept, clean};
-use sdp_bytes::quiet::quiet8;
+use sdp_bytes::runs::eight;
 
 // The place n behind at; the last place stays, so that no sum wraps.
 fn past(at: usize, n: usize) -> usize
@@ -116,13 +116,13 @@ fn put8(out: &mut [u8], at: usize, s: &[u8]) -> usize
     store8(out, at, s)
 }
 
-// The bytes of s that are not left out: by eights as long as there is none to leave out.
+// The bytes of s that are not left out: by eights as long as all eight are above CR, the largest that is left out.
 fn put_clean(out: &mut [u8], at: usize, s: &[u8]) -> usize
     ensures { λ r. ⌜ Put (now (out .entry)) at (clean (now (s .entry))) (now (out .exit)) r ⌝ }
 {
     let mut i: usize = 0;
     let mut p = at;
-    while quiet8(&s[i..]) {
+    while eight(&s[i..], 14, 255) {
         p = put8(out, p, &s[i..]);
         i += 8;
     }

@@ -20,11 +20,11 @@ abbrev μ-loop : tie.MeasureT-loop
 loop-holds : tie.Need-loop-holds Inv-loop μ-loop
 loop-holds c = (omega arith, refl, begin refl)
 
-quiet8-requires : tie.Need-quiet8-requires Inv-loop μ-loop
-quiet8-requires c κs = tt
+eight-requires : tie.Need-eight-requires Inv-loop μ-loop
+eight-requires c κs = (omega arith, omega arith)
 
-passed : (c : tie.After-quiet8 Inv-loop μ-loop) → c .quiet8 .result ≡ true → Eight (c .before .before .before .before .before .args .s .now) (c .before .before .loop .i)
-passed c t = quiet-eight (c .before .before .before .before .before .args .s .now) (c .before .before .loop .i) (sym (c .quiet8 .ensures) ∙ t)
+passed : (c : tie.After-eight Inv-loop μ-loop) → c .eight .result ≡ true → Eight (c .before .before .before .before .before .args .s .now) (c .before .before .loop .i)
+passed c t = quiet-eight (c .before .before .before .before .before .args .s .now) (c .before .before .loop .i) (sym (c .eight .ensures) ∙ t)
 
 put8-requires : tie.Need-put8-requires Inv-loop μ-loop
 put8-requires c κs = let k = c .before .before in passed (k .before) (k .if1 .taken) .1
@@ -59,7 +59,7 @@ put-clean-spec =
     (λ c. omega arith)
     (λ c. omega arith)
     (λ c. omega arith)
-    quiet8-requires
+    eight-requires
     (λ c. omega arith)
     (λ c. omega arith)
     (λ c. omega arith)
