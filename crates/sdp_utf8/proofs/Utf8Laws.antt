@@ -1,17 +1,18 @@
 -- Laws of charLen and utf8End: one step of a loop over the characters, and of its quick way.
 -- Assumes nothing.
 use Prim.Native.Nat.{ℕ, zero, suc, _+_, _-_, _<_, _≤_}
+use native.Mathlib.Nat.{add-zero}
 use native.Mathlib.Numerals.{add-one}
 use native.Mathlib.Decide.{decLt}
 use native.Mathlib.Omega.{arith}
 use mathlib.Core.Path.{_≡_, refl, sym, ap, _∙_}
-use mathlib.Core.Bool.{Bool, true, false, _&&_, _||_, and-true, and-false, false≢true, cond}
+use mathlib.Core.Bool.{Bool, true, false, _&&_, _||_, not, and-true, and-false, false≢true, cond}
 use mathlib.Core.List.{List, [], _∷_}
 use borrow.Author.Tests.{lt-ltb, le-ltb, le-leb, lt-leb, leb-true}
 use lib.Dec.{leb}
 use lib.ListN.{length, getD, drop, drop-of-length-le, length-drop}
 use lib.Seq.{drop-cons}
-use Rattle.sdp_bytes.proofs.ScanLaws.{and-right, Reached, reached-on, run-passed, Steps}
+use Rattle.sdp_bytes.proofs.ScanLaws.{and-right, Reached, reached-on, run-passed, run-until, Steps}
 use Rattle.sdp_bytes.specs.Ranges.{Range, _to_, within, fits, inAt}
 use Rattle.sdp_bytes.specs.Runs.{runLen}
 use Rattle.sdp_utf8.specs.Utf8.{char1, char2, char3, char4, charLen, endFrom, utf8End, stopAt, ascii, stepLen}
@@ -206,17 +207,23 @@ module _ (s : List ℕ) (n : ℕ) (e : n ≡ charLen s) where
   unfolding stepLen
   len-none z = ap (λ (m : ℕ). stopAt m (m + runLen ascii (drop m s))) (sym z ∙ e)
 
-  pub len-fits : n ≤ length s
-  len-fits = omega (arith, charLen-le s)
-
-  module _ (r : ℕ) (q : r ≡ runLen ascii (drop n s)) where
-    pub len-some : (n ≡ 0 → ⊥) → n + r ≡ stepLen s
+  module _ (p : n ≡ 0 → ⊥) where
+    pub len-some : (r : ℕ) → r ≡ runLen ascii (drop n s) → n + r ≡ stepLen s
     unfolding stepLen
-    len-some p = ap (λ (x : ℕ). n + x) q ∙ go n e p
+    len-some r q = ap (λ (x : ℕ). n + x) q ∙ go n e p
       where
         go : (n : ℕ) → n ≡ charLen s → (n ≡ 0 → ⊥) → n + runLen ascii (drop n s) ≡ stopAt (charLen s) (charLen s + runLen ascii (drop (charLen s) s))
         go zero e p = absurd (p refl)
         go (suc m) e p = ap (λ (m : ℕ). stopAt m (m + runLen ascii (drop m s))) e
 
-    pub len-le : n + r ≤ length s
-    len-le = omega (arith, charLen-le s, plain-on (drop n s) .0, length-drop n s)
+    pub len-last : length s ≤ n → n ≡ stepLen s
+    len-last l = let q = ap (runLen ascii) (drop-of-length-le s l) ∙ run-until ascii .none in sym (add-zero n) ∙ len-some 0 (sym q)
+
+    pub len-high : n < length s → 0x80 ≤ getD s n 0 → n ≡ stepLen s
+    len-high l h =
+        let f : not (ascii (getD s n 0)) ≡ true = rw (lt-leb (getD s n 0) 0x7f h, and-false) refl in
+        let q = ap (runLen ascii) (drop-cons s n 0 l) ∙ run-until ascii .here (getD s n 0) (drop (suc n) s) f in
+        sym (add-zero n) ∙ len-some 0 (sym q)
+
+  pub len-le : (r : ℕ) → r ≡ runLen ascii (drop n s) → n + r ≤ length s
+  len-le r q = omega (arith, charLen-le s, plain-on (drop n s) .0, length-drop n s)

@@ -94,13 +94,20 @@ fn plain_len(s: &[u8]) -> usize
     run_len(s, 0, 0x7f)
 }
 
-// How many bytes can be passed at once: a character and the ASCII bytes after it; 0 where there is no character.
+// How many bytes can be passed at once: a character and the ASCII bytes after it; 0 where there is no character. The next
+// byte is tested by itself first: where none of a text is ASCII, no eight need be tested.
 fn step_len(s: &[u8]) -> usize
     ensures { λ r. ⌜ r ≡ stepLen (now (s .entry)) ⌝ }
 {
     let n = char_len(s);
     if n == 0 {
         return 0;
+    }
+    if s.len() <= n {
+        return n;
+    }
+    if 0x80 <= s[n] {
+        return n;
     }
     n + plain_len(&s[n..])
 }
