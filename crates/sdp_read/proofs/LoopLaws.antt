@@ -2,10 +2,10 @@
 -- Assumes nothing.
 use Prim.Native.Nat.{ℕ, _+_, _≤_}
 use native.Mathlib.Omega.{arith}
-use mathlib.Core.Path.{_≡_, refl, sym, ap, _∙_}
-use mathlib.Core.Bool.{true, false}
-use mathlib.Core.List.{List, [], _++_}
-use lib.ListN.{length, drop}
+use mathlib.Core.Path.{_≡_, refl, ap, _∙_}
+use mathlib.Core.Bool.{false}
+use mathlib.Core.List.{List, _++_}
+use lib.ListN.{length}
 use Rattle.sdp_lines.specs.Lines.{cutAt}
 use Rattle.sdp_lines.specs.Answers.{faultNumber}
 use Rattle.sdp_lines.specs.declared.Span.{Span}
@@ -13,17 +13,16 @@ use Rattle.sdp_lines.specs.declared.Cursor.{Cursor}
 use Rattle.sdp_lines.specs.declared.LineNumber.{LineNumber}
 use Rattle.sdp_lines.specs.declared.Fault.{Fault}
 use Rattle.sdp_lines.specs.declared.Cut.the-variants.{Line, Empty, Refused, End}
-use Rattle.sdp_area.specs.Session.{Session, Within, empty}
-use Rattle.sdp_area.specs.Area.{encode, size}
+use Rattle.sdp_area.specs.Session.{Within, empty}
+use Rattle.sdp_area.specs.Area.{encode}
 use Rattle.sdp_step.proofs.TailLaws.{tail-of}
 use Rattle.sdp_lines.specs.Strings.{bytesOf}
 use Rattle.sdp_strings.specs.Strings.{spanAt}
 use Rattle.sdp_step.specs.Step.{Reading, Stepped, goes, stops, step, fresh}
-use Rattle.sdp_read.specs.Run.{Verdict, answer, after}
+use Rattle.sdp_read.specs.Run.{answer, after}
 use Rattle.sdp_read.specs.From.{Reached, runAt, Left}
 use Rattle.sdp_step.specs.Hold.{Holds, Handled}
 use Rattle.sdp_step.specs.declared.Marks.{Marks}
-use Rattle.sdp_step.specs.declared.Taken.{Taken}
 use Rattle.sdp_step.specs.declared.Taken.the-variants as taken
 use Rattle.sdp_read.specs.declared.Ended.the-variants.{Accepted, Stopped}
 use Rattle.sdp_read.proofs.RunLaws.{run-end, run-empty, run-bad, run-line}

@@ -12,7 +12,6 @@ use Rattle.sdp_cells.specs.Bytes.{zeros}
 use Rattle.sdp_area.specs.Session.{empty}
 use Rattle.sdp_area.specs.Area.{encode, size}
 use Rattle.sdp_area.proofs.WidthLaws.{encode-empty}
-use Rattle.sdp_strings.specs.Strings.{spanAt}
 use Rattle.sdp_step.specs.Step.{fresh}
 use Rattle.sdp_read.specs.Run.{Verdict, accepted, refused, answer, lines, outcomeOf, readText}
 use Rattle.sdp_read.specs.From.{runAt, beginAt, Left}

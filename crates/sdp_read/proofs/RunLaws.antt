@@ -4,15 +4,12 @@ use Prim.Native.Nat.{ℕ, zero, suc, _+_, _-_, _≤_, _<_}
 use native.Mathlib.Decide.{decLt}
 use native.Mathlib.Omega.{arith}
 use mathlib.Core.Path.{_≡_, refl, sym, ap, _∙_}
-use mathlib.Core.Bool.{Bool, true, false, _&&_, cond}
 use mathlib.Core.List.{List, [], _∷_}
-use lib.Dec.{ltb, eqb}
-use lib.ListN.{length, getD, take, drop, length-drop, length-take, drop-of-length-le}
+use lib.ListN.{length, take, drop, length-drop, drop-of-length-le}
 use lib.Seq.{drop-drop, take-nil, length-take-le}
 use native.Mathlib.Nat.{zero-add, suc-add, add-sub-cancel-left}
-use borrow.Author.Tests.{lt-ltb, ltb-true, ltb-false}
+use borrow.Author.Tests.{lt-ltb}
 use Rattle.sdp_bytes.specs.Runs
-use Rattle.sdp_bytes.specs.Runs.{indexOf}
 use Rattle.sdp_lines.specs.Lines
 use Rattle.sdp_lines.specs.Lines.{Raw, split, content, width, formOf, nextLine, past, cutForm, cutAt}
 use Rattle.sdp_lines.specs.Quick.{firstRaw}

@@ -1,5 +1,5 @@
 -- `sdp_cutter::cut_line` meets its contract: a walk by hand. A `Cutter` is made in a local that lies in memory, lent by `&mut` to `next_line` for a lifetime of the call, taken back at its last value, and read.
--- All that it knows of `next_line` is that it meets its contract. From the logic's Denote/Examples/Nested/Bounded/Caller.antt (a local that is lent) and reader/proofs/first (the call).
+-- All that it knows of `next_line` is that it meets its contract.
 -- Assumes nothing.
 use mathlib.Core.Path.{_≡_, refl, ap, subst}
 use Prim.Native.Nat.{ℕ, _<_, _^_}

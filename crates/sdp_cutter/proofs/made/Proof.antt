@@ -1,4 +1,4 @@
--- `line::made` meets its contract: a walk by hand, from reader/proofs/new, with two more parameters: a struct and a byte. Assumes nothing.
+-- `sdp_cutter::made` meets its contract: a walk by hand. Assumes nothing.
 use mathlib.Core.Path.{refl}
 use Prim.Native.Nat.{ℕ, _<_, _^_}
 use mathlib.Core.List.{List, [], _∷_}

@@ -108,7 +108,7 @@ module _ {M : Type 1} (𝓤 : URA M) (H : Heap 𝓤) (A : Atoms 𝓤) (W : Given
   abbrev Own : Fml
   Own = ShrSlice (named 0) κ u8 .own s (v ∷ [])
 
-  -- the call of `new`: what it is passed, what it asks, and what is known of its result
+  -- the call of `made`: what it is passed, what it asks, and what is known of its result
   abbrev to-new : New 𝓤 H A mem run .Ghost
   to-new = (((κ, tt), (q, tt), tt, x, at), tt)
 
@@ -121,7 +121,7 @@ module _ {M : Type 1} (𝓤 : URA M) (H : Heap 𝓤) (A : Atoms 𝓤) (W : Given
   new-said : (r : Line) → ent 𝓤 (ensured 𝓤 H A new.ended (new.clauses 𝓤 H A mem run) (κ, tt) x tt r) (fact 𝓤 ((r .number ≡ m) × ((r .letter ≡ b) × (r .value ≡ s))))
   new-said r = exE 𝓤 _ (λ ws. snd∗ 𝓤 (sem 𝓤 H A (lasts new.ended (κ, tt) x ws)) (fact 𝓤 ((r .number ≡ m) × ((r .letter ≡ b) × (r .value ≡ s)))))
 
-  -- the call of `next`, at the struct r with the machine value u
+  -- the call of `opening_of`, at the line r with the machine value u
   abbrev to-next : Line → Val → Next 𝓤 H A mem run .Ghost
   to-next r u = (((κ, tt), (q, tt), tt, (p, (r, tt)), (P′.lowered p ∷ [], (u ∷ [], tt))), tt)
 

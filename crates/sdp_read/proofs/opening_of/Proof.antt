@@ -22,8 +22,7 @@ use types.Run.{look, init, forget, stop, fld, from, load, of-opd, and-then, no-m
 use sound.WpLaws.{FmC, fmOf, WpFn-mono}
 use denote.RattleType.{RattleType, owns}
 use denote.Laws.{Is, shows}
-use denote.Plain.{uint-makes}
-use denote.Builtin.{u8, usize}
+use denote.Builtin.{u8}
 use denote.Ref.{now}
 use denote.Signature.{namedLft}
 use denote.Slice.{sliceVal, ShrSlice}
@@ -31,7 +30,7 @@ use denote.Steps.{owned, peeks, heard, nothing}
 use denote.Enum.Laws as EL
 use denote.Struct.Declared.{Declared}
 use denote.Struct.Laws as LL
-use denote.Struct.Rest.{all-own, ownAt, rest, own-open, own-out}
+use denote.Struct.Rest.{all-own, own-open}
 use denote.Struct.Values.{Values}
 use denote.Triple.Statement.{Contract, Triple}
 use denote.Triple.Call.{calls-at}
@@ -43,7 +42,6 @@ use denote.Exit.{yes}
 use denote.Triple.Clauses.{ensured, lasts}
 use Rattle.sdp_read.specs.From.{openingOf}
 use Rattle.sdp_cutter.specs.declared.Line.{Line}
-use Rattle.sdp_lines.specs.declared.LineNumber.{LineNumber}
 use Rattle.sdp_read.specs.declared.Opening.{Opening}
 use Rattle.sdp_lines.specs.declared.Place.{Place}
 use Rattle.sdp_cutter.proofs.Line as T
@@ -79,7 +77,7 @@ module _ {M : Type 1} (𝓤 : URA M) (H : Heap 𝓤) (A : Atoms 𝓤) (W : Given
   abbrev mach : Val
   mach = T′.lowered d
 
-  -- the machine value of src
+  -- the machine value of its value
   abbrev v : Val
   v = sliceVal (d .value .ptr) (length (d .value .now))
 
