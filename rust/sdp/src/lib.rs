@@ -54,9 +54,6 @@
 //! ```
 #![deny(unsafe_code, missing_docs)]
 
-#[cfg(not(all(target_arch = "x86_64", target_os = "linux")))]
-compile_error!("the archive libsdp.a is for x86-64 Linux");
-
 mod area;
 mod error;
 pub mod ffi;
