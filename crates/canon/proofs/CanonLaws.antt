@@ -16,7 +16,7 @@ use Rattle.sdp_valid.specs.Judge.{wellFormed}
 use Rattle.sdp_read.specs.Run.{readText}
 use Rattle.sdp_write.specs.Write as write
 use Rattle.sdp_write.specs.Write.{Outcome, answer, textOf, writeText}
-use Rattle.sdp_write.proofs.ShortLaws.{digits-20}
+use Rattle.sdp_room.proofs.LengthLaws.{digits-20}
 use Rattle.canon.specs.Canon.{refusedLine, shown, printed, Holds}
 
 -- ---- the line of a refusal

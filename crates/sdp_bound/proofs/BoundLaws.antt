@@ -28,8 +28,10 @@ use Rattle.sdp_same.proofs.WrittenLaws.{written-said}
 use Rattle.sdp_same.proofs.LinesLaws.{accepted-said}
 use Rattle.sdp_same.proofs.SameLaws.{read-then-write}
 use Rattle.sdp_bound.specs.Kept.{roleOf, uses, opens, usedFrom, fromVersion, keptLines, kept, id}
-use Rattle.sdp_bound.proofs.RowLaws.{sum}
-use Rattle.sdp_bound.proofs.CostLaws.{cost, timesCost, written-cost}
+use Rattle.sdp_room.proofs.SumLaws
+use Rattle.sdp_room.proofs.SumLaws.{sum}
+use Rattle.sdp_room.proofs.CostLaws
+use Rattle.sdp_room.proofs.CostLaws.{cost, timesCost, written-cost}
 use Rattle.sdp_bound.proofs.StepLaws.{Going, on, off, Grown, step-grown}
 
 -- ---- the lines of a text
@@ -47,7 +49,7 @@ abbrev pub bodies : List Raw → ℕ
 bodies rs = sum (λ r. length (r .body) + 1) rs
 
 pub bodies-short : (t : List ℕ) → bodies (split t) ≤ length t + 1
-unfolding Lines.split sum
+unfolding Lines.split SumLaws.sum
 bodies-short [] = omega arith
 bodies-short (b ∷ t) = go (eqb b 10) (split t) (bodies-short t)
   where
@@ -70,18 +72,18 @@ module _ (ρ : Reading (List ℕ)) (p : ℕ) (r : Raw) where
       record { bytes = omega (arith, g .bytes, content-short r, good-form (content r) l e, length-drop 2 (content r)); medias = g .medias }
 
 run-cost : (rs : List Raw) (s : Session (List ℕ)) (ρ : Reading (List ℕ)) (n p : ℕ) → run bytesAt ρ n p rs ≡ accepted s
-    → cost s ≤ cost (ρ .session) + (bodies rs + usedFrom (length (ρ .session .tables .medias)) rs)
-unfolding Run.run sum usedFrom
-run-cost [] s ρ n p e = let z : ρ .session ≡ s = cc in omega (arith, ap cost z)
+    → cost id s ≤ cost id (ρ .session) + (bodies rs + usedFrom (length (ρ .session .tables .medias)) rs)
+unfolding Run.run SumLaws.sum usedFrom
+run-cost [] s ρ n p e = let z : ρ .session ≡ s = cc in omega (arith, ap (cost id) z)
 run-cost (r ∷ rs) s ρ n p e = go (stepForm bytesAt ρ p (content r) (formOf (content r))) (line-grown ρ p r (formOf (content r)) refl) (λ τ. run-cost rs s τ (n + 1) (p + width r)) e
   where
     x : Role
     x = roleOf (length (ρ .session .tables .medias)) (formOf (content r))
 
     go : (σ : Stepped (List ℕ)) → Going (Grown (length (r .body) + 1 + uses x) (opens x) ρ) σ
-        → ((τ : Reading (List ℕ)) → run bytesAt τ (n + 1) (p + width r) rs ≡ accepted s → cost s ≤ cost (τ .session) + (bodies rs + usedFrom (length (τ .session .tables .medias)) rs))
+        → ((τ : Reading (List ℕ)) → run bytesAt τ (n + 1) (p + width r) rs ≡ accepted s → cost id s ≤ cost id (τ .session) + (bodies rs + usedFrom (length (τ .session .tables .medias)) rs))
         → after bytesAt σ n (λ τ. run bytesAt τ (n + 1) (p + width r) rs) ≡ accepted s
-        → cost s ≤ cost (ρ .session) + (length (r .body) + 1 + bodies rs + (uses x + usedFrom (length (ρ .session .tables .medias) + opens x) rs))
+        → cost id s ≤ cost id (ρ .session) + (length (r .body) + 1 + bodies rs + (uses x + usedFrom (length (ρ .session .tables .medias) + opens x) rs))
     go (stops number field) h ih e = absurd (let z : _≡_ {A = ℕ} 0 1 = cc in omega arith)
     go (goes τ) h ih e =
         let g = h τ refl in
@@ -89,12 +91,12 @@ run-cost (r ∷ rs) s ρ n p e = go (stepForm bytesAt ρ p (content r) (formOf (
 
 -- ---- the version line, and the whole
 -- `v=0` alone is written with 40 bytes
-empty-cost : cost empty ≡ 40
-unfolding cost timesCost sum Written.originLine Written.line Written.zonesLine
+empty-cost : cost id empty ≡ 40
+unfolding CostLaws.cost CostLaws.timesCost SumLaws.sum Written.originLine Written.line Written.zonesLine
 empty-cost = refl
 
-begin-cost : (rs : List Raw) (s : Session (List ℕ)) (n p : ℕ) → begin bytesAt n p rs ≡ accepted s → cost s ≤ bodies rs + keptLines rs + 35
-unfolding Run.begin sum keptLines
+begin-cost : (rs : List Raw) (s : Session (List ℕ)) (n p : ℕ) → begin bytesAt n p rs ≡ accepted s → cost id s ≤ bodies rs + keptLines rs + 35
+unfolding Run.begin SumLaws.sum keptLines
 begin-cost [] s n p e = absurd (let z : _≡_ {A = ℕ} 0 1 = cc in omega arith)
 begin-cost (r ∷ rs) s n p e = form (formOf (content r)) (begin-cost rs s (n + 1) (p + width r)) e
   where
@@ -103,16 +105,16 @@ begin-cost (r ∷ rs) s n p e = form (formOf (content r)) (begin-cost rs s (n + 
 
     zero : (a b : Bool) → isZero (drop 2 (content r)) ≡ b
         → cond a (cond b later (refused (record { number = 7; line = n; field = 0; place = p + 2; len = length (drop 2 (content r)) }))) (refused (record { number = 6; line = 0; field = 0; place = 0; len = 0 })) ≡ accepted s
-        → cost s ≤ length (r .body) + 1 + bodies rs + (1 + usedFrom 0 rs) + 35
+        → cost id s ≤ length (r .body) + 1 + bodies rs + (1 + usedFrom 0 rs) + 35
     zero true true q e =
         let l = eqb-true (length (drop 2 (content r))) 1 (and-left _ _ q) in
         omega (arith, run-cost rs s fresh (n + 1) (p + width r) e, empty-cost, content-short r, length-drop 2 (content r))
     zero true false q e = absurd (let z : _≡_ {A = ℕ} 0 1 = cc in omega arith)
     zero false b q e = absurd (let z : _≡_ {A = ℕ} 0 1 = cc in omega arith)
 
-    form : (f : Form) → (begin bytesAt (n + 1) (p + width r) rs ≡ accepted s → cost s ≤ bodies rs + keptLines rs + 35)
+    form : (f : Form) → (begin bytesAt (n + 1) (p + width r) rs ≡ accepted s → cost id s ≤ bodies rs + keptLines rs + 35)
         → beginForm bytesAt n p (content r) f (begin bytesAt (n + 1) (p + width r) rs) later ≡ accepted s
-        → cost s ≤ length (r .body) + 1 + bodies rs + fromVersion f (keptLines rs) (1 + usedFrom 0 rs) + 35
+        → cost id s ≤ length (r .body) + 1 + bodies rs + fromVersion f (keptLines rs) (1 + usedFrom 0 rs) + 35
     form Blank ih e = omega (arith, ih e)
     form (Bad f) ih e = absurd (let z : _≡_ {A = ℕ} 0 1 = cc in omega arith)
     form (Good c) ih e = zero (eqb c 0x76) (isZero (drop 2 (content r))) refl e

@@ -29,7 +29,8 @@ use Rattle.sdp_fields.proofs.WordLaws.{word-next}
 use Rattle.sdp_judge.proofs.ReadLaws.{Every, never}
 use Rattle.sdp_put.specs.Digits.{digits, timeText}
 use Rattle.sdp_bound.proofs.NumberLaws.{number-short, time-short}
-use Rattle.sdp_bound.proofs.RowLaws.{sum}
+use Rattle.sdp_room.proofs.SumLaws
+use Rattle.sdp_room.proofs.SumLaws.{sum}
 
 pub part-len : (v : List ℕ) (p : Piece) → length (part v p) ≤ p .len
 part-len v p = omega (arith, length-take (p .len) (drop (p .at) v))
@@ -41,7 +42,7 @@ weight ws = sum (λ w. length w + 1) ws
 
 -- the words of a list, and what is left after the rest of a word that was read already
 weights : (s : List ℕ) → (weight (wordsFrom 0 s) ≤ length s + 1) × (weight (wordsFrom (indexOf 0x20 s) s) + indexOf 0x20 s ≤ length s)
-unfolding sum Split.wordsFrom Runs.indexOf
+unfolding SumLaws.sum Split.wordsFrom Runs.indexOf
 weights [] = (omega arith, omega arith)
 weights (b ∷ s) = go (eqb b 0x20) refl (weights s .0) (weights s .1)
   where
@@ -76,7 +77,7 @@ module _ (v : List ℕ) where
 
   -- one word
   pub left-word : (i : ℕ) (p : Piece) (e : ℕ) → wordAt v i ≡ field.Got p e → (left i ≡ length (part v p) + 1 + left e) × (0 < length (part v p))
-  unfolding sum Split.words
+  unfolding SumLaws.sum Split.words
   left-word i p e h = let w = word-next v i p e h .0 in (ap weight w, word-some (drop i v) 0 (part v p) (words (drop e v)) w)
 
   -- ---- pieces

@@ -21,7 +21,7 @@ use Rattle.sdp_judge.specs.Read.{got, refused}
 use Rattle.sdp_put.specs.Digits.{digits, timeText}
 use Rattle.sdp_put.proofs.DigitLaws.{digits-one, digits-more, time-zero, time-day, time-hour, time-minute, time-plain, offset-minus, offset-plain}
 use Rattle.sdp_row.specs.Written.{signedText}
-use Rattle.sdp_write.proofs.ShortLaws.{length-digits}
+use Rattle.sdp_room.proofs.LengthLaws.{length-digits}
 
 -- ---- digits
 -- the digits of a number of two or more

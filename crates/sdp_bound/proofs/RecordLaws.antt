@@ -39,10 +39,11 @@ use Rattle.sdp_put.specs.Digits.{digits, timeText}
 use Rattle.sdp_put.specs.Strings.{clean}
 use Rattle.sdp_row.specs.Written
 use Rattle.sdp_row.specs.Written.{line, each, optional, stringLine, usernameText, originLine, connectionLine, bandwidthLine, pairLine, mediaLine, timeValue, signedText, zoneText, zonesLine}
-use Rattle.sdp_write.proofs.ShortLaws.{length-clean, length-line}
+use Rattle.sdp_room.proofs.LengthLaws.{length-clean, length-line}
 use Rattle.sdp_bound.specs.Kept.{id}
 use Rattle.sdp_bound.proofs.NumberLaws.{number-short, time-short, offset-short}
-use Rattle.sdp_bound.proofs.RowLaws.{sum}
+use Rattle.sdp_room.proofs.SumLaws
+use Rattle.sdp_room.proofs.SumLaws.{sum}
 use Rattle.sdp_bound.proofs.FieldLaws.{part-len, weight, left, left-whole, left-word, first-piece, next-piece, rest-piece, past-text, past-token, past-number, past-time, past-choice, past-end}
 
 -- ---- one string
@@ -223,7 +224,7 @@ unfoldable pub offsetsSize : List ℕ → ℕ
 offsetsSize ns = sum (λ n. length (timeText n) + 1) ns
 
 offsets-short : (ws : List (List ℕ)) (ns : List ℕ) → offsetsOf ws ≡ got ns → offsetsSize ns ≤ weight ws
-unfolding Lists.offsetsOf sum offsetsSize
+unfolding Lists.offsetsOf SumLaws.sum offsetsSize
 offsets-short [] = every-got _ _ (omega arith)
 offsets-short (w ∷ ws) =
     past-numbered _ 20 _ (typedTime w) (λ n q.
@@ -254,7 +255,7 @@ unfoldable pub zoneSize : Zone → ℕ
 zoneSize z = length (digits (z .«adjustment_time»)) + 1 + length (signedText (z .offset)) + 1
 
 pairs-short : (ws : List (List ℕ)) (zs : List Zone) → pairsOf ws ≡ got zs → sum zoneSize zs ≤ weight ws
-unfolding Lists.pairsOf sum zoneSize
+unfolding Lists.pairsOf SumLaws.sum zoneSize
 pairs-short [] = every-got _ _ (omega arith)
 pairs-short (a ∷ []) = past-numbered _ 21 _ (wholeNumber 64 a) (λ n q. never _ _)
 pairs-short (a ∷ o ∷ ws) =
@@ -265,12 +266,12 @@ pairs-short (a ∷ o ∷ ws) =
 
 -- the pairs after the first
 later-short : (zs : List Zone) (k : ℕ) → 1 < k → length (each zoneText k (map zoneIn zs)) ≤ sum zoneSize zs
-unfolding sum zoneSize Written.each Written.zoneText
+unfolding SumLaws.sum zoneSize Written.each Written.zoneText
 later-short [] k h = omega arith
 later-short (z ∷ zs) k h = rw (ne-eqb k 1 (λ e. omega arith)) (simp length-append (omega (arith, later-short zs (k + 1) (omega arith))))
 
 pub zones-short : (v : List ℕ) (zs : List Zone) → zonesOf v ≡ got zs → length (zonesLine (map zoneIn zs)) ≤ length v + 4
-unfolding Lists.zonesOf sum zoneSize Written.zonesLine Written.each Written.zoneText Written.line
+unfolding Lists.zonesOf SumLaws.sum zoneSize Written.zonesLine Written.each Written.zoneText Written.line
 zones-short v zs e = go zs (pairs-short (words v) zs e)
   where
     go : (zs : List Zone) → sum zoneSize zs ≤ weight (words v) → length (zonesLine (map zoneIn zs)) ≤ length v + 4

@@ -14,7 +14,8 @@ use Rattle.sdp_roles.specs.declared.Role.the-variants as role
 use Rattle.sdp_read.specs.Run.{readText}
 use Rattle.sdp_write.specs.Write.{textOf}
 use Rattle.sdp_bound.specs.Kept.{roleOf, uses, opens, usedFrom, fromVersion, keptLines, kept}
-use Rattle.sdp_bound.proofs.RowLaws.{sum}
+use Rattle.sdp_room.proofs.SumLaws
+use Rattle.sdp_room.proofs.SumLaws.{sum}
 use Rattle.sdp_bound.proofs.BoundLaws.{content-short, bodies, bodies-short, write-bound}
 
 uses-once : (x : Role) → uses x ≤ 1
@@ -47,14 +48,14 @@ line-three r medias = go (formOf (content r)) refl
     go (Good l) e = omega (arith, uses-once (roleAt medias l), good-form (content r) l e, content-short r)
 
 used-few : (rs : List Raw) (medias : ℕ) → usedFrom medias rs * 3 ≤ bodies rs
-unfolding usedFrom sum
+unfolding usedFrom SumLaws.sum
 used-few [] medias = omega arith
 used-few (r ∷ rs) medias =
     omega (arith, line-three r medias, used-few rs (medias + opens (roleOf medias (formOf (content r)))))
 
 -- the version line takes one byte at least, whatever its form is
 kept-few : (rs : List Raw) → keptLines rs * 3 ≤ bodies rs + 2
-unfolding keptLines sum
+unfolding keptLines SumLaws.sum
 kept-few [] = omega arith
 kept-few (r ∷ rs) = go (formOf (content r)) (kept-few rs)
   where

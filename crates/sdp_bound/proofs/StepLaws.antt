@@ -21,9 +21,12 @@ use Rattle.sdp_step.proofs.OnceLaws.{length-last}
 use Rattle.sdp_row.specs.Written
 use Rattle.sdp_row.specs.Written.{stringLine, keyLine, mediaLine}
 use Rattle.sdp_bound.specs.Kept.{id, uses, opens}
-use Rattle.sdp_bound.proofs.RowLaws.{sum, sum-append, sum-more, sum-map, sum-last}
+use Rattle.sdp_room.proofs.SumLaws
+use Rattle.sdp_room.proofs.SumLaws.{sum}
+use Rattle.sdp_bound.proofs.RowLaws.{sum-append, sum-more, sum-map, sum-last}
 use Rattle.sdp_bound.proofs.RecordLaws.{whole-short, connection-short, origin-short, times-short, bandwidth-short, pair-short, media-short, offsetsSize, repeatSize, repeat-short, zones-short}
-use Rattle.sdp_bound.proofs.CostLaws.{cost, timeCost, timesCost, repeatCost, offsetCost, connectionCost, bandwidthCost, attributeCost, mediaCost}
+use Rattle.sdp_room.proofs.CostLaws
+use Rattle.sdp_room.proofs.CostLaws.{cost, timeCost, timesCost, repeatCost, offsetCost, connectionCost, bandwidthCost, attributeCost, mediaCost}
 
 -- ---- what holds of every session that goes on
 abbrev pub Going : (Reading (List ℕ) → Type 0) → Stepped (List ℕ) → Type 0
@@ -54,28 +57,28 @@ module _ (P : Reading (List ℕ) → Type 0) where
 -- ---- one line
 -- at most n bytes more, and m medias more
 pub record Grown (n m : ℕ) (ρ τ : Reading (List ℕ)) : Type 0 where
-  pub bytes : cost (τ .session) ≤ cost (ρ .session) + n
+  pub bytes : cost id (τ .session) ≤ cost id (ρ .session) + n
   pub medias : length (τ .session .tables .medias) ≡ length (ρ .session .tables .medias) + m
 
 -- one time more
 times-more : (ts : List Time) (t : Time) → timesCost (ts ++ (t ∷ [])) ≤ timesCost ts + timeCost t
-unfolding timesCost sum
+unfolding CostLaws.timesCost SumLaws.sum
 times-more [] t = omega arith
 times-more (x ∷ ts) t = let e = sum-more timeCost ts t in omega arith
 
 -- a title or a key
-titled-more : (x : List ℕ) (m : Media (List ℕ)) → mediaCost (titled x m) ≤ mediaCost m + length (stringLine id 0x69 x)
+titled-more : (x : List ℕ) (m : Media (List ℕ)) → mediaCost id (titled x m) ≤ mediaCost id m + length (stringLine id 0x69 x)
 unfolding Written.mediaLine
 titled-more x m = let e : length (mediaLine id (titled x m)) ≡ length (mediaLine id m) = refl in omega arith
 
-keyed-more : (x : Key (List ℕ)) (m : Media (List ℕ)) → mediaCost (keyed x m) ≤ mediaCost m + length (keyLine id x)
+keyed-more : (x : Key (List ℕ)) (m : Media (List ℕ)) → mediaCost id (keyed x m) ≤ mediaCost id m + length (keyLine id x)
 unfolding Written.mediaLine
 keyed-more x m = let e : length (mediaLine id (keyed x m)) ≡ length (mediaLine id m) = refl in omega arith
 
 module _ (ρ : Reading (List ℕ)) (v : List ℕ) where
   -- an r line, with its offsets
   repeat-grown : Going (Grown (length v + 4) 0 ρ) (repeated (part v) ρ v (repeatOf v))
-  unfolding cost repeatSize offsetsSize
+  unfolding CostLaws.cost repeatSize offsetsSize
   repeat-grown = go (repeatOf v) (repeat-short v)
     where
       offset : ℕ → Offset
@@ -100,7 +103,7 @@ module _ (ρ : Reading (List ℕ)) (v : List ℕ) where
 
   -- 4 bytes besides the value where the line has a use; 3 are enough for any other
   pub step-grown : (x : Role) → Going (Grown (length v + (3 + uses x)) (opens x) ρ) (stepRole (part v) ρ v x)
-  unfolding Step.stepRole cost
+  unfolding Step.stepRole CostLaws.cost
   step-grown role.Origin = past-once _ 12 (given (ρ .session .head .origin)) (originOf v) _ (λ o q. on _ _ (record { bytes = omega (arith, origin-short v o q); medias = omega arith }))
   step-grown role.Name = past-once _ 13 (given (ρ .session .head .name)) (wholeOf 34 v) _ (λ p q. on _ _ (record { bytes = omega (arith, whole-short 0x73 34 v p q); medias = omega arith }))
   step-grown role.Description = past-once _ 14 (given (ρ .session .head .description)) (wholeOf 35 v) _ (λ p q. on _ _ (record { bytes = omega (arith, whole-short 0x69 35 v p q); medias = omega arith }))
@@ -111,12 +114,12 @@ module _ (ρ : Reading (List ℕ)) (v : List ℕ) where
   step-grown role.Key = past-once _ 19 (given (ρ .session .head .key)) (pairOf 25 26 v) _ (λ p q. on _ _ (record { bytes = omega (arith, pair-short v 0x6b 25 26 p q); medias = omega arith }))
   step-grown role.MediaTitle =
       past-once _ 18 (lastTitled (ρ .session .tables .medias)) (wholeOf 33 v) _ (λ p q. on _ _ (record {
-        bytes = omega (arith, sum-last mediaCost (titled (part v p)) (length v + 4) (λ m. omega (arith, titled-more (part v p) m, whole-short 0x69 33 v p q)) (ρ .session .tables .medias));
+        bytes = omega (arith, sum-last (mediaCost id) (titled (part v p)) (length v + 4) (λ m. omega (arith, titled-more (part v p) m, whole-short 0x69 33 v p q)) (ρ .session .tables .medias));
         medias = omega (arith, length-last (titled (part v p)) (ρ .session .tables .medias));
       }))
   step-grown role.MediaKey =
       past-once _ 19 (lastKeyed (ρ .session .tables .medias)) (pairOf 25 26 v) _ (λ p q. on _ _ (record {
-        bytes = omega (arith, sum-last mediaCost (keyed (keyIn (part v) p)) (length v + 4) (λ m. omega (arith, keyed-more (keyIn (part v) p) m, pair-short v 0x6b 25 26 p q)) (ρ .session .tables .medias));
+        bytes = omega (arith, sum-last (mediaCost id) (keyed (keyIn (part v) p)) (length v + 4) (λ m. omega (arith, keyed-more (keyIn (part v) p) m, pair-short v 0x6b 25 26 p q)) (ρ .session .tables .medias));
         medias = omega (arith, length-last (keyed (keyIn (part v) p)) (ρ .session .tables .medias));
       }))
   step-grown role.Email =
@@ -124,19 +127,19 @@ module _ (ρ : Reading (List ℕ)) (v : List ℕ) where
   step-grown role.Phone =
       past-row _ 2 16 _ (wholeOf 38 v) _ (λ p q. record { bytes = omega (arith, sum-more (λ x. length (stringLine id 0x70 x)) (ρ .session .tables .phones) (part v p), whole-short 0x70 38 v p q); medias = omega arith })
   step-grown role.MediaConnection =
-      past-row _ 3 64 _ (connectionOf v) _ (λ c q. record { bytes = omega (arith, sum-more connectionCost (ρ .session .tables .connections) (mediaConnectionIn (part v) (length (ρ .session .tables .medias)) c), connection-short v c q); medias = omega arith })
+      past-row _ 3 64 _ (connectionOf v) _ (λ c q. record { bytes = omega (arith, sum-more (connectionCost id) (ρ .session .tables .connections) (mediaConnectionIn (part v) (length (ρ .session .tables .medias)) c), connection-short v c q); medias = omega arith })
   step-grown role.Bandwidth =
       past-row _ 4 64 _ (bandwidthOf v) _ (λ b q.
       let n = length (ρ .session .tables .medias) in
-      record { bytes = omega (arith, sum-more bandwidthCost (ρ .session .tables .bandwidths) (bandwidthIn (part v) n b), bandwidth-short v n b q); medias = omega arith })
+      record { bytes = omega (arith, sum-more (bandwidthCost id) (ρ .session .tables .bandwidths) (bandwidthIn (part v) n b), bandwidth-short v n b q); medias = omega arith })
   step-grown role.Time =
       past-row _ 5 32 _ (timesOf v) _ (λ t q. record { bytes = omega (arith, times-more (ρ .session .tables .times) (timeIn t), times-short v t q); medias = omega arith })
   step-grown role.Repeat = past-cond _ (eqb (length (ρ .session .tables .times)) 0) _ _ (off _ _ _) repeat-grown
   step-grown role.Attribute =
-      past-row _ 9 512 _ (pairOf 23 24 v) _ (λ p q. record { bytes = omega (arith, sum-more attributeCost (ρ .session .tables .attributes) (attributeIn (part v) (length (ρ .session .tables .medias)) p), pair-short v 0x61 23 24 p q); medias = omega arith })
+      past-row _ 9 512 _ (pairOf 23 24 v) _ (λ p q. record { bytes = omega (arith, sum-more (attributeCost id) (ρ .session .tables .attributes) (attributeIn (part v) (length (ρ .session .tables .medias)) p), pair-short v 0x61 23 24 p q); medias = omega arith })
   step-grown role.Media =
       past-row _ 10 32 _ (mediaOf v) _ (λ m q. record {
-        bytes = omega (arith, sum-more mediaCost (ρ .session .tables .medias) (mediaIn (part v) m), media-short v m q);
+        bytes = omega (arith, sum-more (mediaCost id) (ρ .session .tables .medias) (mediaIn (part v) m), media-short v m q);
         medias = length-append (ρ .session .tables .medias) (mediaIn (part v) m ∷ []);
       })
   step-grown role.Nothing = on _ ρ (record { bytes = omega arith; medias = omega arith })

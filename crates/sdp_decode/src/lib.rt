@@ -1,17 +1,8 @@
 // Numbers of the record area, whatever its bytes are: past its end every byte is 0.
 ghost use mathlib.Core.Path.{_≡_};
 ghost use Prim.Native.Nat.{_<_};
-ghost use lib.ListN.{getD};
 ghost use Rattle.sdp_cells.specs.Bytes.{num};
-
-fn byte_at(a: &[u8], at: usize) -> usize
-    ensures { λ r. ⌜ (r ≡ getD (now (a .entry)) at 0) × (r < 256) ⌝ }
-{
-    if a.len() <= at {
-        return 0;
-    }
-    a[at] as usize
-}
+use sdp_cells::get2;
 
 // A number of two bytes.
 pub fn num2(a: &[u8], at: usize) -> usize
@@ -20,11 +11,14 @@ pub fn num2(a: &[u8], at: usize) -> usize
     if a.len() <= at {
         return 0;
     }
-    byte_at(a, at) + 256 * byte_at(a, at + 1)
+    if a.len() - at < 2 {
+        return a[at] as usize;
+    }
+    get2(a, at)
 }
 
-// A number of eight bytes.
-pub fn num8(a: &[u8], at: usize) -> u64
+// A number of eight bytes, two by two: some of them may be past the end.
+fn num8_by_two(a: &[u8], at: usize) -> u64
     ensures { λ r. ⌜ r ≡ num 8 (now (a .entry)) at ⌝ }
 {
     if a.len() <= at {
@@ -34,5 +28,22 @@ pub fn num8(a: &[u8], at: usize) -> u64
     let q = num2(a, at + 2) as u64;
     let r = num2(a, at + 4) as u64;
     let s = num2(a, at + 6) as u64;
+    p + 65536 * (q + 65536 * (r + 65536 * s))
+}
+
+// A number of eight bytes.
+pub fn num8(a: &[u8], at: usize) -> u64
+    ensures { λ r. ⌜ r ≡ num 8 (now (a .entry)) at ⌝ }
+{
+    if a.len() <= at {
+        return 0;
+    }
+    if a.len() - at < 8 {
+        return num8_by_two(a, at);
+    }
+    let p = get2(a, at) as u64;
+    let q = get2(a, at + 2) as u64;
+    let r = get2(a, at + 4) as u64;
+    let s = get2(a, at + 6) as u64;
     p + 65536 * (q + 65536 * (r + 65536 * s))
 }

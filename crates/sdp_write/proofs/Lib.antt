@@ -1,3 +1,2 @@
 pub mod RowLaws
-pub mod ShortLaws
 pub mod WriteLaws

@@ -42,6 +42,14 @@ module _ (t a o : List ℕ) where
         unfolding writeText
         all-written h = rw (le-ltb (length a) size p, le-ltb 32768 (length t) q, f, ← e, le-ltb (length o) n h)
 
+-- ---- one pass, where there is room
+pub fits : (o o₁ w : List ℕ) (end room : ℕ) → length w ≤ room → room ≤ length o → length o < 2 ^ 63 → Put o 0 w o₁ end
+    → (end ≡ length w) × (end ≤ length o) × (o₁ ≡ w ++ drop end o)
+fits o o₁ w end room short enough far one =
+    let f = one .puts (omega arith) (omega arith) in
+    let e : end ≡ length w = omega (arith, f .1) in
+    (e, omega arith, f .0 ∙ put-room w o (omega arith) ∙ ap (λ (k : ℕ). w ++ drop k o) (sym e))
+
 -- ---- the two passes
 module _ (o o₁ w : List ℕ) (end : ℕ) (short : length w < 2 ^ 62) (fits : length o < 2 ^ 63) (count : Put o (length o) w o₁ end) where
   pub counted : (o₁ ≡ o) × (end ≡ length o + length w)

@@ -33,6 +33,7 @@ use sdp_lines::Answer;
 use sdp_put::put_all;
 use sdp_put::put_time;
 use sdp_put::put_two;
+use sdp_room::room_for;
 use sdp_row::Owned;
 use sdp_row::Table;
 use sdp_row::put_key;
@@ -297,7 +298,7 @@ fn told(number: u64, len: usize) -> Answer
     }
 }
 
-// Writes the session of the area into out. The first pass, past out's end, only counts.
+// Writes the session of the area into out. Where out may be too short for it, a first pass, past out's end, only counts.
 pub fn write(text: &[u8], area: &[u8], out: &mut [u8]) -> Answer
     ensures { λ r. ⌜ r ≡ writeText (now (text .entry)) (now (area .entry)) (now (out .entry)) .answer ⌝ }
     ensures { λ r. ⌜ now (out .exit) ≡ writeText (now (text .entry)) (now (area .entry)) (now (out .entry)) .out ⌝ }
@@ -312,6 +313,10 @@ pub fn write(text: &[u8], area: &[u8], out: &mut [u8]) -> Answer
         return told(23, 0);
     }
     let full = out.len();
+    if room_for(area) <= full {
+        let len = put_session(out, 0, text, area);
+        return told(0, len);
+    }
     let end = put_session(out, full, text, area);
     let n = end - full;
     if full < n {

@@ -10,8 +10,8 @@ use Rattle.sdp_decode.proofs.num8.Tie as tie
 returns : tie.Need-returns
 returns c = sym (num-past 8 _ _ (c .if1 .taken))
 
-returns-2 : tie.Need-returns-2
-returns-2 c = let b = c .before .before .before .before .before .before in
+returns-3 : tie.Need-returns-3
+returns-3 c = let b = c .before .before .before .before .before .before .before in
     omega (arith, num-eight (now (b .args .a)) (b .args .at))
 
 pub num8-spec : {M : Type 1} → statement M
@@ -19,7 +19,6 @@ num8-spec =
     tie.close
     (tie.spec
     returns
-    (λ c κs. search needs)
     (λ c. search needs)
     (λ c κs. search needs)
     (λ c. search needs)
@@ -27,9 +26,13 @@ num8-spec =
     (λ c. search needs)
     (λ c κs. search needs)
     (λ c. search needs)
+    (λ c κs. search needs)
+    (λ c. search needs)
+    (λ c κs. search needs)
     (λ c. search needs)
     (λ c. search needs)
     (λ c. search needs)
     (λ c. search needs)
     (λ c. search needs)
-    returns-2)
+    (λ c. search needs)
+    returns-3)
