@@ -122,7 +122,7 @@ begin-cost (r ∷ rs) s n p e = form (formOf (content r)) (begin-cost rs s (n + 
 -- "An accepted text's written form is at most its length plus its kept lines (v= and all with a use) plus 36 bytes."
 pub written-bound : (t : List ℕ) (s : Session (List ℕ)) → lines bytesAt t ≡ accepted s → length (written id s) ≤ length t + kept t + 36
 unfolding Run.lines kept
-written-bound t s e = omega (arith, written-cost s, begin-cost (split t) s 1 0 e, bodies-short t)
+written-bound t s e = omega (arith, written-cost id s, begin-cost (split t) s 1 0 e, bodies-short t)
 
 -- ---- over the promises of read and write: what is written of an area that read has just left
 pub write-bound : (t a : List ℕ) → readText t a .answer .number ≡ 0 → length (textOf t (readText t a .area)) ≤ length t + kept t + 36

@@ -91,6 +91,7 @@ use Rattle.sdp_put.proofs.put_all.Reads as sdpPutPutAll
 use Rattle.sdp_decode.proofs.num2.Reads as sdpDecodeNum2
 use Rattle.sdp_decode.proofs.num8.Reads as sdpDecodeNum8
 use Rattle.sdp_valid.proofs.judge.Reads as sdpValidJudge
+use Rattle.sdp_room.proofs.room_for.Reads as sdpRoomRoomFor
 use Rattle.sdp_row.proofs.put_string_line.Reads as sdpRowPutStringLine
 use Rattle.sdp_row.proofs.put_maybe_line.Reads as sdpRowPutMaybeLine
 use Rattle.sdp_row.proofs.put_spaced_time.Reads as sdpRowPutSpacedTime
@@ -394,6 +395,10 @@ sdp-decode-num8 κs a z z′ e e′ p q = same p q
 -- ---- sdp_valid
 pub sdp-valid-judge : OneAnswer sdpValidJudge.Learnt
 sdp-valid-judge κs a z z′ e e′ p q = same p q
+
+-- ---- sdp_room
+pub sdp-room-room-for : OneAnswer sdpRoomRoomFor.Learnt
+sdp-room-room-for κs a z z′ e e′ p q = same (p .0) (q .0)
 
 -- ---- sdp_row
 pub sdp-row-put-string-line : OnePut (λ κs a. now (a .0)) (λ κs a. a .1 .0) (λ κs e. now (e .0)) sdpRowPutStringLine.Learnt

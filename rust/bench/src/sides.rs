@@ -3,8 +3,8 @@ use compare::Answer;
 use sdp_types::Session;
 use std::hint::black_box;
 
-/// Room for the written form of any text: it has at most 33,676 bytes (docs/FFI.md).
-const ROOM: usize = 33_676;
+/// Room for the written form of any text that was read (docs/FFI.md).
+const ROOM: usize = 43_727;
 
 #[derive(Clone, Copy, PartialEq, Eq, Debug)]
 pub enum Work {
