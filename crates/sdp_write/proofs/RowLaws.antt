@@ -18,12 +18,12 @@ module _ (f : ℕ → ℕ → List ℕ) (w : ℕ) where
   rows-all n m p e = ap₂ (λ (i k : ℕ). eachAt f w i k p) (let z : m ≡ n - 0 = omega arith in z) (let z : 1 ≡ 0 + 1 = omega arith in z)
 
   -- the next one is put, and the others are left
-  rows-more : (n i p : ℕ) → i < n → Cut (eachAt f w (n - i) (i + 1) p) (f (i + 1) p) (eachAt f w (n - (i + 1)) (i + 1 + 1) (p + w))
+  pub rows-more : (n i p : ℕ) → i < n → Cut (eachAt f w (n - i) (i + 1) p) (f (i + 1) p) (eachAt f w (n - (i + 1)) (i + 1 + 1) (p + w))
   unfolding eachAt
   rows-more n i p h = record { is = ap (λ (k : ℕ). eachAt f w k (i + 1) p) (let z : n - i ≡ suc (n - (i + 1)) = omega arith in z) }
 
   -- none is left
-  rows-none : (n i p : ℕ) → n ≤ i → eachAt f w (n - i) (i + 1) p ≡ []
+  pub rows-none : (n i p : ℕ) → n ≤ i → eachAt f w (n - i) (i + 1) p ≡ []
   unfolding eachAt
   rows-none n i p h = ap (λ (k : ℕ). eachAt f w k (i + 1) p) (let z : n - i ≡ 0 = omega arith in z)
 

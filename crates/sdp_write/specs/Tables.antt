@@ -1,6 +1,7 @@
 -- What the table loops put: the rows of a table by their places in the area.
-use Prim.Native.Nat.{ℕ, zero, suc, _+_}
+use Prim.Native.Nat.{ℕ, zero, suc, _+_, _*_, _≤_, _<_}
 use mathlib.Core.List.{List, [], _++_}
+use Rattle.sdp_cells.specs.Bytes.{num}
 use Rattle.sdp_area.specs.Area.{offsetsAt}
 use Rattle.sdp_area.specs.Session.{Offset}
 use Rattle.sdp_decode.specs.Rows.{table}
@@ -14,3 +15,14 @@ eachAt f w (suc n) k p = f k p ++ eachAt f w n (k + 1) (p + w)
 -- the offsets that the area holds
 abbrev pub offsetsIn : List ℕ → List Offset
 offsetsIn a = table offsetOf 10 a offsetsAt
+
+-- "owners never fall": those of the table at base, whose rows have w bytes
+pub record NeverFall (a : List ℕ) (base w : ℕ) : Type 0 where
+  pub rise : (i j : ℕ) → i ≤ j → j < num 2 a base → num 2 a (base + 2 + i * w) ≤ num 2 a (base + 2 + j * w)
+
+-- of the rows lo to hi, those before r have an owner below n, and the others have none
+pub record Parted (a : List ℕ) (base w n lo hi r : ℕ) : Type 0 where
+  pub low : lo ≤ r
+  pub high : r ≤ hi
+  pub earlier : (j : ℕ) → lo ≤ j → j < r → num 2 a (base + 2 + j * w) < n
+  pub later : (j : ℕ) → r ≤ j → j < hi → n ≤ num 2 a (base + 2 + j * w)

@@ -1,5 +1,5 @@
 -- `sdp_write::put_repeats` meets its contract. Assumes nothing.
-use Rattle.sdp_write.proofs.RowLaws.{Left, left-begin, left-turn, left-finish}
+use Rattle.sdp_write.proofs.OwnerLaws.{Ours, ours-begin, ours-turn, ours-stop, ours-end, others, repeats-rise}
 use Rattle.sdp_row.specs.Written.{mine, repeatLine}
 use Rattle.sdp_write.specs.Tables.{offsetsIn}
 use Rattle.sdp_decode.specs.Decode.{repeatOf}
@@ -14,25 +14,31 @@ use Rattle.sdp_write.proofs.put_repeats.Statement.{statement}
 use Rattle.sdp_write.proofs.put_repeats.Tie as tie
 
 abbrev Inv-loop : tie.InvT-loop
-Inv-loop out₀ at text area n count p₀ i₀ q₀ out p i q = (length out ≡ length out₀) × Left (λ (k p : ℕ). mine n (repeatOf area p .owner) (repeatLine (offsetsIn area) k (repeatOf area p))) 18 repeatsAt (num 2 area repeatsAt) count out₀ at out p i q
+Inv-loop out₀ at text area n count i₀ p₀ q₀ out i p q = (length out ≡ length out₀) × Ours (λ (k p : ℕ). mine n (num 2 area p) (repeatLine (offsetsIn area) k (repeatOf area p))) area repeatsAt 18 n count out₀ at out i p q
 
 abbrev μ-loop : tie.MeasureT-loop
-μ-loop out₀ at text area n count p₀ i₀ q₀ out p i q = count - i
+μ-loop out₀ at text area n count i₀ p₀ q₀ out i p q = count - i
 
-num2-requires : tie.Need-num2-requires Inv-loop μ-loop
-num2-requires c κs = tt
+first-of-requires : tie.Need-first-of-requires Inv-loop μ-loop
+first-of-requires c κs = let b = c .before .before .before .before in
+    ((omega arith, omega arith, omega arith, c .num2 .ensures .1, omega (arith, c .num2 .ensures .0)), (repeats-rise (now (b .args .area)) (b .pre)))
 
 loop-holds : tie.Need-loop-holds Inv-loop μ-loop
-loop-holds c = (refl, left-begin (λ (k p : ℕ). mine (c .before .before .before .before .args .n) (repeatOf (now (c .before .before .before .before .args .area)) p .owner) (repeatLine (offsetsIn (now (c .before .before .before .before .args .area))) k (repeatOf (now (c .before .before .before .before .args .area)) p))) 18 repeatsAt _ _ _ _ (c .num2 .ensures .0) (c .num2 .ensures .1))
+loop-holds c = let b = c .before .before .before .before .before in
+    (refl, ours-begin (λ (k p : ℕ). mine (b .args .n) (num 2 (now (b .args .area)) p) (repeatLine (offsetsIn (now (b .args .area))) k (repeatOf (now (b .args .area)) p))) (now (b .args .area)) repeatsAt 18 (b .args .n) _ _ _ (c .before .num2 .ensures .0) (λ k p. others _ _ (repeatLine (offsetsIn (now (b .args .area))) k (repeatOf (now (b .args .area)) p))) _ (c .before .num2 .ensures .1) (omega arith) (c .first-of .ensures))
+
+-- another owner follows
+returns : tie.Need-returns Inv-loop μ-loop
+returns c = let b = c .before .before .before .before .before .before .before .before .before in
+    ours-stop (λ (k p : ℕ). mine (b .args .n) (num 2 (now (b .args .area)) p) (repeatLine (offsetsIn (now (b .args .area))) k (repeatOf (now (b .args .area)) p))) (now (b .args .area)) repeatsAt 18 (b .args .n) _ _ _ (c .before .before .before .before .before .num2 .ensures .0) (λ k p. others _ _ (repeatLine (offsetsIn (now (b .args .area))) k (repeatOf (now (b .args .area)) p))) _ _ _ _ (repeats-rise (now (b .args .area)) (b .pre)) (c .before .before .loop-test .taken) (c .before .num22 .ensures .0) (c .if1 .taken) (c .before .before .before .loop .inv .1)
 
 loop-again : tie.Need-loop-again Inv-loop μ-loop
-loop-again c = (omega arith, left-turn (λ (k p : ℕ). mine (c .before .before .before .before .before .before .before .before .before .before .args .n) (repeatOf (now (c .before .before .before .before .before .before .before .before .before .before .args .area)) p .owner) (repeatLine (offsetsIn (now (c .before .before .before .before .before .before .before .before .before .before .args .area))) k (repeatOf (now (c .before .before .before .before .before .before .before .before .before .before .args .area)) p))) 18 repeatsAt _ _ _ _ (omega arith) (c .before .before .before .before .loop-test .taken) (c .before .before .before .before .before .loop .inv .1) (c .before .before .put-my-repeat .ensures))
+loop-again c = let b = c .before .before .before .before .before .before .before .before .before .before .before .before .before in
+    (omega arith, ours-turn (λ (k p : ℕ). mine (b .args .n) (num 2 (now (b .args .area)) p) (repeatLine (offsetsIn (now (b .args .area))) k (repeatOf (now (b .args .area)) p))) (now (b .args .area)) repeatsAt 18 (b .args .n) _ _ _ (c .before .before .before .before .before .before .before .before .before .num2 .ensures .0) _ _ _ _ (repeats-rise (now (b .args .area)) (b .pre)) (omega arith) (c .before .before .before .before .before .before .loop-test .taken) (c .before .before .before .before .before .before .before .loop .inv .1) (c .before .before .put-my-repeat .ensures))
 
-same-length : tie.Need-same-length Inv-loop μ-loop
-same-length c = c .before .loop .inv .0
-
-returns : tie.Need-returns Inv-loop μ-loop
-returns c = left-finish (λ (k p : ℕ). mine (c .before .before .before .before .before .before .args .n) (repeatOf (now (c .before .before .before .before .before .before .args .area)) p .owner) (repeatLine (offsetsIn (now (c .before .before .before .before .before .before .args .area))) k (repeatOf (now (c .before .before .before .before .before .before .args .area)) p))) 18 repeatsAt _ _ _ _ (c .loop-test .left) (c .before .loop .inv .1)
+returns-2 : tie.Need-returns-2 Inv-loop μ-loop
+returns-2 c = let b = c .before .before .before .before .before .before .before in
+    ours-end (λ (k p : ℕ). mine (b .args .n) (num 2 (now (b .args .area)) p) (repeatLine (offsetsIn (now (b .args .area))) k (repeatOf (now (b .args .area)) p))) (now (b .args .area)) repeatsAt 18 (b .args .n) _ _ _ _ _ _ (c .loop-test .left) (c .before .loop .inv .1)
 
 pub put-repeats-spec : {M : Type 1} → statement M
 put-repeats-spec =
@@ -40,14 +46,20 @@ put-repeats-spec =
     (tie.spec
     Inv-loop
     μ-loop
-    num2-requires
+    (λ c κs. tt)
+    first-of-requires
     (λ c. omega arith)
+    (λ c. omega (arith, c .first-of .ensures .high, c .before .num2 .ensures .1))
+    (λ c. omega (arith, c .first-of .ensures .high, c .before .num2 .ensures .1))
     loop-holds
+    (λ c κs. tt)
+    (λ c. c .before .before .before .loop .inv .0)
+    returns
     (λ c. omega arith)
-    (λ c κs. omega (arith, c .before .before .loop .inv .1 .few, c .before .before .loop .inv .1 .near))
-    (λ c. omega arith)
+    (λ c κs. (omega (arith, c .before .before .before .before .loop .inv .1 .few, c .before .before .before .before .loop .inv .1 .near), c .before .before .before .before .before .before .before .before .before .before .pre))
+    (λ c. omega (arith, c .before .before .before .before .before .before .before .loop .inv .1 .few, c .before .before .before .before .before .before .before .loop .inv .1 .near))
     (λ c. omega arith)
     (λ c. omega arith)
     loop-again
-    same-length
-    returns)
+    (λ c. c .before .loop .inv .0)
+    returns-2)

@@ -1,5 +1,6 @@
 -- `sdp_write::write` meets its contract. Assumes nothing.
 use Rattle.sdp_write.proofs.WriteLaws.{settled, area-short, text-long, bad-session, out-short, all-written, fits, counted, filled}
+use Rattle.sdp_write.proofs.OwnerLaws.{well-owned}
 use Rattle.sdp_room.proofs.RoomLaws.{written-room}
 use Rattle.sdp_write.specs.Write.{textOf}
 use mathlib.Core.Path.{_≡_, refl, sym, _∙_}
@@ -79,16 +80,16 @@ write-spec =
     (λ c κs. search needs)
     returns-3
     (λ c κs. search needs)
-    (λ c κs. search needs)
+    (λ c κs. let m = c .before .before in well-owned _ _ (sym (m .before .before .judge .ensures) ∙ not-false _ (m .before .if3 .left)))
     (λ c κs. search needs)
     (λ c. search needs)
     returns-4
-    (λ c κs. search needs)
+    (λ c κs. let m = c .before .before in well-owned _ _ (sym (m .before .before .judge .ensures) ∙ not-false _ (m .before .if3 .left)))
     sub-n
     (λ c κs. search needs)
     (λ c. search needs)
     returns-5
-    (λ c κs. search needs)
+    (λ c κs. let m = c .before .before .before .before .before .before .before in well-owned _ _ (sym (m .before .before .judge .ensures) ∙ not-false _ (m .before .if3 .left)))
     (λ c κs. search needs)
     (λ c. search needs)
     returns-6)
