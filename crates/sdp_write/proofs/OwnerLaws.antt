@@ -13,7 +13,7 @@ use Rattle.sdp_area.specs.Area.{connectionsAt, bandwidthsAt, repeatsAt, offsets
 use Rattle.sdp_valid.specs.Judge as judge
 use Rattle.sdp_valid.specs.Judge.{rising, owned, owners, smallCounts, largeCounts, fineHead, fineTables, wellFormed}
 use Rattle.sdp_put.specs.Out.{Put}
-use Rattle.sdp_put.proofs.OutLaws.{Same, begin, turn, finish}
+use Rattle.sdp_put.proofs.OutLaws.{Same, begin, turn, finish, said, nothing}
 use Rattle.sdp_row.specs.Written
 use Rattle.sdp_row.specs.Written.{mine}
 use Rattle.sdp_write.specs.Tables.{eachAt, NeverFall, Parted}
@@ -140,6 +140,11 @@ pub others : (n o : ℕ) (bs : List ℕ) → (o ≡ n → ⊥) → mine n o bs �
 unfolding Written.mine
 others n o bs h = rw (ne-eqb o n h)
 
+-- a table without rows
+pub no-rows : (f : ℕ → ℕ → List ℕ) (a : List ℕ) (base w : ℕ) (o : List ℕ) (at : ℕ) → num 2 a base ≡ 0 → Put o at (eachAt f w (num 2 a base) 1 (base + 2)) o at
+unfolding eachAt
+no-rows f a base w o at e = said (ap (λ (k : ℕ). eachAt f w k 1 (base + 2)) (sym e)) (nothing o at)
+
 -- ---- the loop over the rows of the owner n: from the first of them on, until another follows. i is the next, at place p
 module _ (f : ℕ → ℕ → List ℕ) (a : List ℕ) (base w n count : ℕ) (o₀ : List ℕ) (at : ℕ) where
   pub record Ours (o : List ℕ) (i p q : ℕ) : Type 0 where
@@ -169,8 +174,8 @@ module _ (f : ℕ → ℕ → List ℕ) (a : List ℕ) (base w n count : ℕ) (o
       ours-stop i p q m s l e ne x =
           finish (x .same)
           (skip f w (count - i) (count - i) (i + 1) p (omega arith) (λ j k. other (i + 1 + j) (p + j * w) (λ g.
-            let z : p + j * w ≡ base + 2 + (i + j) * w = omega (arith, add-mul i j w, x .place) in
-            ne (omega (arith, s .rise i (i + j) (omega arith) (omega arith), ap (num 2 a) z, ap (num 2 a) (x .place), x .least l))))
+          let z : p + j * w ≡ base + 2 + (i + j) * w = omega (arith, add-mul i j w, x .place) in
+          ne (omega (arith, s .rise i (i + j) (omega arith) (omega arith), ap (num 2 a) z, ap (num 2 a) (x .place), x .least l))))
           ∙ ap (λ (k : ℕ). eachAt f w k (i + 1 + (count - i)) (p + (count - i) * w)) (let z : count - i - (count - i) ≡ 0 = omega arith in z))
 
     pub ours-turn : {o o′ : List ℕ} (i p q r : ℕ) → NeverFall a base w → w ≤ 40 → i < count → Ours o i p q → Put o q (f (i + 1) p) o′ r → Ours o′ (i + 1) (p + w) r

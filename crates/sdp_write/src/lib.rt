@@ -107,6 +107,9 @@ fn put_mine_of(
     ensures { λ r. ⌜ Put (now (out .entry)) at (eachAt (rowText (now (text .entry)) (now (area .entry)) n (Of table)) w (num 2 (now (area .entry)) base) 1 (base + 2)) (now (out .exit)) r ⌝ }
 {
     let count = num2(area, base);
+    if count == 0 {
+        return at;
+    }
     let mut i = first_of(area, base, w, n, 0, count);
     let mut p = base + 2 + i * w;
     let mut q = at;
@@ -134,32 +137,15 @@ fn put_repeat(out: &mut [u8], at: usize, text: &[u8], area: &[u8], k: usize, p: 
     put_two(out, e, 13, 10)
 }
 
-// The same, where its owner is n.
-fn put_my_repeat(
-    out: &mut [u8],
-    at: usize,
-    text: &[u8],
-    area: &[u8],
-    n: usize,
-    k: usize,
-    p: usize,
-) -> usize
-    requires { ⌜ p < 3700000 ⌝ }
-    requires { ⌜ owners (now area) ≡ true ⌝ }
-    ensures { λ r. ⌜ Put (now (out .entry)) at (mine n (repeatOf (now (area .entry)) p .owner) (repeatLine (offsetsIn (now (area .entry))) k (repeatOf (now (area .entry)) p))) (now (out .exit)) r ⌝ }
-{
-    if num2(area, p) == n {
-        return put_repeat(out, at, text, area, k, p);
-    }
-    at
-}
-
 // The r lines of the time n.
 fn put_repeats(out: &mut [u8], at: usize, text: &[u8], area: &[u8], n: usize) -> usize
     requires { ⌜ owners (now area) ≡ true ⌝ }
     ensures { λ r. ⌜ Put (now (out .entry)) at (eachAt (λ k p. mine n (repeatOf (now (area .entry)) p .owner) (repeatLine (offsetsIn (now (area .entry))) k (repeatOf (now (area .entry)) p))) 18 (num 2 (now (area .entry)) repeatsAt) 1 (repeatsAt + 2)) (now (out .exit)) r ⌝ }
 {
     let count = num2(area, REPEATS);
+    if count == 0 {
+        return at;
+    }
     let mut i = first_of(area, REPEATS, 18, n, 0, count);
     let mut p = REPEATS + 2 + i * 18;
     let mut q = at;
@@ -167,7 +153,7 @@ fn put_repeats(out: &mut [u8], at: usize, text: &[u8], area: &[u8], n: usize) ->
         if num2(area, p) != n {
             return q;
         }
-        q = put_my_repeat(out, q, text, area, n, i + 1, p);
+        q = put_repeat(out, q, text, area, i + 1, p);
         p += 18;
         i += 1;
     }

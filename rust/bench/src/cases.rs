@@ -3,10 +3,11 @@ use crate::sides::{Ours, Side, Theirs};
 use std::path::Path;
 
 /// Some texts of each sort, those on which ours fares worst with them.
-const FEW: [&str; 8] = [
+const FEW: [&str; 9] = [
     "rfc8866-5",
     "rfc8866-5.10",
     "aes67-stereo",
+    "empty-values",
     "festival-stages",
     "minimal",
     "numbers",

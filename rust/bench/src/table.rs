@@ -99,20 +99,21 @@ pub fn growth(counts: &[Cost]) -> Result<String, String> {
     Ok(out)
 }
 
-/// What must hold of the ratios, and what doesn't: reading, and reading with writing, cost less than the crate on each
-/// accepted text. Of writing alone this is not so (docs/SPEED.md): its mean must be below 1.
+/// The goal: half of what the crate costs, in the geometric mean.
+const GOAL: f64 = 0.5;
+
+/// What must hold of the ratios, and what doesn't: reading, writing, and both cost less than the crate on each accepted
+/// text, and in the mean no more than the goal.
 pub fn direction(counts: &[Cost]) -> Result<Vec<String>, String> {
     let mut wrong = Vec::new();
     for work in Work::ALL {
         let rows: Vec<Row> = rows(counts, work)?.into_iter().filter(|row| row.accepted).collect();
         let mean = geometric_mean(rows.iter()).ok_or_else(|| format!("{}: no accepted text", work.title()))?;
-        if mean >= 1.0 {
+        if mean > GOAL {
             wrong.push(format!("{}: the geometric mean is {mean:.3}", work.title()));
         }
-        if work != Work::Write {
-            let slower = rows.iter().filter(|row| row.ratio() >= 1.0);
-            wrong.extend(slower.map(|row| format!("{}, {}: the ratio is {:.3}", work.title(), row.name, row.ratio())));
-        }
+        let slower = rows.iter().filter(|row| row.ratio() >= 1.0);
+        wrong.extend(slower.map(|row| format!("{}, {}: the ratio is {:.3}", work.title(), row.name, row.ratio())));
     }
     Ok(wrong)
 }

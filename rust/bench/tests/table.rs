@@ -58,14 +58,18 @@ fn what_is_printed() {
 #[test]
 fn the_direction() {
     let of = |lines: &str| direction(&counts(lines).unwrap()).unwrap();
-    // writing a is twice as much, and may be; c is refused, and may cost more
-    assert_eq!(of(GOOD), [String::new(); 0]);
-    let slow_read = GOOD.replace("a 10 read ours 13", "a 10 read ours 23");
-    assert_eq!(of(&slow_read), ["reading, a: the ratio is 1.000"]);
-    let slow_both = GOOD.replace("b 20 both ours 103", "b 20 both ours 603");
-    assert_eq!(of(&slow_both), ["reading and writing, b: the ratio is 2.000"]);
-    let slow_mean = GOOD.replace("b 20 write ours 53", "b 20 write ours 203");
-    assert_eq!(of(&slow_mean), ["writing: the geometric mean is 1.414"]);
+    // writing a costs twice as much; c is refused, and may cost more
+    assert_eq!(of(GOOD), ["writing: the geometric mean is 0.707", "writing, a: the ratio is 2.000"]);
+    let good = GOOD.replace("a 10 write ours 403", "a 10 write ours 203").replace("b 20 write ours 53", "b 20 write ours 28");
+    assert_eq!(of(&good), ["writing, a: the ratio is 1.000"]);
+    let good = GOOD.replace("a 10 write ours 403", "a 10 write ours 103");
+    assert_eq!(of(&good), [String::new(); 0]);
+    let slow_read = good.replace("a 10 read ours 13", "a 10 read ours 23");
+    assert_eq!(of(&slow_read), ["reading: the geometric mean is 0.707", "reading, a: the ratio is 1.000"]);
+    let slow_both = good.replace("b 20 both ours 103", "b 20 both ours 603");
+    assert_eq!(of(&slow_both), ["reading and writing: the geometric mean is 0.906", "reading and writing, b: the ratio is 2.000"]);
+    let slow_mean = good.replace("b 20 write ours 53", "b 20 write ours 123");
+    assert_eq!(of(&slow_mean), ["writing: the geometric mean is 0.548"]);
     let none: String = GOOD.lines().take(2).map(|line| format!("{line}\n")).collect();
     assert!(direction(&counts(&none).unwrap()).is_err());
 }

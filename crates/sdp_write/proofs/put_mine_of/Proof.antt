@@ -1,9 +1,9 @@
 -- `sdp_write::put_mine_of` meets its contract. Assumes nothing.
-use Rattle.sdp_write.proofs.OwnerLaws.{Ours, ours-begin, ours-turn, ours-stop, ours-end, others, far}
+use Rattle.sdp_write.proofs.OwnerLaws.{Ours, no-rows, ours-begin, ours-turn, ours-stop, ours-end, others, far}
 use Rattle.sdp_row.specs.Rows.{rowText, ownedLine}
 use Rattle.sdp_row.specs.declared.Table.the-variants.{Of}
 use Rattle.sdp_cells.specs.Bytes.{num}
-use mathlib.Core.Path.{_≡_, refl}
+use mathlib.Core.Path.{_≡_, refl, sym, _∙_}
 use Prim.Native.Nat.{_-_}
 use native.Mathlib.Omega.{arith}
 use lib.ListN.{length}
@@ -17,33 +17,30 @@ Inv-loop out₀ at text area table base w n count i₀ p₀ q₀ out i p q = (le
 abbrev μ-loop : tie.MeasureT-loop
 μ-loop out₀ at text area table base w n count i₀ p₀ q₀ out i p q = count - i
 
+-- an empty table
+returns : tie.Need-returns Inv-loop μ-loop
+returns c = let b = c .before .before .before .before .before in
+    no-rows (rowText (now (b .args .text)) (now (b .args .area)) (b .args .n) (Of (b .args .table))) (now (b .args .area)) (b .args .base) (b .args .w) _ _ (sym (c .before .num2 .ensures .0) ∙ c .if1 .taken)
+
 first-of-requires : tie.Need-first-of-requires Inv-loop μ-loop
-first-of-requires c κs = let b = c .before .before .before .before in
-    ((b .pre .0 .0, b .pre .0 .1, omega arith, c .num2 .ensures .1, omega (arith, c .num2 .ensures .0)), b .pre .1)
-
-mul-p : tie.Need-mul-p Inv-loop μ-loop
-mul-p c = let b = c .before .before .before .before .before in omega (arith, far (c .first-of .result) (b .args .w) (b .pre .0 .1) (omega (arith, c .first-of .ensures .high, c .before .num2 .ensures .1)))
-
-add-p-2 : tie.Need-add-p-2 Inv-loop μ-loop
-add-p-2 c = let b = c .before .before .before .before .before in omega (arith, far (c .first-of .result) (b .args .w) (b .pre .0 .1) (omega (arith, c .first-of .ensures .high, c .before .num2 .ensures .1)))
+first-of-requires c κs = let b = c .before .before .before .before .before in
+    ((b .pre .0 .0, b .pre .0 .1, omega arith, c .before .num2 .ensures .1, omega (arith, c .before .num2 .ensures .0)), (b .pre .1))
 
 loop-holds : tie.Need-loop-holds Inv-loop μ-loop
-loop-holds c = let b = c .before .before .before .before .before in
-    (refl, ours-begin (rowText (now (b .args .text)) (now (b .args .area)) (b .args .n) (Of (b .args .table))) (now (b .args .area)) (b .args .base) (b .args .w) (b .args .n) _ _ _ (c .before .num2 .ensures .0) (λ k p. others _ _ (ownedLine (now (b .args .text)) (now (b .args .area)) (b .args .table) p)) _ (c .before .num2 .ensures .1) (omega (arith, b .pre .0 .1)) (c .first-of .ensures))
+loop-holds c = let b = c .before .before .before .before .before .before in
+    (refl, ours-begin (rowText (now (b .args .text)) (now (b .args .area)) (b .args .n) (Of (b .args .table))) (now (b .args .area)) (b .args .base) (b .args .w) (b .args .n) _ _ _ (c .before .before .num2 .ensures .0) (λ k p. others _ _ (ownedLine (now (b .args .text)) (now (b .args .area)) (b .args .table) p)) _ (c .before .before .num2 .ensures .1) (omega (arith, b .pre .0 .1)) (c .first-of .ensures))
 
 -- another owner follows
-returns : tie.Need-returns Inv-loop μ-loop
-returns c = let l = c .before .before .before in
-    let b = c .before .before .before .before .before .before .before .before .before in
-    ours-stop (rowText (now (b .args .text)) (now (b .args .area)) (b .args .n) (Of (b .args .table))) (now (b .args .area)) (b .args .base) (b .args .w) (b .args .n) _ _ _ (c .before .before .before .before .before .num2 .ensures .0) (λ k p. others _ _ (ownedLine (now (b .args .text)) (now (b .args .area)) (b .args .table) p)) _ _ _ _ (b .pre .1) (c .before .before .loop-test .taken) (c .before .num22 .ensures .0) (c .if1 .taken) (l .loop .inv .1)
+returns-2 : tie.Need-returns-2 Inv-loop μ-loop
+returns-2 c = let b = c .before .before .before .before .before .before .before .before .before .before in
+    ours-stop (rowText (now (b .args .text)) (now (b .args .area)) (b .args .n) (Of (b .args .table))) (now (b .args .area)) (b .args .base) (b .args .w) (b .args .n) _ _ _ (c .before .before .before .before .before .before .num2 .ensures .0) (λ k p. others _ _ (ownedLine (now (b .args .text)) (now (b .args .area)) (b .args .table) p)) _ _ _ _ (b .pre .1) (c .before .before .loop-test .taken) (c .before .num22 .ensures .0) (c .if2 .taken) (c .before .before .before .loop .inv .1)
 
 loop-again : tie.Need-loop-again Inv-loop μ-loop
-loop-again c = let l = c .before .before .before .before .before .before .before in
-    let b = c .before .before .before .before .before .before .before .before .before .before .before .before .before in
-    (omega arith, ours-turn (rowText (now (b .args .text)) (now (b .args .area)) (b .args .n) (Of (b .args .table))) (now (b .args .area)) (b .args .base) (b .args .w) (b .args .n) _ _ _ (c .before .before .before .before .before .before .before .before .before .num2 .ensures .0) _ _ _ _ (b .pre .1) (omega (arith, b .pre .0 .1)) (c .before .before .before .before .before .before .loop-test .taken) (l .loop .inv .1) (c .before .before .put-row .ensures))
+loop-again c = let b = c .before .before .before .before .before .before .before .before .before .before .before .before .before .before in
+    (omega arith, ours-turn (rowText (now (b .args .text)) (now (b .args .area)) (b .args .n) (Of (b .args .table))) (now (b .args .area)) (b .args .base) (b .args .w) (b .args .n) _ _ _ (c .before .before .before .before .before .before .before .before .before .before .num2 .ensures .0) _ _ _ _ (b .pre .1) (omega (arith, b .pre .0 .1)) (c .before .before .before .before .before .before .loop-test .taken) (c .before .before .before .before .before .before .before .loop .inv .1) (c .before .before .put-row .ensures))
 
-returns-2 : tie.Need-returns-2 Inv-loop μ-loop
-returns-2 c = let b = c .before .before .before .before .before .before .before in
+returns-3 : tie.Need-returns-3 Inv-loop μ-loop
+returns-3 c = let b = c .before .before .before .before .before .before .before .before in
     ours-end (rowText (now (b .args .text)) (now (b .args .area)) (b .args .n) (Of (b .args .table))) (now (b .args .area)) (b .args .base) (b .args .w) (b .args .n) _ _ _ _ _ _ (c .loop-test .left) (c .before .loop .inv .1)
 
 pub put-mine-of-spec : {M : Type 1} → statement M
@@ -53,19 +50,20 @@ put-mine-of-spec =
     Inv-loop
     μ-loop
     (λ c κs. tt)
+    returns
     first-of-requires
-    (λ c. omega (arith, c .before .before .before .before .before .pre .0))
-    mul-p
-    add-p-2
+    (λ c. omega (arith, c .before .before .before .before .before .before .pre .0))
+    (λ c. let b = c .before .before .before .before .before .before in omega (arith, far (c .first-of .result) (b .args .w) (b .pre .0 .1) (omega (arith, c .first-of .ensures .high, c .before .before .num2 .ensures .1))))
+    (λ c. let b = c .before .before .before .before .before .before in omega (arith, far (c .first-of .result) (b .args .w) (b .pre .0 .1) (omega (arith, c .first-of .ensures .high, c .before .before .num2 .ensures .1))))
     loop-holds
     (λ c κs. tt)
     (λ c. c .before .before .before .loop .inv .0)
-    returns
+    returns-2
     (λ c. omega arith)
-    (λ c κs. omega (arith, c .before .before .before .before .loop .inv .1 .few, c .before .before .before .before .loop .inv .1 .near, c .before .before .before .before .before .before .before .before .before .before .pre .0))
-    (λ c. omega (arith, c .before .before .before .before .before .before .before .loop .inv .1 .few, c .before .before .before .before .before .before .before .loop .inv .1 .near, c .before .before .before .before .before .before .before .before .before .before .before .before .before .pre .0))
+    (λ c κs. omega (arith, c .before .before .before .before .loop .inv .1 .few, c .before .before .before .before .loop .inv .1 .near, c .before .before .before .before .before .before .before .before .before .before .before .pre .0))
+    (λ c. omega (arith, c .before .before .before .before .before .before .before .loop .inv .1 .few, c .before .before .before .before .before .before .before .loop .inv .1 .near, c .before .before .before .before .before .before .before .before .before .before .before .before .before .before .pre .0))
     (λ c. omega arith)
     (λ c. omega arith)
     loop-again
     (λ c. c .before .loop .inv .0)
-    returns-2)
+    returns-3)
