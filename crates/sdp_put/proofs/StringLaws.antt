@@ -120,5 +120,5 @@ length-stores zero o at s = length-set o at (getD s 0 0)
 length-stores (suc k) o at s = length-set (stores k o at s) (at + suc k) (getD s (suc k) 0) ∙ length-stores k o at s
 
 -- the place of the next store
-pub next-in : (k : ℕ) (o : List ℕ) (at : ℕ) (s : List ℕ) → at + 8 ≤ length o → k < 7 → at + suc k < length (stores k o at s)
-next-in k o at s l h = omega (arith, length-stores k o at s)
+pub next-in : (k : ℕ) (o : List ℕ) (at : ℕ) (s : List ℕ) → at + suc k < length o → at + suc k < length (stores k o at s)
+next-in k o at s h = omega (arith, length-stores k o at s)

@@ -28,7 +28,7 @@ module _ (c : tie.After-shared-slice-known8) where
   room = omega arith
 
   next : (k : ℕ) → k < 7 → at + suc k < length (stores k o at s)
-  next k h = next-in k o at s room h
+  next k h = next-in k o at s (omega arith)
 
 same-length : tie.Need-same-length
 same-length c = length-stores 7 (o c) (at c) (s c)
