@@ -5,7 +5,7 @@ use mathlib.Core.List.{List, [], _∷_, _++_}
 use Prim.Native.Nat.{ℕ, zero, suc, _+_, _-_, _≤_, _<_}
 use native.Mathlib.Numerals.{add-one}
 use native.Mathlib.Omega.{arith}
-use lib.ListN.{length, take, drop, getD, length-drop, drop-of-length-le}
+use lib.ListN.{length, take, drop, getD, set, length-drop, length-set, drop-of-length-le}
 use lib.Seq.{drop-cons, drop-drop, take-all}
 use lib.Dec.{ltb, leb}
 use borrow.Author.Tests.{leb-true, ltb-true, ltb-false, ne-eqb}
@@ -108,3 +108,17 @@ take-firsts (suc k) s i h =
 pub take-eight : (s : List ℕ) → 8 ≤ length s
     → getD s 0 0 ∷ getD s 1 0 ∷ getD s 2 0 ∷ getD s 3 0 ∷ getD s 4 0 ∷ getD s 5 0 ∷ getD s 6 0 ∷ getD s 7 0 ∷ [] ≡ take 8 s
 take-eight s h = sym (take-firsts 8 s 0 h)
+
+-- ---- stores one after the other
+-- o after the bytes of s up to k were stored from at on
+abbrev pub stores : ℕ → List ℕ → ℕ → List ℕ → List ℕ
+stores zero o at s = set o at (getD s 0 0)
+stores (suc k) o at s = set (stores k o at s) (at + suc k) (getD s (suc k) 0)
+
+pub length-stores : (k : ℕ) (o : List ℕ) (at : ℕ) (s : List ℕ) → length (stores k o at s) ≡ length o
+length-stores zero o at s = length-set o at (getD s 0 0)
+length-stores (suc k) o at s = length-set (stores k o at s) (at + suc k) (getD s (suc k) 0) ∙ length-stores k o at s
+
+-- the place of the next store
+pub next-in : (k : ℕ) (o : List ℕ) (at : ℕ) (s : List ℕ) → at + suc k < length o → at + suc k < length (stores k o at s)
+next-in k o at s h = omega (arith, length-stores k o at s)

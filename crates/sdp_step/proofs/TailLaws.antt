@@ -16,5 +16,9 @@ use Rattle.sdp_step.specs.declared.Marks.{Marks}
 pub behind : (s : Session Span) (t : List ℕ) → drop size (encode s ++ t) ≡ t
 behind s t = drop-at (encode s) t size (length-encode s)
 
+-- the area of h. Where a law's area is not written, antt looks for it in the whole step
+abbrev pub held : {ρ : Reading Span} {m : Marks} {a t : List ℕ} → Holds ρ m a t → List ℕ
+held {a = a} h = a
+
 pub tail-of : {ρ : Reading Span} {m : Marks} {a t : List ℕ} → Holds ρ m a t → drop size a ≡ t
 tail-of {ρ} {m} {a} {t} h = ap (drop size) (h .bytes) ∙ behind (ρ .session) t

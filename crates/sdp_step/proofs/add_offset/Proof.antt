@@ -1,5 +1,5 @@
 -- `sdp_step::add_offset` meets its contract. Assumes nothing.
-use mathlib.Core.Path.{ap, _∙_}
+use mathlib.Core.Path.{refl, ap, _∙_}
 use Rattle.sdp_step.specs.Repeats.{offsetRoom}
 use borrow.Author.Needs.{needs}
 use Rattle.sdp_step.proofs.add_offset.Statement.{statement}
@@ -19,5 +19,5 @@ add-offset-spec =
     (λ c. search needs)
     (λ c. search needs)
     returns
-    (λ c. search needs)
-    (λ c. search needs))
+    (λ c. rw (c .enum-told2 .given .1) (refl, refl))
+    (λ c. rw (c .enum-told3 .given .1) (refl, refl)))

@@ -7,7 +7,7 @@ use Rattle.sdp_area.proofs.GrownLaws.{attributes-grown, medias-count}
 use Rattle.sdp_step.specs.Step.{stepRole}
 use Rattle.sdp_step.proofs.AnswerLaws.{pair-got, pair-refused}
 use Rattle.sdp_step.proofs.HandleLaws.{row-wrong, row-pushed}
-use Rattle.sdp_step.proofs.TailLaws.{tail-of}
+use Rattle.sdp_step.proofs.TailLaws.{held, tail-of}
 use Rattle.sdp_step.proofs.WithinLaws.{within-attributes}
 use mathlib.Core.List.{[]}
 use Rattle.sdp_strings.specs.Strings.{spanAt}
@@ -25,7 +25,7 @@ maybe-of-requires c κs = omega (arith, pair-within _ _ _ _ (pair-got _ _ (sym (
 
 returns : tie.Need-returns
 unfolding stepRole
-returns c ρ t h = rw (c .refused .ensures) (row-wrong 9 512 _ _ _ _ _ _ (pair-refused _ _ (sym (c .before .before .before .before .parse .ensures) ∙ c .before .before .w .given .1)) (tail-of h))
+returns c ρ t h = rw (c .refused .ensures) (row-wrong 9 512 _ _ _ (held h) t _ (pair-refused _ _ (sym (c .before .before .before .before .parse .ensures) ∙ c .before .before .w .given .1)) (tail-of h))
 
 returns-2 : tie.Need-returns-2
 unfolding stepRole

@@ -7,7 +7,7 @@ use Rattle.sdp_area.proofs.GrownLaws.{bandwidths-grown, medias-count}
 use Rattle.sdp_step.specs.Step.{stepRole}
 use Rattle.sdp_step.proofs.AnswerLaws.{bandwidth-got, bandwidth-refused}
 use Rattle.sdp_step.proofs.HandleLaws.{row-wrong, row-pushed}
-use Rattle.sdp_step.proofs.TailLaws.{tail-of}
+use Rattle.sdp_step.proofs.TailLaws.{held, tail-of}
 use Rattle.sdp_step.proofs.WithinLaws.{within-bandwidths}
 use mathlib.Core.List.{[]}
 use Rattle.sdp_strings.specs.Strings.{spanAt}
@@ -22,7 +22,7 @@ span-of-requires c κs = omega (arith, bandwidth-within _ _ (bandwidth-got _ _ (
 
 returns : tie.Need-returns
 unfolding stepRole
-returns c ρ t h = rw (c .refused .ensures) (row-wrong 4 64 _ _ _ _ _ _ (bandwidth-refused _ _ (sym (c .before .before .before .before .parse .ensures) ∙ c .before .before .w .given .1)) (tail-of h))
+returns c ρ t h = rw (c .refused .ensures) (row-wrong 4 64 _ _ _ (held h) t _ (bandwidth-refused _ _ (sym (c .before .before .before .before .parse .ensures) ∙ c .before .before .w .given .1)) (tail-of h))
 
 returns-2 : tie.Need-returns-2
 unfolding stepRole

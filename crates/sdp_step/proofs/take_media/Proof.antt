@@ -7,7 +7,7 @@ use Rattle.sdp_area.proofs.GrownLaws.{medias-grown}
 use Rattle.sdp_step.specs.Step.{stepRole}
 use Rattle.sdp_step.proofs.AnswerLaws.{media-got, media-refused}
 use Rattle.sdp_step.proofs.HandleLaws.{row-wrong, row-pushed}
-use Rattle.sdp_step.proofs.TailLaws.{tail-of}
+use Rattle.sdp_step.proofs.TailLaws.{held, tail-of}
 use Rattle.sdp_step.proofs.WithinLaws.{within-medias}
 use mathlib.Core.List.{[]}
 use Rattle.sdp_strings.specs.Strings.{spanAt}
@@ -27,7 +27,7 @@ span-of-requires-3 c κs = omega (arith, media-within _ _ (media-got _ _ (sym (c
 
 returns : tie.Need-returns
 unfolding stepRole
-returns c ρ t h = rw (c .refused .ensures) (row-wrong 10 32 _ _ _ _ _ _ (media-refused _ _ (sym (c .before .before .before .before .parse-m-line .ensures) ∙ c .before .before .w .given .1)) (tail-of h))
+returns c ρ t h = rw (c .refused .ensures) (row-wrong 10 32 _ _ _ (held h) t _ (media-refused _ _ (sym (c .before .before .before .before .parse-m-line .ensures) ∙ c .before .before .w .given .1)) (tail-of h))
 
 returns-2 : tie.Need-returns-2
 unfolding stepRole

@@ -9,14 +9,14 @@ use Rattle.sdp_step.specs.Step.{stepRole}
 use Rattle.sdp_step.proofs.AnswerLaws.{pair-got, pair-refused}
 use Rattle.sdp_step.proofs.HandleLaws.{once-second, once-wrong, once-kept}
 use Rattle.sdp_step.proofs.OnceLaws.{medias-kept, length-last}
-use Rattle.sdp_step.proofs.TailLaws.{tail-of}
+use Rattle.sdp_step.proofs.TailLaws.{held, tail-of}
 use borrow.Author.Needs.{needs}
 use Rattle.sdp_step.proofs.take_media_key.Statement.{statement}
 use Rattle.sdp_step.proofs.take_media_key.Tie as tie
 
 returns : tie.Need-returns
 unfolding stepRole
-returns c ρ t h = once-second 19 _ _ _ _ _ (sym (media-key-mark (ρ .session) t (h .within) _ (h .bytes)) ∙ sym (c .before .has-media-key .ensures) ∙ c .if1 .taken) (tail-of h)
+returns c ρ t h = once-second 19 _ _ _ (held h) t (sym (media-key-mark (ρ .session) t (h .within) _ (h .bytes)) ∙ sym (c .before .has-media-key .ensures) ∙ c .if1 .taken) (tail-of h)
 
 span-of-requires : tie.Need-span-of-requires
 span-of-requires c κs = omega (arith, pair-within _ _ _ _ (pair-got _ _ (sym (c .before .before .before .before .parse .ensures) ∙ c .before .before .k .given .1)) .name, c .before .before .before .before .before .before .before .before .before .before .pre .1)
@@ -29,7 +29,7 @@ set-media-key-requires c κs = omega (arith, c .before .before .before .before .
 
 returns-2 : tie.Need-returns-2
 unfolding stepRole
-returns-2 c ρ t h = rw (c .refused .ensures) (once-wrong 19 _ _ _ _ _ (sym (media-key-mark (ρ .session) t (h .within) _ (h .bytes)) ∙ sym (c .before .before .before .before .before .before .has-media-key .ensures) ∙ c .before .before .before .before .before .if1 .left) _ (pair-refused _ _ (sym (c .before .before .before .before .parse .ensures) ∙ c .before .before .w .given .1)) (tail-of h))
+returns-2 c ρ t h = rw (c .refused .ensures) (once-wrong 19 _ _ _ (held h) t (sym (media-key-mark (ρ .session) t (h .within) _ (h .bytes)) ∙ sym (c .before .before .before .before .before .before .has-media-key .ensures) ∙ c .before .before .before .before .before .if1 .left) _ (pair-refused _ _ (sym (c .before .before .before .before .parse .ensures) ∙ c .before .before .w .given .1)) (tail-of h))
 
 returns-3 : tie.Need-returns-3
 unfolding stepRole

@@ -7,14 +7,14 @@ use Rattle.sdp_step.specs.Step.{stepRole}
 use Rattle.sdp_step.proofs.AnswerLaws.{origin-got, origin-refused}
 use Rattle.sdp_step.proofs.HandleLaws.{once-second, once-wrong, once-kept}
 use Rattle.sdp_step.proofs.OnceLaws.{head-kept}
-use Rattle.sdp_step.proofs.TailLaws.{tail-of}
+use Rattle.sdp_step.proofs.TailLaws.{held, tail-of}
 use borrow.Author.Needs.{needs}
 use Rattle.sdp_step.proofs.take_origin.Statement.{statement}
 use Rattle.sdp_step.proofs.take_origin.Tie as tie
 
 returns : tie.Need-returns
 unfolding stepRole
-returns c ρ t h = once-second 12 _ _ _ _ _ (sym (origin-mark (ρ .session) t (h .within) _ (h .bytes)) ∙ sym (c .before .has-origin .ensures) ∙ c .if1 .taken) (tail-of h)
+returns c ρ t h = once-second 12 _ _ _ (held h) t (sym (origin-mark (ρ .session) t (h .within) _ (h .bytes)) ∙ sym (c .before .has-origin .ensures) ∙ c .if1 .taken) (tail-of h)
 
 maybe-of-requires : tie.Need-maybe-of-requires
 maybe-of-requires c κs = omega (arith, origin-within _ _ (origin-got _ _ (sym (c .before .before .before .before .parse .ensures) ∙ c .before .before .o .given .1)) .username, c .before .before .before .before .before .before .before .before .before .before .pre .1)
@@ -36,7 +36,7 @@ set-origin-requires c κs = omega (arith, c .before .before .before .before .bef
 
 returns-2 : tie.Need-returns-2
 unfolding stepRole
-returns-2 c ρ t h = rw (c .refused .ensures) (once-wrong 12 _ _ _ _ _ (sym (origin-mark (ρ .session) t (h .within) _ (h .bytes)) ∙ sym (c .before .before .before .before .before .before .has-origin .ensures) ∙ c .before .before .before .before .before .if1 .left) _ (origin-refused _ _ (sym (c .before .before .before .before .parse .ensures) ∙ c .before .before .w .given .1)) (tail-of h))
+returns-2 c ρ t h = rw (c .refused .ensures) (once-wrong 12 _ _ _ (held h) t (sym (origin-mark (ρ .session) t (h .within) _ (h .bytes)) ∙ sym (c .before .before .before .before .before .before .has-origin .ensures) ∙ c .before .before .before .before .before .if1 .left) _ (origin-refused _ _ (sym (c .before .before .before .before .parse .ensures) ∙ c .before .before .w .given .1)) (tail-of h))
 
 returns-3 : tie.Need-returns-3
 unfolding stepRole

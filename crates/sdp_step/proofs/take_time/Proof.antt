@@ -5,7 +5,7 @@ use Rattle.sdp_area.proofs.GrownLaws.{times-grown}
 use Rattle.sdp_step.specs.Step.{stepRole}
 use Rattle.sdp_step.proofs.AnswerLaws.{time-got, time-refused}
 use Rattle.sdp_step.proofs.HandleLaws.{row-wrong, row-pushed}
-use Rattle.sdp_step.proofs.TailLaws.{tail-of}
+use Rattle.sdp_step.proofs.TailLaws.{held, tail-of}
 use Rattle.sdp_step.proofs.WithinLaws.{within-times}
 use Rattle.sdp_step.specs.Step.{timeIn}
 use borrow.Author.Needs.{needs}
@@ -14,7 +14,7 @@ use Rattle.sdp_step.proofs.take_time.Tie as tie
 
 returns : tie.Need-returns
 unfolding stepRole
-returns c ρ t h = rw (c .refused .ensures) (row-wrong 5 32 _ _ _ _ _ _ (time-refused _ _ (sym (c .before .before .before .before .parse .ensures) ∙ c .before .before .w .given .1)) (tail-of h))
+returns c ρ t h = rw (c .refused .ensures) (row-wrong 5 32 _ _ _ (held h) t _ (time-refused _ _ (sym (c .before .before .before .before .parse .ensures) ∙ c .before .before .w .given .1)) (tail-of h))
 
 returns-2 : tie.Need-returns-2
 unfolding stepRole

@@ -13,7 +13,7 @@ use Rattle.sdp_step.specs.Step.{Reading, stepRole}
 use Rattle.sdp_step.specs.Hold.{Holds}
 use Rattle.sdp_step.specs.declared.Marks.{Marks}
 use Rattle.sdp_step.proofs.HandleLaws.{once-second, once-wrong, once-then}
-use Rattle.sdp_step.proofs.TailLaws.{tail-of}
+use Rattle.sdp_step.proofs.TailLaws.{held, tail-of}
 use Rattle.sdp_step.proofs.ZoneLaws.{Zoning, zoning-begin, zoning-next, zoning-wrong, zoning-all, zoning-tail, zones-full, zones-kept}
 use Rattle.sdp_step.proofs.take_zone.Statement.{statement}
 use Rattle.sdp_step.proofs.take_zone.Tie as tie
@@ -27,7 +27,7 @@ abbrev μ-loop : tie.MeasureT-loop
 
 returns : tie.Need-returns Inv-loop μ-loop
 unfolding stepRole
-returns c ρ t h = once-second 17 _ _ _ _ _ (sym (ap (λ (m : Marks). m .zoned) (h .marks)) ∙ c .if1 .taken) (tail-of h)
+returns c ρ t h = once-second 17 _ _ _ (held h) t (sym (ap (λ (m : Marks). m .zoned) (h .marks)) ∙ c .if1 .taken) (tail-of h)
 
 loop-holds : tie.Need-loop-holds Inv-loop μ-loop
 loop-holds c = (refl, omega arith, omega arith, λ ρ t h u. zoning-begin _ (ρ .session) t _ (h .unzoned u) (h .bytes))
