@@ -1,7 +1,7 @@
 -- Rows of one owner stand together, since owners never fall. Assumes nothing.
 use mathlib.Core.Path.{_≡_, refl, sym, ap, ap₂, _∙_}
 use mathlib.Core.Bool.{Bool, true, false, _&&_}
-use mathlib.Core.List.{List, [], _∷_, _++_}
+use mathlib.Core.List.{List, [], _++_}
 use Prim.Native.Nat.{ℕ, zero, suc, _+_, _*_, _-_, _≤_, _<_}
 use native.Mathlib.Nat.{suc-mul, add-mul, one-mul, mul-comm, mul-le-mul-right}
 use native.Mathlib.Omega.{arith}

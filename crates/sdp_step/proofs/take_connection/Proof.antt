@@ -1,5 +1,5 @@
 -- `sdp_step::take_connection` meets its contract. Assumes nothing.
-use mathlib.Core.Path.{refl, sym, ap, _∙_}
+use mathlib.Core.Path.{refl, sym, _∙_}
 use native.Mathlib.Omega.{arith}
 use Rattle.sdp_fields.proofs.BoundLaws.{connection-within}
 use Rattle.sdp_area.proofs.HeadLaws.{connection-mark, connection-set}

@@ -1,8 +1,6 @@
 -- `sdp_step::take_media_key` meets its contract. Assumes nothing.
-use mathlib.Core.Path.{refl, sym, ap, _∙_}
+use mathlib.Core.Path.{refl, sym, _∙_}
 use native.Mathlib.Omega.{arith}
-use lib.ListN.{length}
-use Rattle.sdp_area.specs.With.{setLast}
 use Rattle.sdp_fields.proofs.BoundLaws.{pair-within}
 use Rattle.sdp_area.proofs.LatestLaws.{media-key-mark, media-key-set}
 use Rattle.sdp_step.specs.Step.{stepRole}

@@ -1,8 +1,6 @@
 -- `sdp_step::take_media_title` meets its contract. Assumes nothing.
-use mathlib.Core.Path.{refl, sym, ap, _∙_}
+use mathlib.Core.Path.{refl, sym, _∙_}
 use native.Mathlib.Omega.{arith}
-use lib.ListN.{length}
-use Rattle.sdp_area.specs.With.{setLast}
 use Rattle.sdp_fields.proofs.BoundLaws.{whole-within}
 use Rattle.sdp_area.proofs.LatestLaws.{title-mark, title-set}
 use Rattle.sdp_step.specs.Step.{stepRole}

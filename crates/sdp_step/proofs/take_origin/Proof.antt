@@ -1,5 +1,5 @@
 -- `sdp_step::take_origin` meets its contract. Assumes nothing.
-use mathlib.Core.Path.{refl, sym, ap, _∙_}
+use mathlib.Core.Path.{refl, sym, _∙_}
 use native.Mathlib.Omega.{arith}
 use Rattle.sdp_fields.proofs.BoundLaws.{origin-within}
 use Rattle.sdp_area.proofs.HeadLaws.{origin-mark, origin-set}

@@ -1,5 +1,5 @@
 -- `sdp_step::take_time` meets its contract. Assumes nothing.
-use mathlib.Core.Path.{refl, sym, ap, _∙_}
+use mathlib.Core.Path.{refl, sym, _∙_}
 use Rattle.sdp_area.specs.With.{withTimes}
 use Rattle.sdp_area.proofs.GrownLaws.{times-grown}
 use Rattle.sdp_step.specs.Step.{stepRole}

@@ -2,7 +2,6 @@
 use Rattle.sdp_write.proofs.OwnerLaws.{Ours, no-rows, ours-begin, ours-turn, ours-stop, ours-end, others, far}
 use Rattle.sdp_row.specs.Rows.{rowText, ownedLine}
 use Rattle.sdp_row.specs.declared.Table.the-variants.{Of}
-use Rattle.sdp_cells.specs.Bytes.{num}
 use mathlib.Core.Path.{_≡_, refl, sym, _∙_}
 use Prim.Native.Nat.{_-_}
 use native.Mathlib.Omega.{arith}
