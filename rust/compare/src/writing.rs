@@ -1,6 +1,6 @@
 //! One area through a writer, and through the judge and the crate's writer. The writer is a parameter, so that the
 //! comparison can be tested with writers that are known to be wrong.
-use crate::area::{self, SIZE};
+use crate::area::{self, PARTS, SIZE};
 use crate::judge::{self, Fault};
 use crate::{theirs, Answer};
 use oracle::{fold, leaf, written};
@@ -33,6 +33,37 @@ fn refusal(number: u64, len: usize) -> Answer {
         ..Answer::default()
     }
 }
+
+/// The most that a part or a row takes beside its strings: letter, `=`, CR LF, what stands between its fields, 20 digits
+/// for each number, and a unit and a sign where it may have them.
+#[rustfmt::skip]
+const BESIDE: [usize; 16] = [
+    30, 0, 0, 0, 6, 5, // origin to key; name, description and uri are in FIXED
+    4, 4, 6, 25, // emails, phones, connections, bandwidths
+    45, 47, 22, 44, // times, repeats, offsets, zones
+    5, 57, // attributes, medias with title and key
+];
+
+/// v, s, i, u, `t=0 0` and the z line, without what they hold.
+const FIXED: usize = 28;
+
+/// From an output of so many bytes on, one pass writes; before a shorter one is written, another pass counts. Every string
+/// counts whole, absent or not. By docs/AREA.md, and not by our code; its definition is crates/sdp_room/specs/Room.antt.
+pub fn one_pass_from(area: &[u8]) -> usize {
+    let mut sum = FIXED;
+    for (part, beside) in PARTS.iter().zip(BESIDE) {
+        let (rows, first) = if part.rows == 0 { (1, part.at) } else { (judge::two(area, part.at), part.at + 2) };
+        for row in 0..rows {
+            let at = first + row * part.width;
+            let strings = part.fields.iter().filter(|(_, width, _)| *width == 4);
+            sum += beside + strings.map(|(offset, ..)| judge::two(area, at + offset + 2)).sum::<usize>();
+        }
+    }
+    sum
+}
+
+/// Noise in absent strings may ask for outputs of megabytes, which would be slow.
+const LONG_OUTPUT: usize = 100_000;
 
 /// What the crate's writer writes for an area that is good, by way of the decoder. An error is a rule of docs/AREA.md
 /// that is broken, or a string that Rust can't hold.
@@ -75,7 +106,7 @@ impl<W: Fn(&[u8], &[u8], &mut [u8]) -> Answer> Writing<W> {
     }
 
     /// Both sides on one area of `SIZE` bytes or more, with a text that isn't too long: into outputs that are empty,
-    /// short, exact and longer.
+    /// short, exact and longer, and so long that one pass is enough.
     pub fn compare(&self, text: &[u8], area: &[u8]) -> Result<Outcome, String> {
         let faults = judge::faults(text, area);
         let due = by_the_crate(text, area);
@@ -85,8 +116,14 @@ impl<W: Fn(&[u8], &[u8], &mut [u8]) -> Answer> Writing<W> {
                 for room in [0, 1, len / 2, len - 1] {
                     self.call(text, area, room, refusal(22, len), b"")?;
                 }
-                for room in [len, len + 1, len + 77] {
-                    self.call(text, area, room, refusal(0, len), &due)?;
+                let one_pass = one_pass_from(area);
+                if one_pass < len {
+                    return Err(format!("{len} bytes are written, and {one_pass} are said to be enough"));
+                }
+                for room in [len, len + 1, len + 77, one_pass] {
+                    if room <= len + 77 || room <= LONG_OUTPUT {
+                        self.call(text, area, room, refusal(0, len), &due)?;
+                    }
                 }
                 Ok(Outcome::Written(due))
             }

@@ -7,7 +7,7 @@ use compare::area::{
 use compare::judge::{cells, faults, judge, two, Fault, Kind, FAULTS};
 use compare::made::{self, at, put_eight, put_two, DAMAGES};
 use compare::whole::Whole;
-use compare::writing::{kept_lines, Outcome, Writing};
+use compare::writing::{kept_lines, one_pass_from, Outcome, Writing};
 use compare::{read, theirs, write, Answer};
 use generate::fields::BROKEN;
 use generate::random::count;
@@ -749,23 +749,85 @@ fn the_order_of_refusals() {
     assert_eq!(tried, 3 * 2 * 8 * 6);
 }
 
-/// An output of every length from none to a few more than needed.
-#[test]
-fn outputs_of_every_length() {
-    let (text, area) = rich();
-    let due = whole(&text, &area).into_bytes();
-    for room in 0..due.len() + 40 {
+/// Outputs of these lengths: too short is 22 and leaves the output as it was.
+fn into_outputs(text: &[u8], area: &[u8], rooms: impl Iterator<Item = usize>) -> usize {
+    let due = whole(text, area).into_bytes();
+    let mut tried = 0;
+    for room in rooms {
         let before: Vec<u8> = (0..room).map(|at| (at * 31) as u8 | 0x80).collect();
         let mut out = before.clone();
-        let answer = write(&text, &area, &mut out);
+        let answer = write(text, area, &mut out);
         if room < due.len() {
-            assert_eq!((answer, &out), (only(22, due.len()), &before));
+            assert_eq!((answer, &out), (only(22, due.len()), &before), "{room} bytes of output");
         } else {
-            assert_eq!(answer, only(0, due.len()));
-            assert!(out[..due.len()] == due[..] && out[due.len()..] == before[due.len()..]);
+            assert_eq!(answer, only(0, due.len()), "{room} bytes of output");
+            assert!(out[..due.len()] == due[..] && out[due.len()..] == before[due.len()..], "{room} bytes of output");
         }
+        tried += 1;
     }
-    println!("write: outputs of {} lengths", due.len() + 40);
+    tried
+}
+
+/// An output of every length, from none to twice that from which on one pass writes: the switch between one pass and two
+/// is surely among them.
+#[test]
+fn outputs_of_every_length() {
+    let numbers = [u64::MAX, 0, 86_400, 59];
+    let times = Seen {
+        times: (0..4).map(|at| Time { start: numbers[at], stop: u64::MAX }).collect(),
+        repeats: (0..4).map(|at| Repeat { owner: 1 + at / 2, interval: u64::MAX, duration: 7 * at }).collect(),
+        offsets: (0..8).map(|at| Offset { owner: 1 + at / 2, value: numbers[at as usize % 4] }).collect(),
+        zones: (0..6).map(|at| Zone { adjustment: u64::MAX, offset: i64::MIN + at }).collect(),
+        bandwidths: (0..6).map(|_| Bandwidth { owner: 0, bwtype: Span::default(), value: u64::MAX }).collect(),
+        ..Seen::default()
+    };
+    // of most strings nothing is left
+    let (mut dropped, mut dropping) = rich();
+    for byte in dropped.iter_mut().filter(|byte| !b" 0123456789".contains(byte)).step_by(2) {
+        *byte = b"\r\n\0"[usize::from(*byte) % 3];
+    }
+    let drops = b"\r\n\0".repeat(200);
+    put_two(&mut dropping, at("name", 0, "name"), dropped.len());
+    put_two(&mut dropping, at("name", 0, "name") + 2, drops.len());
+    dropped.extend(drops);
+    let mut noisy = vec![0; SIZE];
+    put_two(&mut noisy, at("uri", 0, "uri") + 2, 1_500); // absent, and counted all the same
+    let (text, area) = rich();
+    let mut tried = 0;
+    for (text, area) in [
+        (text, area),
+        (Vec::new(), plain::encode(&times)),
+        (dropped, dropping),
+        (Vec::new(), vec![0; SIZE]),
+        (Vec::new(), noisy),
+    ] {
+        let one_pass = one_pass_from(&area);
+        assert!(whole(&text, &area).len() < one_pass);
+        tried += into_outputs(&text, &area, 0..2 * one_pass);
+    }
+    println!("write: outputs of {tried} lengths");
+    assert!(tried > 5_000);
+}
+
+/// Every string in turn is so long that all else is little beside it. If one weren't counted in the room that is surely
+/// enough, or not wholly, one pass would be taken for an output that is too short.
+#[test]
+fn outputs_beside_a_long_string() {
+    let (mut text, area) = rich();
+    let place = text.len();
+    text.extend(b"x".repeat(5_000));
+    let mut tried = 0;
+    for cell in cells(&area).iter().filter(|cell| cell.judged && cell.kind == Kind::Text) {
+        let mut long = area.clone();
+        put_two(&mut long, cell.at, place);
+        put_two(&mut long, cell.at + 2, 5_000);
+        let (needed, one_pass) = (whole(&text, &long).len(), one_pass_from(&long));
+        assert!(needed > 5_000 && needed < one_pass && one_pass / 2 < needed);
+        let rooms = [0, 1, one_pass / 2, needed - 1, needed, one_pass - 1, one_pass, one_pass + 1];
+        tried += into_outputs(&text, &long, rooms.into_iter());
+    }
+    println!("write: outputs of {tried} lengths beside a long string");
+    assert!(tried >= 8 * 40);
 }
 
 /// The area that a refused reading leaves is all zero: the session of `v=0`.
