@@ -6,7 +6,7 @@ use Prim.Native.Nat.{ℕ, zero, suc, _+_, _*_, _-_, _≤_, _<_}
 use native.Mathlib.Nat.{suc-mul, add-mul, one-mul, mul-comm, mul-le-mul-right}
 use native.Mathlib.Omega.{arith}
 use lib.Dec.{leb}
-use borrow.Author.Tests.{leb-true, leb-false, ne-eqb}
+use borrow.Author.Tests.{leb-true, leb-false}
 use Rattle.sdp_bytes.proofs.ScanLaws.{and-left, and-right}
 use Rattle.sdp_cells.specs.Bytes.{num}
 use Rattle.sdp_area.specs.Area.{connectionsAt, bandwidthsAt, repeatsAt, offsetsAt, attributesAt, mediasAt, timesAt}
@@ -14,8 +14,8 @@ use Rattle.sdp_valid.specs.Judge as judge
 use Rattle.sdp_valid.specs.Judge.{rising, owned, owners, smallCounts, largeCounts, fineHead, fineTables, wellFormed}
 use Rattle.sdp_put.specs.Out.{Put}
 use Rattle.sdp_put.proofs.OutLaws.{Same, begin, turn, finish, said, nothing}
-use Rattle.sdp_row.specs.Written
 use Rattle.sdp_row.specs.Written.{mine}
+use Rattle.sdp_row.proofs.LineLaws.{mine-other}
 use Rattle.sdp_write.specs.Tables.{eachAt, NeverFall, Parted}
 use Rattle.sdp_write.proofs.RowLaws.{rows-more, rows-none}
 
@@ -137,8 +137,7 @@ module _ (f : ℕ → ℕ → List ℕ) (w : ℕ) where
 
 -- what is another's
 pub others : (n o : ℕ) (bs : List ℕ) → (o ≡ n → ⊥) → mine n o bs ≡ []
-unfolding Written.mine
-others n o bs h = rw (ne-eqb o n h)
+others n o bs h = sym (mine-other n o o bs refl h)
 
 -- a table without rows
 pub no-rows : (f : ℕ → ℕ → List ℕ) (a : List ℕ) (base w : ℕ) (o : List ℕ) (at : ℕ) → num 2 a base ≡ 0 → Put o at (eachAt f w (num 2 a base) 1 (base + 2)) o at

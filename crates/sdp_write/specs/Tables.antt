@@ -20,7 +20,7 @@ offsetsIn a = table offsetOf 10 a offsetsAt
 pub record NeverFall (a : List ℕ) (base w : ℕ) : Type 0 where
   pub rise : (i j : ℕ) → i ≤ j → j < num 2 a base → num 2 a (base + 2 + i * w) ≤ num 2 a (base + 2 + j * w)
 
--- of the rows lo to hi, those before r have an owner below n, and the others have none
+-- of the rows lo to hi, those before r have an owner below n, and from r on the owner is n or a later one
 pub record Parted (a : List ℕ) (base w n lo hi r : ℕ) : Type 0 where
   pub low : lo ≤ r
   pub high : r ≤ hi
