@@ -285,7 +285,7 @@ fn refusals_in_words() {
 // ---- the program
 
 /// As cargo runs the tests: on x86-64 directly, else under the kit's emulator.
-const RUNNER: &str = concat!(env!("CARGO_MANIFEST_DIR"), "/../run-x86");
+const RUNNER: &str = concat!(env!("CARGO_MANIFEST_DIR"), "/../../gate/run-x86");
 const PROGRAM: &str = env!("CARGO_BIN_EXE_beside");
 
 fn run(words: &[&str], input: &[u8]) -> Output {

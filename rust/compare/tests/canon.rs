@@ -35,7 +35,7 @@ impl Run {
     /// With more in its environment.
     fn start_with(more: &[(&str, &str)]) -> Self {
         // as cargo runs the tests: on x86-64 directly, else under the kit's emulator
-        let runner = concat!(env!("CARGO_MANIFEST_DIR"), "/../run-x86");
+        let runner = concat!(env!("CARGO_MANIFEST_DIR"), "/../../gate/run-x86");
         let mut child = Command::new(runner)
             .arg(program())
             .envs(more.iter().copied())
@@ -342,7 +342,7 @@ fn interrupted_calls() {
     let folder = env!("CARGO_TARGET_TMPDIR");
     let (library, told) = (format!("{folder}/calls.so"), format!("{folder}/interrupted"));
     let source = format!("{here}/tests/interrupted/calls.c");
-    let made = Command::new(format!("{here}/../link-x86"))
+    let made = Command::new(format!("{here}/../../gate/link-x86"))
         .args(["-shared", "-fPIC", "-Wall", "-Werror", "-o", &library, &source])
         .status();
     assert!(made.expect("the C compiler runs").success(), "{source} can be compiled");

@@ -5,7 +5,7 @@ use std::process::{Child, Command, Output, Stdio};
 
 /// As cargo runs the tests: on x86-64 directly, else under the kit's emulator.
 fn start(words: &[&str]) -> Child {
-    let runner = concat!(env!("CARGO_MANIFEST_DIR"), "/../run-x86");
+    let runner = concat!(env!("CARGO_MANIFEST_DIR"), "/../../gate/run-x86");
     let mut command = Command::new(runner);
     command.arg(env!("CARGO_BIN_EXE_long-run")).args(words).stdout(Stdio::piped()).stderr(Stdio::piped());
     command.spawn().unwrap_or_else(|error| panic!("{runner}: {error}"))

@@ -12,7 +12,7 @@ use std::thread;
 pub fn compiled(source: &str, name: &str) -> PathBuf {
     let archive = std::env::var("RATTLE_STATICLIB").unwrap_or(path("target/staticlib")) + "/libsdp.a";
     let program = PathBuf::from(env!("CARGO_TARGET_TMPDIR")).join(name);
-    let made = Command::new(path("rust/link-x86"))
+    let made = Command::new(path("gate/link-x86"))
         .args(["-std=c11", "-O2", "-Wall", "-Wextra", "-Werror", "-pedantic", "-I", &path("c"), "-o"])
         .arg(&program)
         .args([&path(source), &archive])
@@ -25,7 +25,7 @@ pub fn compiled(source: &str, name: &str) -> PathBuf {
 pub fn run_to(program: &PathBuf, arguments: &[&str], input: &[u8], output: Option<&str>) -> Output {
     let open = |file| OpenOptions::new().write(true).open(file).expect("the output can be opened");
     let output = output.map(open);
-    let mut child = Command::new(path("rust/run-x86"))
+    let mut child = Command::new(path("gate/run-x86"))
         .arg(program)
         .args(arguments)
         .stdin(Stdio::piped())
