@@ -1,8 +1,8 @@
 //! The declarations for C (c/sdp.h) and for Rust (src/ffi.rs) are those of the archive's source.
 mod c;
 mod page;
-use page::{file, path, table};
-use sdp::{ffi, words, Area, LONGEST, ROOM};
+use page::{fields, file, path, table};
+use sdp::{ffi, Area, LONGEST, ROOM};
 use std::collections::{BTreeMap, BTreeSet};
 use std::process::Command;
 
@@ -189,17 +189,33 @@ fn the_constants() {
     assert_eq!((take("SDP_AREA_SIZE"), ffi::area_size()), (Area::SIZE, Area::SIZE));
     assert_eq!(take("SDP_LONGEST"), LONGEST);
     assert_eq!(take("SDP_ROOM"), ROOM);
-    for row in table("docs/AREA.md", "The parts").iter().take(16) {
-        let name = format!("SDP_{}", row[0].to_uppercase().replace(' ', "_"));
+    let parts = table("docs/AREA.md", "The parts");
+    for row in parts.iter().take(16) {
+        let name = constant(&row[0]);
         assert_eq!(take(&name).to_string(), row[1], "{name}");
         if row[3] != "-" {
             assert_eq!(take(&format!("{name}_ROW")).to_string(), row[4], "{name}_ROW");
         }
+        // its fields follow each other without a gap, up to its end or the row's
+        let mut end = 0;
+        for cells in fields("docs/AREA.md", &row[0]) {
+            let field = format!("{name}_{}", &constant(&cells[2])[4..]);
+            assert_eq!((take(&field), cells[0].clone()), (end, end.to_string()), "{field}");
+            end += cells[1].parse::<usize>().expect("a number of bytes");
+        }
+        assert_eq!(end.to_string(), if row[3] == "-" { &row[2] } else { &row[4] }.clone(), "{name}");
     }
-    // what is left are the refusals, each number once, from 0 on
-    let mut left: Vec<usize> = constants.values().copied().collect();
-    left.sort();
-    assert_eq!(left, (0..=words::SENTENCES.len()).collect::<Vec<_>>(), "{constants:#?}");
+    // the refusals, each by its name
+    assert_eq!(take("SDP_DONE"), 0);
+    for row in table("docs/REFUSALS.md", "Refusals") {
+        assert_eq!(take(row[4].trim_matches('`')).to_string(), row[0], "{}", row[4]);
+    }
+    assert_eq!(constants, BTreeMap::new(), "these stand on no page");
+}
+
+/// The header's name for what a page calls so.
+fn constant(words: &str) -> String {
+    format!("SDP_{}", words.to_uppercase().replace([' ', '-'], "_"))
 }
 
 /// The room that is enough is that of the theorem.

@@ -9,6 +9,22 @@ static void numeral(struct sdp_numeral n) {
     printf("%" PRIu64 " %" PRIu64 "\n", n.number, n.value);
 }
 
+/* "With length 0 a pointer may be anything": every function, with NULL. The answers are those for no bytes. */
+static int empty(void) {
+    static uint8_t area[SDP_AREA_SIZE];
+    struct sdp_answer read = sdp_read(NULL, 0, area, sizeof area), short_area = sdp_read(NULL, 0, NULL, 0);
+    struct sdp_answer written = sdp_write(NULL, 0, area, sizeof area, NULL, 0);
+    if (read.number != SDP_NO_VERSION || short_area.number != SDP_AREA_TOO_SHORT) return 2;
+    /* a zero area is a session of its own, that of v=0 */
+    if (written.number != SDP_OUTPUT_TOO_SHORT || written.len != 40) return 3;
+    if (sdp_write(NULL, 0, NULL, 0, NULL, 0).number != SDP_AREA_TOO_SHORT) return 4;
+    if (sdp_utf8_end(NULL, 0) != 0 || sdp_is_token(NULL, 0)) return 5;
+    if (sdp_number16(NULL, 0).number != SDP_BAD_FORM || sdp_number64(NULL, 0).number != SDP_BAD_FORM) return 6;
+    if (sdp_typed_time(NULL, 0).number != SDP_BAD_FORM || sdp_cut(NULL, 0, 0, 1).kind != 0) return 7;
+    if (sdp_letter_order(NULL, 0).number != 0 || sdp_letter_order(NULL, 0).yes != 0) return 8;
+    return 0;
+}
+
 int main(void) {
     static uint8_t text[SDP_LONGEST], area[SDP_AREA_SIZE], out[20];
     size_t len = fread(text, 1, sizeof text, stdin);
@@ -26,5 +42,5 @@ int main(void) {
     answer(sdp_read(text, len, area, sizeof area));
     answer(sdp_write(text, len, area, sizeof area, out, sizeof out));
     printf("%" PRIu64 " %" PRIu64 "\n%zu\n", order.number, order.yes, sdp_area_size());
-    return 0;
+    return empty();
 }

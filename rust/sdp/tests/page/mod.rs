@@ -13,8 +13,17 @@ pub fn file(of: &str) -> String {
 
 /// The rows of the page's table under a heading, without its head.
 pub fn table(page: &str, heading: &str) -> Vec<Vec<String>> {
+    rows(page, &format!("## {heading}"))
+}
+
+/// The same under a smaller heading: the fields of one part.
+pub fn fields(page: &str, part: &str) -> Vec<Vec<String>> {
+    rows(page, &format!("### {part}"))
+}
+
+fn rows(page: &str, heading: &str) -> Vec<Vec<String>> {
     let text = file(page);
-    let under = text.lines().skip_while(|line| *line != format!("## {heading}")).skip(1);
+    let under = text.lines().skip_while(|line| *line != heading).skip(1);
     let rows = under.take_while(|line| !line.starts_with('#')).filter(|line| line.starts_with('|'));
     let cells = |row: &str| row[1..row.len() - 1].split('|').map(|cell| cell.trim().to_string()).collect();
     let rows: Vec<Vec<String>> = rows.skip(2).map(cells).collect();
