@@ -92,15 +92,21 @@ use Rattle.sdp_decode.proofs.num2.Reads as sdpDecodeNum2
 use Rattle.sdp_decode.proofs.num8.Reads as sdpDecodeNum8
 use Rattle.sdp_valid.proofs.judge.Reads as sdpValidJudge
 use Rattle.sdp_room.proofs.room_for.Reads as sdpRoomRoomFor
+use Rattle.sdp_row.proofs.put_string.Reads as sdpRowPutString
 use Rattle.sdp_row.proofs.put_string_line.Reads as sdpRowPutStringLine
 use Rattle.sdp_row.proofs.put_maybe_line.Reads as sdpRowPutMaybeLine
 use Rattle.sdp_row.proofs.put_spaced_time.Reads as sdpRowPutSpacedTime
 use Rattle.sdp_row.proofs.put_origin.Reads as sdpRowPutOrigin
+use Rattle.sdp_row.proofs.put_connection.Reads as sdpRowPutConnection
 use Rattle.sdp_row.proofs.put_session_connection.Reads as sdpRowPutSessionConnection
-use Rattle.sdp_row.proofs.put_key.Reads as sdpRowPutKey
-use Rattle.sdp_row.proofs.put_row.Reads as sdpRowPutRow
 use Rattle.sdp_row.proofs.put_time_line.Reads as sdpRowPutTimeLine
 use Rattle.sdp_row.proofs.put_media_line.Reads as sdpRowPutMediaLine
+use Rattle.sdp_table_row.proofs.put_key.Reads as sdpTableRowPutKey
+use Rattle.sdp_table_row.proofs.put_owned.Reads as sdpTableRowPutOwned
+use Rattle.sdp_table_row.proofs.put_row.Reads as sdpTableRowPutRow
+use Rattle.sdp_tables.proofs.put_contact.Reads as sdpTablesPutContact
+use Rattle.sdp_tables.proofs.put_closing.Reads as sdpTablesPutClosing
+use Rattle.sdp_tables.proofs.put_medias.Reads as sdpTablesPutMedias
 use Rattle.sdp_write.proofs.write.Reads as sdpWriteWrite
 use Rattle.sdp_order.proofs.letter_order.Reads as sdpOrderLetterOrder
 use Rattle.sdp_order.proofs.verdict_of.Reads as sdpOrderVerdictOf
@@ -401,6 +407,9 @@ pub sdp-room-room-for : OneAnswer sdpRoomRoomFor.Learnt
 sdp-room-room-for κs a z z′ e e′ p q = same (p .0) (q .0)
 
 -- ---- sdp_row
+pub sdp-row-put-string : OnePut (λ κs a. now (a .0)) (λ κs a. a .1 .0) (λ κs e. now (e .0)) sdpRowPutString.Learnt
+sdp-row-put-string κs a z z′ e e′ l k p q = same-put l k p q
+
 pub sdp-row-put-string-line : OnePut (λ κs a. now (a .0)) (λ κs a. a .1 .0) (λ κs e. now (e .0)) sdpRowPutStringLine.Learnt
 sdp-row-put-string-line κs a z z′ e e′ l k p q = same-put l k p q
 
@@ -413,20 +422,37 @@ sdp-row-put-spaced-time κs a z z′ e e′ l k p q = same-put l k p q
 pub sdp-row-put-origin : OnePut (λ κs a. now (a .0)) (λ κs a. a .1 .0) (λ κs e. now (e .0)) sdpRowPutOrigin.Learnt
 sdp-row-put-origin κs a z z′ e e′ l k p q = same-put l k p q
 
+pub sdp-row-put-connection : OnePut (λ κs a. now (a .0)) (λ κs a. a .1 .0) (λ κs e. now (e .0)) sdpRowPutConnection.Learnt
+sdp-row-put-connection κs a z z′ e e′ l k p q = same-put l k p q
+
 pub sdp-row-put-session-connection : OnePut (λ κs a. now (a .0)) (λ κs a. a .1 .0) (λ κs e. now (e .0)) sdpRowPutSessionConnection.Learnt
 sdp-row-put-session-connection κs a z z′ e e′ l k p q = same-put l k p q
-
-pub sdp-row-put-key : OnePut (λ κs a. now (a .0)) (λ κs a. a .1 .0) (λ κs e. now (e .0)) sdpRowPutKey.Learnt
-sdp-row-put-key κs a z z′ e e′ l k p q = same-put l k p q
-
-pub sdp-row-put-row : OnePut (λ κs a. now (a .0)) (λ κs a. a .1 .0) (λ κs e. now (e .0)) sdpRowPutRow.Learnt
-sdp-row-put-row κs a z z′ e e′ l k p q = same-put l k p q
 
 pub sdp-row-put-time-line : OnePut (λ κs a. now (a .0)) (λ κs a. a .1 .0) (λ κs e. now (e .0)) sdpRowPutTimeLine.Learnt
 sdp-row-put-time-line κs a z z′ e e′ l k p q = same-put l k p q
 
 pub sdp-row-put-media-line : OnePut (λ κs a. now (a .0)) (λ κs a. a .1 .0) (λ κs e. now (e .0)) sdpRowPutMediaLine.Learnt
 sdp-row-put-media-line κs a z z′ e e′ l k p q = same-put l k p q
+
+-- ---- sdp_table_row
+pub sdp-table-row-put-key : OnePut (λ κs a. now (a .0)) (λ κs a. a .1 .0) (λ κs e. now (e .0)) sdpTableRowPutKey.Learnt
+sdp-table-row-put-key κs a z z′ e e′ l k p q = same-put l k p q
+
+pub sdp-table-row-put-owned : OnePut (λ κs a. now (a .0)) (λ κs a. a .1 .0) (λ κs e. now (e .0)) sdpTableRowPutOwned.Learnt
+sdp-table-row-put-owned κs a z z′ e e′ l k p q = same-put l k p q
+
+pub sdp-table-row-put-row : OnePut (λ κs a. now (a .0)) (λ κs a. a .1 .0) (λ κs e. now (e .0)) sdpTableRowPutRow.Learnt
+sdp-table-row-put-row κs a z z′ e e′ l k p q = same-put l k p q
+
+-- ---- sdp_tables
+pub sdp-tables-put-contact : OnePut (λ κs a. now (a .0)) (λ κs a. a .1 .0) (λ κs e. now (e .0)) sdpTablesPutContact.Learnt
+sdp-tables-put-contact κs a z z′ e e′ l k p q = same-put l k p q
+
+pub sdp-tables-put-closing : OnePut (λ κs a. now (a .0)) (λ κs a. a .1 .0) (λ κs e. now (e .0)) sdpTablesPutClosing.Learnt
+sdp-tables-put-closing κs a z z′ e e′ l k p q = same-put l k p q
+
+pub sdp-tables-put-medias : OnePut (λ κs a. now (a .0)) (λ κs a. a .1 .0) (λ κs e. now (e .0)) sdpTablesPutMedias.Learnt
+sdp-tables-put-medias κs a z z′ e e′ l k p q = same-put l k p q
 
 -- ---- sdp_write
 pub sdp-write-write : OneState (λ κs e. now (e .1 .1 .0)) sdpWriteWrite.Learnt

@@ -1,21 +1,19 @@
 -- Lines: what a line is made of, and its parts by cases. Assumes nothing.
 use mathlib.Core.Path.{_≡_, sym, ap, ap₂, _∙_}
-use mathlib.Core.Bool.{true, false}
 use mathlib.Core.List.{List, [], _∷_}
-use Prim.Native.Nat.{ℕ, _+_, _-_, _^_, _≤_, _<_, min}
+use Prim.Native.Nat.{ℕ, _+_, _-_, _≤_, _<_, min}
 use native.Mathlib.Omega.{arith}
 use lib.ListN.{length, take, drop, length-take, length-drop}
-use borrow.Author.Tests.{eq-eqb, ne-eqb, le-leb, lt-leb}
+use borrow.Author.Tests.{eq-eqb, ne-eqb}
 use Rattle.sdp_cells.specs.Bytes.{num}
 use Rattle.sdp_put.specs.Out.{Put}
-use Rattle.sdp_put.specs.Digits.{offsetText}
 use Rattle.sdp_put.specs.Strings.{part, clean}
 use Rattle.sdp_put.proofs.OutLaws.{_then_}
 use Rattle.sdp_lines.specs.Strings.{bytesOf}
 use Rattle.sdp_decode.specs.Rows.{marked}
 use Rattle.sdp_decode.specs.Decode.{spanOf}
 use Rattle.sdp_decode.proofs.CellLaws.{marked-none, marked-some}
-use Rattle.sdp_row.specs.Written.{line, mine, optional, signedText, between, orDash}
+use Rattle.sdp_row.specs.Written.{line, optional, orDash}
 
 -- a line: its letter, its value, its ending
 pub in-line : {o o₁ o₂ o₃ v : List ℕ} {letter at r₁ r₂ r₃ : ℕ} → Put o at (letter ∷ 0x3d ∷ []) o₁ r₁ → Put o₁ r₁ v o₂ r₂ → Put o₂ r₂ (0x0d ∷ 0x0a ∷ []) o₃ r₃ → Put o at (line letter v) o₃ r₃
@@ -33,16 +31,6 @@ module _ {X : Type 0} (f : X → List ℕ) (rd : List ℕ → ℕ → X) (a : Li
 
   pub present : (n ≡ 0 → ⊥) → f (rd a (p + 2)) ≡ optional f (marked rd a p)
   present z = sym (ap (optional f) (marked-some rd a p n e z))
-
--- ---- the owner o, read as m
-module _ (n o m : ℕ) (bs : List ℕ) (e : m ≡ o) where
-  pub mine-own : m ≡ n → bs ≡ mine n o bs
-  unfolding mine
-  mine-own h = rw (← e, eq-eqb m n h)
-
-  pub mine-other : (m ≡ n → ⊥) → [] ≡ mine n o bs
-  unfolding mine
-  mine-other h = rw (← e, ne-eqb m n h)
 
 -- ---- the username
 -- no bytes: the length is 0, or the place is past the text
@@ -67,16 +55,3 @@ module _ (t a : List ℕ) (p : ℕ) where
 
     pub name-there : (len : ℕ) → len ≡ num 2 a (p + 2) → (len ≡ 0 → ⊥) → place < length t → clean (bytesOf t (spanOf a p)) ≡ orDash (bytesOf t (spanOf a p))
     name-there len l z h = no-dash (bytesOf t (spanOf a p)) (λ q. z (omega (arith, q, length-string)))
-
--- ---- the sign
-pub signed-minus : (v m : ℕ) → 2 ^ 63 ≤ v → m ≡ 2 ^ 64 - v → offsetText true m ≡ signedText v
-signed-minus v m h e = rw (e, le-leb (2 ^ 63) v h)
-
-pub signed-plain : (v : ℕ) → v < 2 ^ 63 → offsetText false v ≡ signedText v
-signed-plain v h = rw (lt-leb (2 ^ 63) v h)
-
-pub between-none : (k : ℕ) → k ≡ 1 → [] ≡ between k
-between-none k e = rw (eq-eqb k 1 e)
-
-pub between-some : (k : ℕ) → (k ≡ 1 → ⊥) → (0x20 ∷ []) ≡ between k
-between-some k e = rw (ne-eqb k 1 e)

@@ -1,3 +1,1 @@
-pub mod RowLaws
-pub mod OwnerLaws
 pub mod WriteLaws

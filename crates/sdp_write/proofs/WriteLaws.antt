@@ -1,6 +1,6 @@
 -- The whole: the answers by cases, and what the two passes leave. Assumes nothing.
 use mathlib.Core.Path.{_≡_, sym, ap, _∙_}
-use mathlib.Core.Bool.{true, false}
+use mathlib.Core.Bool.{true, false, _&&_}
 use mathlib.Core.List.{List, _++_}
 use Prim.Native.Nat.{ℕ, _+_, _≤_, _<_, _^_}
 use native.Mathlib.Omega.{arith}
@@ -10,7 +10,9 @@ use Rattle.sdp_lines.specs.declared.Answer.{Answer}
 use Rattle.sdp_area.specs.Area.{size}
 use Rattle.sdp_put.specs.Out.{put, Put}
 use Rattle.sdp_put.proofs.OutLaws.{put-out, put-room}
-use Rattle.sdp_valid.specs.Judge.{wellFormed}
+use Rattle.sdp_bytes.proofs.ScanLaws.{and-left, and-right}
+use Rattle.sdp_valid.specs.Judge as judge
+use Rattle.sdp_valid.specs.Judge.{owners, smallCounts, largeCounts, fineHead, fineTables, wellFormed}
 use Rattle.sdp_write.specs.Write.{Outcome, answer, textOf, writeText}
 
 -- what an answer and an output must be, by a case of the outcome
@@ -41,6 +43,11 @@ module _ (t a o : List ℕ) where
         pub all-written : n ≤ length o → writeText t a o ≡ record { answer = answer 0 n; out = textOf t a ++ drop n o }
         unfolding writeText
         all-written h = rw (le-ltb (length a) size p, le-ltb 32768 (length t) q, f, ← e, le-ltb (length o) n h)
+
+-- the owners of a session that `judge` found well formed
+pub well-owned : (a t : List ℕ) → wellFormed a t ≡ true → owners a ≡ true
+unfolding judge.wellFormed
+well-owned a t h = and-left (owners a) (fineHead a t && fineTables a t) (and-right (largeCounts a) _ (and-right (smallCounts a) _ h))
 
 -- ---- one pass, where there is room
 pub fits : (o o₁ w : List ℕ) (end room : ℕ) → length w ≤ room → room ≤ length o → length o < 2 ^ 63 → Put o 0 w o₁ end

@@ -1,6 +1,5 @@
 -- `sdp_write::write` meets its contract. Assumes nothing.
-use Rattle.sdp_write.proofs.WriteLaws.{settled, area-short, text-long, bad-session, out-short, all-written, fits, counted, filled}
-use Rattle.sdp_write.proofs.OwnerLaws.{well-owned}
+use Rattle.sdp_write.proofs.WriteLaws.{well-owned, settled, area-short, text-long, bad-session, out-short, all-written, fits, counted, filled}
 use Rattle.sdp_room.proofs.RoomLaws.{written-room}
 use Rattle.sdp_write.specs.Write.{textOf}
 use mathlib.Core.Path.{_≡_, refl, sym, _∙_}

@@ -1,0 +1,47 @@
+-- `sdp_table_row::put_owned` meets its contract. Assumes nothing.
+use Rattle.sdp_put.proofs.OutLaws.{said}
+use Rattle.sdp_put.specs.Digits.{timeText}
+use Rattle.sdp_row.specs.Written.{spaced}
+use mathlib.Core.Path.{ap}
+use Prim.Native.Nat.{ℕ}
+use borrow.Author.Needs.{needs}
+use Rattle.sdp_table_row.proofs.put_owned.Statement.{statement}
+use Rattle.sdp_table_row.proofs.put_owned.Tie as tie
+
+returns : tie.Need-returns
+returns c = rw (c .before .before .before .before .enum-told .given .1) (c .before .before .put-connection .ensures)
+
+returns-2 : tie.Need-returns-2
+returns-2 c = rw (c .before .before .before .before .enum-told2 .given .1) (c .before .before .put-bandwidth .ensures)
+
+returns-3 : tie.Need-returns-3
+returns-3 c = rw (c .before .before .before .before .before .enum-told3 .given .1) (said (ap (λ (v : ℕ). spaced (timeText v)) (c .before .before .before .num8 .ensures)) (c .before .before .put-spaced-time .ensures))
+
+returns-4 : tie.Need-returns-4
+returns-4 c = rw (c .before .before .before .before .enum-told4 .given .1) (c .before .before .put-pair .ensures)
+
+pub put-owned-spec : {M : Type 1} → statement M
+put-owned-spec =
+    tie.close
+    (tie.spec
+    (λ c. search needs)
+    (λ c. search needs)
+    (λ c κs. search needs)
+    (λ c. search needs)
+    (λ c κs. search needs)
+    (λ c. search needs)
+    (λ c. search needs)
+    (λ c κs. search needs)
+    (λ c κs. search needs)
+    (λ c. search needs)
+    (λ c. search needs)
+    (λ c. search needs)
+    (λ c κs. search needs)
+    (λ c. search needs)
+    returns
+    (λ c. search needs)
+    returns-2
+    (λ c. search needs)
+    returns-3
+    (λ c. search needs)
+    returns-4)

@@ -1,0 +1,33 @@
+-- What the table loops put: the rows of a table by their places in the area.
+use Prim.Native.Nat.{ℕ, zero, suc, _+_, _*_, _≤_, _<_}
+use mathlib.Core.List.{List, [], _++_}
+use Rattle.sdp_cells.specs.Bytes.{num}
+use Rattle.sdp_area.specs.Area.{offsetsAt}
+use Rattle.sdp_area.specs.Session.{Offset}
+use Rattle.sdp_decode.specs.Rows.{table}
+use Rattle.sdp_decode.specs.Decode.{offsetOf}
+use Rattle.sdp_row.specs.Written.{mine}
+
+-- n rows of w bytes each, from place p on, each with its number, counted on from k
+unfoldable pub eachAt : (ℕ → ℕ → List ℕ) → ℕ → ℕ → ℕ → ℕ → List ℕ
+eachAt f w zero k p = []
+eachAt f w (suc n) k p = f k p ++ eachAt f w n (k + 1) (p + w)
+
+-- what f gives of row k at place p, where its owner is n
+abbrev pub own : List ℕ → ℕ → (ℕ → ℕ → List ℕ) → ℕ → ℕ → List ℕ
+own a n f k p = mine n (num 2 a p) (f k p)
+
+-- the offsets that the area holds
+abbrev pub offsetsIn : List ℕ → List Offset
+offsetsIn a = table offsetOf 10 a offsetsAt
+
+-- "owners never fall": those of the table at base, whose rows have w bytes
+pub record NeverFall (a : List ℕ) (base w : ℕ) : Type 0 where
+  pub rise : (i j : ℕ) → i ≤ j → j < num 2 a base → num 2 a (base + 2 + i * w) ≤ num 2 a (base + 2 + j * w)
+
+-- of the rows lo to hi, those before r have an owner below n, and from r on the owner is n or a later one
+pub record Parted (a : List ℕ) (base w n lo hi r : ℕ) : Type 0 where
+  pub low : lo ≤ r
+  pub high : r ≤ hi
+  pub earlier : (j : ℕ) → lo ≤ j → j < r → num 2 a (base + 2 + j * w) < n
+  pub later : (j : ℕ) → r ≤ j → j < hi → n ≤ num 2 a (base + 2 + j * w)
