@@ -2,12 +2,13 @@
 ghost use mathlib.Core.Path.{_≡_};
 ghost use Prim.Native.Nat.{_≤_};
 ghost use Rattle.sdp_split.specs.Split.{Inside, Within, pieceAfter};
-ghost use Rattle.sdp_judge.specs.Read.{got, encoding, format, missing, trailing};
+ghost use Rattle.sdp_judge.specs.Read.{got};
 ghost use Rattle.sdp_fields.specs.Records.{usernameOf, numPorts, originOf, addressOf, connectionOf, bandwidthOf, timesOf, pairOf, portOf, mediaOf, repeatHead};
 ghost use Rattle.sdp_fields.specs.Answers.{portField, zoneSecond, originAnswer, connectionAnswer, bandwidthAnswer, timeAnswer, pairAnswer, portAnswer, mediaAnswer, repeatAnswer, offsetAt, zoneAt};
 use sdp_bytes::search::index_of;
 use sdp_judge::Amount;
 use sdp_judge::Choice;
+use sdp_judge::Fault;
 use sdp_judge::MaybePiece;
 use sdp_judge::OffsetRead;
 use sdp_judge::Text;
@@ -21,6 +22,7 @@ use sdp_judge::word_number;
 use sdp_judge::word_text;
 use sdp_judge::word_time;
 use sdp_judge::word_token;
+use sdp_judge::wrong_of;
 use sdp_number::Number;
 use sdp_number::number16;
 use sdp_split::Field;
@@ -159,30 +161,6 @@ pub enum ZoneRead {
     Refused(Wrong),
 }
 
-fn encoding(field: u64) -> Wrong
-    ensures { λ r. ⌜ r ≡ encoding field ⌝ }
-{
-    Wrong { number: 8, field }
-}
-
-fn format(field: u64) -> Wrong
-    ensures { λ r. ⌜ r ≡ format field ⌝ }
-{
-    Wrong { number: 9, field }
-}
-
-fn missing(field: u64) -> Wrong
-    ensures { λ r. ⌜ r ≡ missing field ⌝ }
-{
-    Wrong { number: 10, field }
-}
-
-fn trailing(field: u64) -> Wrong
-    ensures { λ r. ⌜ r ≡ trailing field ⌝ }
-{
-    Wrong { number: 11, field }
-}
-
 // A username `-` means absent.
 fn username_of(v: &[u8], p: Piece) -> MaybePiece
     requires { ⌜ Inside (now v) p ⌝ }
@@ -233,7 +211,7 @@ fn word_address(v: &[u8], i: usize, w: u64) -> ConnectionRead
         Text::Refused(x) => return ConnectionRead::Refused(x),
     };
     if let Field::Got { piece: _, next: _ } = word_at(v, address.next) {
-        return ConnectionRead::Refused(trailing(w + 3));
+        return ConnectionRead::Refused(wrong_of(Fault::Trailing, w + 3));
     }
     let nettype = nettype.piece;
     let addrtype = addrtype.piece;
@@ -306,7 +284,7 @@ impl Bandwidth {
             Amount::Refused(x) => return BandwidthRead::Refused(x),
         };
         if let Field::Got { piece: _, next: _ } = piece_after(v, amount.next, b':') {
-            return BandwidthRead::Refused(trailing(14));
+            return BandwidthRead::Refused(wrong_of(Fault::Trailing, 14));
         }
         let bwtype = bwtype.piece;
         BandwidthRead::Got(Bandwidth {
@@ -330,7 +308,7 @@ impl Time {
             Amount::Refused(x) => return TimeRead::Refused(x),
         };
         if let Field::Got { piece: _, next: _ } = word_at(v, stop.next) {
-            return TimeRead::Refused(trailing(17));
+            return TimeRead::Refused(wrong_of(Fault::Trailing, 17));
         }
         TimeRead::Got(Time {
             start_time: start.value,
@@ -377,8 +355,8 @@ fn num_ports(s: &[u8], i: usize, port: u64) -> PortRead
             port,
             num_ports: MaybeNumber { there: true, value },
         }),
-        Number::Encoding => PortRead::Refused(format(30)),
-        Number::Format => PortRead::Refused(format(30)),
+        Number::Encoding => PortRead::Refused(wrong_of(Fault::Format, 30)),
+        Number::Format => PortRead::Refused(wrong_of(Fault::Format, 30)),
     }
 }
 
@@ -388,13 +366,13 @@ impl Port {
         ensures { λ r. ⌜ r ≡ portAnswer (portOf (now (s .entry))) ⌝ }
     {
         if !is_utf8(s) {
-            return PortRead::Refused(encoding(29));
+            return PortRead::Refused(wrong_of(Fault::Encoding, 29));
         }
         let slash = index_of(s, b'/');
         match number16(&s[..slash]) {
             Number::Value(n) => num_ports(s, slash, n),
-            Number::Encoding => PortRead::Refused(format(28)),
-            Number::Format => PortRead::Refused(format(28)),
+            Number::Encoding => PortRead::Refused(wrong_of(Fault::Format, 28)),
+            Number::Format => PortRead::Refused(wrong_of(Fault::Format, 28)),
         }
     }
 }
@@ -405,7 +383,7 @@ fn port_of(v: &[u8], f: Field) -> PortField
     ensures { λ r. ⌜ r ≡ portField (now (v .entry)) f ⌝ }
 {
     match f {
-        Field::Nothing => PortField::Refused(missing(28)),
+        Field::Nothing => PortField::Refused(wrong_of(Fault::Missing, 28)),
         Field::Got { piece, next } => {
             let at = piece.at;
             let end = at + piece.len;
@@ -500,7 +478,7 @@ fn zone_second(v: &[u8], n: u64, f: Field) -> ZoneRead
     ensures { λ r. ⌜ r ≡ zoneSecond n (now (v .entry)) f ⌝ }
 {
     match f {
-        Field::Nothing => ZoneRead::Refused(missing(22)),
+        Field::Nothing => ZoneRead::Refused(wrong_of(Fault::Missing, 22)),
         Field::Got { piece, next } => {
             let at = piece.at;
             let end = at + piece.len;

@@ -24,6 +24,7 @@ use Rattle.sdp_split.proofs.word_at.Reads as sdpSplitWordAt
 use Rattle.sdp_split.proofs.first_piece.Reads as sdpSplitFirstPiece
 use Rattle.sdp_split.proofs.piece_after.Reads as sdpSplitPieceAfter
 use Rattle.sdp_split.proofs.rest_after.Reads as sdpSplitRestAfter
+use Rattle.sdp_judge.proofs.wrong_of.Reads as sdpJudgeWrongOf
 use Rattle.sdp_judge.proofs.text_of.Reads as sdpJudgeTextOf
 use Rattle.sdp_judge.proofs.number_of.Reads as sdpJudgeNumberOf
 use Rattle.sdp_judge.proofs.time_of.Reads as sdpJudgeTimeOf
@@ -186,6 +187,9 @@ pub sdp-split-rest-after : OneAnswer sdpSplitRestAfter.Learnt
 sdp-split-rest-after κs a z z′ e e′ p q = same p q
 
 -- ---- sdp_judge
+pub sdp-judge-wrong-of : OneAnswer sdpJudgeWrongOf.Learnt
+sdp-judge-wrong-of κs a z z′ e e′ p q = same p q
+
 pub sdp-judge-text-of : OneAnswer sdpJudgeTextOf.Learnt
 sdp-judge-text-of κs a z z′ e e′ p q = same p q
 

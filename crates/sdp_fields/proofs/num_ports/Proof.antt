@@ -14,10 +14,10 @@ returns-2 : tie.Need-returns-2
 returns-2 c = sym (ap portAnswer (num-is (c .before .before .before .before .before .before .before .args .s .now) _ (c .before .before .before .before .before .before .before .args .port) _ _ (c .before .before .before .before .before .if1 .left) (c .before .before .before .number16 .ensures) (c .before .value .given .1)))
 
 returns-3 : tie.Need-returns-3
-returns-3 c = rw (c .format .ensures) (sym (ap portAnswer (num-is (c .before .before .before .before .before .before .before .args .s .now) _ (c .before .before .before .before .before .before .before .args .port) _ _ (c .before .before .before .before .before .if1 .left) (c .before .before .before .number16 .ensures) (c .before .enum-told .given .1))))
+returns-3 c = rw (c .wrong-of .ensures) (sym (ap portAnswer (num-is (c .before .before .before .before .before .before .before .args .s .now) _ (c .before .before .before .before .before .before .before .args .port) _ _ (c .before .before .before .before .before .if1 .left) (c .before .before .before .number16 .ensures) (c .before .enum-told .given .1))))
 
 returns-4 : tie.Need-returns-4
-returns-4 c = rw (c .format2 .ensures) (sym (ap portAnswer (num-is (c .before .before .before .before .before .before .before .args .s .now) _ (c .before .before .before .before .before .before .before .args .port) _ _ (c .before .before .before .before .before .if1 .left) (c .before .before .before .number16 .ensures) (c .before .enum-told2 .given .1))))
+returns-4 c = rw (c .wrong-of2 .ensures) (sym (ap portAnswer (num-is (c .before .before .before .before .before .before .before .args .s .now) _ (c .before .before .before .before .before .before .before .args .port) _ _ (c .before .before .before .before .before .if1 .left) (c .before .before .before .number16 .ensures) (c .before .enum-told2 .given .1))))
 
 pub num-ports-spec : {M : Type 1} → statement M
 num-ports-spec =
