@@ -25,8 +25,8 @@ use Rattle.sdp_split.specs.declared.Field.the-variants as field
 use Rattle.sdp_judge.specs.declared.Text.the-variants as text
 use Rattle.sdp_judge.specs.declared.Choice.the-variants as choice
 use Rattle.sdp_split.proofs.SplitLaws.{chosen}
-use Rattle.sdp_fields.proofs.WordLaws.{word-next}
-use Rattle.sdp_judge.proofs.ReadLaws.{Every, never}
+use Rattle.sdp_split.proofs.WordLaws.{word-next}
+use Rattle.sdp_judge.proofs.EveryLaws.{Every, never}
 use Rattle.sdp_put.specs.Digits.{digits, timeText}
 use Rattle.sdp_bound.proofs.NumberLaws.{number-short, time-short}
 use Rattle.sdp_room.proofs.SumLaws

@@ -17,23 +17,25 @@ use Rattle.sdp_split.specs.Split.{part, wordAt, firstPiece, pieceAfter, restAft
 use Rattle.sdp_judge.specs.Read as FieldRead
 use Rattle.sdp_judge.specs.Read.{Read, got, refused, andThen, wholeOf}
 use Rattle.sdp_fields.specs.Records
-use Rattle.sdp_fields.specs.Records.{usernameOf, addressOf, originOf, connectionOf, bandwidthOf, timesOf, pairOf, portNumber, portOf, afterPort, mediaOf, repeatHead}
+use Rattle.sdp_fields.specs.Records.{usernameOf, addressOf, originOf, connectionOf, bandwidthOf, timesOf, pairOf}
+use Rattle.sdp_media_line.specs.MediaLine
+use Rattle.sdp_media_line.specs.MediaLine.{portNumber, portOf, afterPort, mediaOf}
 use Rattle.sdp_judge.specs.Offset.{offsetOf}
-use Rattle.sdp_fields.specs.Lists
-use Rattle.sdp_fields.specs.Lists.{numbered, RepeatLine, offsetsOf, repeatOf, pairsOf, zonesOf}
+use Rattle.sdp_lists.specs.Lists
+use Rattle.sdp_lists.specs.Lists.{repeatHead, numbered, RepeatLine, offsetsOf, repeatOf, pairsOf, zonesOf}
 use Rattle.sdp_split.specs.declared.Piece.{Piece}
 use Rattle.sdp_fields.specs.declared.Origin.{Origin}
 use Rattle.sdp_fields.specs.declared.Connection.{Connection}
 use Rattle.sdp_fields.specs.declared.Bandwidth.{Bandwidth}
 use Rattle.sdp_fields.specs.declared.Time.{Time}
 use Rattle.sdp_fields.specs.declared.Pair.{Pair}
-use Rattle.sdp_fields.specs.declared.Port.{Port}
-use Rattle.sdp_fields.specs.declared.Media.{Media}
-use Rattle.sdp_fields.specs.declared.RepeatHead.{RepeatHead}
-use Rattle.sdp_fields.specs.declared.Zone.{Zone}
+use Rattle.sdp_media_line.specs.declared.Port.{Port}
+use Rattle.sdp_media_line.specs.declared.Media.{Media}
+use Rattle.sdp_lists.specs.declared.RepeatHead.{RepeatHead}
+use Rattle.sdp_lists.specs.declared.Zone.{Zone}
 use Rattle.sdp_split.specs.declared.Field.{Field}
 use Rattle.sdp_split.specs.declared.Field.the-variants as field
-use Rattle.sdp_judge.proofs.ReadLaws.{Every, every-got, never}
+use Rattle.sdp_judge.proofs.EveryLaws.{Every, every-got, never}
 use Rattle.sdp_step.specs.Step.{maybeIn, originIn, connectionIn, bandwidthIn, mediaIn, timeIn, zoneIn}
 use Rattle.sdp_put.specs.Digits.{digits, timeText}
 use Rattle.sdp_put.specs.Strings.{clean}
@@ -157,7 +159,7 @@ abbrev portText : Port → List ℕ
 portText p = digits (p .port) ++ optional (λ n. (0x2f ∷ []) ++ digits n) (cond (p .«num_ports» .there) (some (p .«num_ports» .value)) none)
 
 port-short : (s : List ℕ) (p : Port) → portOf s ≡ got p → length (portText p) ≤ length s
-unfolding Records.portOf
+unfolding MediaLine.portOf
 port-short s = go (isUtf8 s) (ltb (indexOf 0x2f s) (length s)) refl
   where
     go : (b c : Bool) → ltb (indexOf 0x2f s) (length s) ≡ c
@@ -188,7 +190,7 @@ module _ {A : Type 0} (P : A → Type 0) (v : List ℕ) (k : Port → ℕ → Re
       go (refused x) b = never P x
 
 pub media-short : (v : List ℕ) (m : Media) → mediaOf v ≡ got m → length (mediaLine id (mediaIn (part v) m)) ≤ length v + 4
-unfolding Records.mediaOf Written.mediaLine Written.line
+unfolding MediaLine.mediaOf Written.mediaLine Written.line
 media-short v =
     past-text _ 27 v _ (firstPiece 0x20 v) (λ name i n.
     past-ports _ v _ (pieceAfter 0x20 v i) (λ port j x q l.
@@ -237,7 +239,7 @@ repeatSize r = length (timeText (r .interval)) + 1 + length (timeText (r .durati
 
 module _ (v : List ℕ) where
   head-short : (h : RepeatHead) → repeatHead v ≡ got h → length (timeText (h .«repeat_interval»)) + 1 + length (timeText (h .«active_duration»)) + left v (h .next) ≤ length v
-  unfolding Records.repeatHead
+  unfolding Lists.repeatHead
   head-short =
       past-time _ 18 v _ (wordAt v 0) (λ interval i p n m.
       past-time _ 19 v _ (wordAt v i) (λ duration e q o k.

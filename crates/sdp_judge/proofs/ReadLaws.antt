@@ -12,7 +12,7 @@ use Rattle.sdp_number.specs.Number.{typedTime}
 use Rattle.sdp_number.specs.declared.Number.{Number}
 use Rattle.sdp_number.specs.declared.Number.the-variants.{Value, Encoding, Format}
 use Rattle.sdp_split.specs.Split.{part, Inside, Within}
-use Rattle.sdp_judge.specs.Read.{Read, got, refused, encoding, format, textOf, tokenOf, amountOf, timeOf, afterText, afterAmount, afterChoice, ending}
+use Rattle.sdp_judge.specs.Read.{Read, encoding, format, textOf, tokenOf, amountOf, timeOf, afterText, afterAmount, afterChoice, ending}
 use Rattle.sdp_split.specs.declared.Piece.{Piece}
 use Rattle.sdp_judge.specs.declared.MaybePiece.{MaybePiece}
 use Rattle.sdp_judge.specs.declared.Wrong.{Wrong}
@@ -68,18 +68,3 @@ module _ (w : ℕ) (v : List ℕ) where
   pub time-within : (f : Field) (n e : ℕ) → Within v f → timeOf w v f ≡ amount.Got n e → e ≤ length v
   time-within (field.Got p e′) n e h q = rw (counted (typedTime (part v p)) w e′ n e q) at (h p e′ refl .1)
   time-within field.Nothing n e h q = absurd (let z : _≡_ {A = ℕ} 0 1 = cc in omega arith)
-
--- ---- what holds of every record that is read
-abbrev pub Every : {A : Type 0} → (A → Type 0) → Read A → Type 0
-Every {A} P r = (a : A) → r ≡ got a → P a
-
-module _ {A : Type 0} (P : A → Type 0) where
-  pub every-got : (a : A) → P a → Every P (got a)
-  every-got a h b q = let z : a ≡ b = cc in rw z at h
-
-  pub never : (x : Wrong) → Every P (refused x)
-  never x b q = absurd (let z : _≡_ {A = ℕ} 0 1 = cc in omega arith)
-
-  pub every-amount : (t : Amount) (k : ℕ → ℕ → Read A) → ((n e : ℕ) → t ≡ amount.Got n e → Every P (k n e)) → Every P (afterAmount t k)
-  every-amount (amount.Got n e) k h = h n e refl
-  every-amount (amount.Refused x) k h = never x

@@ -38,10 +38,22 @@ pub enum Text {
     Refused(Wrong),
 }
 
+// A piece and its end, out of its answer.
+pub struct Taken {
+    pub piece: Piece,
+    pub next: usize,
+}
+
 // A number that was read, and its field's end.
 pub enum Amount {
     Got { value: u64, next: usize },
     Refused(Wrong),
+}
+
+// A number and its field's end, out of its answer.
+pub struct Counted {
+    pub value: u64,
+    pub next: usize,
 }
 
 // A string that may be absent, read.

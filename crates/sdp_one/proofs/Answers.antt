@@ -40,10 +40,10 @@ use Rattle.sdp_fields.proofs.Connection.parse.Reads as sdpFieldsConnectionParse
 use Rattle.sdp_fields.proofs.Bandwidth.parse.Reads as sdpFieldsBandwidthParse
 use Rattle.sdp_fields.proofs.Time.parse.Reads as sdpFieldsTimeParse
 use Rattle.sdp_fields.proofs.Pair.parse.Reads as sdpFieldsPairParse
-use Rattle.sdp_fields.proofs.Media.parse_m_line.Reads as sdpFieldsMediaParseMLine
-use Rattle.sdp_fields.proofs.RepeatHead.parse.Reads as sdpFieldsRepeatHeadParse
-use Rattle.sdp_fields.proofs.repeat_offset.Reads as sdpFieldsRepeatOffset
-use Rattle.sdp_fields.proofs.Zone.parse.Reads as sdpFieldsZoneParse
+use Rattle.sdp_media_line.proofs.Media.parse_m_line.Reads as sdpMediaLineMediaParseMLine
+use Rattle.sdp_lists.proofs.RepeatHead.parse.Reads as sdpListsRepeatHeadParse
+use Rattle.sdp_lists.proofs.repeat_offset.Reads as sdpListsRepeatOffset
+use Rattle.sdp_lists.proofs.Zone.parse.Reads as sdpListsZoneParse
 use Rattle.sdp_cells.proofs.get2.Reads as sdpCellsGet2
 use Rattle.sdp_cells.proofs.put_words.Reads as sdpCellsPutWords
 use Rattle.sdp_cells.proofs.push_words.Reads as sdpCellsPushWords
@@ -236,17 +236,19 @@ sdp-fields-Time-parse κs a z z′ e e′ p q = same p q
 pub sdp-fields-Pair-parse : OneAnswer sdpFieldsPairParse.Learnt
 sdp-fields-Pair-parse κs a z z′ e e′ p q = same p q
 
-pub sdp-fields-Media-parse-m-line : OneAnswer sdpFieldsMediaParseMLine.Learnt
-sdp-fields-Media-parse-m-line κs a z z′ e e′ p q = same p q
+-- ---- sdp_media_line
+pub sdp-media-line-Media-parse-m-line : OneAnswer sdpMediaLineMediaParseMLine.Learnt
+sdp-media-line-Media-parse-m-line κs a z z′ e e′ p q = same p q
 
-pub sdp-fields-RepeatHead-parse : OneAnswer sdpFieldsRepeatHeadParse.Learnt
-sdp-fields-RepeatHead-parse κs a z z′ e e′ p q = same p q
+-- ---- sdp_lists
+pub sdp-lists-RepeatHead-parse : OneAnswer sdpListsRepeatHeadParse.Learnt
+sdp-lists-RepeatHead-parse κs a z z′ e e′ p q = same p q
 
-pub sdp-fields-repeat-offset : OneAnswer sdpFieldsRepeatOffset.Learnt
-sdp-fields-repeat-offset κs a z z′ e e′ p q = same p q
+pub sdp-lists-repeat-offset : OneAnswer sdpListsRepeatOffset.Learnt
+sdp-lists-repeat-offset κs a z z′ e e′ p q = same p q
 
-pub sdp-fields-Zone-parse : OneAnswer sdpFieldsZoneParse.Learnt
-sdp-fields-Zone-parse κs a z z′ e e′ p q = same p q
+pub sdp-lists-Zone-parse : OneAnswer sdpListsZoneParse.Learnt
+sdp-lists-Zone-parse κs a z z′ e e′ p q = same p q
 
 -- ---- sdp_cells
 pub sdp-cells-get2 : OneAnswer sdpCellsGet2.Learnt
