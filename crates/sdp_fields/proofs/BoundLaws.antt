@@ -27,10 +27,11 @@ pub record ConnectionInside (v : List ℕ) (c : Connection) : Type 0 where
 address-within : (w : ℕ) (v : List ℕ) (i : ℕ) (c : Connection) → addressOf w v i ≡ got c → ConnectionInside v c
 unfolding addressOf
 address-within w v i =
-    every-token _ w v (wordAt v i) (word-within v i) _ (λ net i n.
-    every-token _ (w + 1) v (wordAt v i) (word-within v i) _ (λ kind j k.
-    every-text _ (w + 2) v (wordAt v j) (word-within v j) _ (λ address e a.
-    every-end _ (w + 3) (wordAt v e) _ (every-got _ _ (record { nettype = n; addrtype = k; address = a })))))
+    every-token _ w v _ (wordAt v i) (λ net j n.
+    every-token _ (w + 1) v _ (wordAt v j) (λ kind l k.
+    every-text _ (w + 2) v _ (wordAt v l) (λ address e a.
+    every-end _ (w + 3) (wordAt v e) _ (every-got _ _
+    (record { nettype = word-within v i net j n .0; addrtype = word-within v j kind l k .0; address = word-within v l address e a .0 })))))
 
 pub connection-within : (v : List ℕ) (c : Connection) → connectionOf v ≡ got c → ConnectionInside v c
 unfolding connectionOf
@@ -53,20 +54,25 @@ username-inside v p h = go (eqb (p .len) 1 && eqb (getD v (p .at) 0) 0x2d)
 pub origin-within : (v : List ℕ) (o : Origin) → originOf v ≡ got o → OriginInside v o
 unfolding originOf
 origin-within v =
-    every-text _ 1 v (wordAt v 0) (word-within v 0) _ (λ user i u.
-    every-text _ 2 v (wordAt v i) (word-within v i) _ (λ id j d.
+    every-text _ 1 v _ (wordAt v 0) (λ user i u.
+    every-text _ 2 v _ (wordAt v i) (λ id j d.
     every-amount _ (numberOf 3 v (wordAt v j)) _ (λ version l q.
-    every-then _ (addressOf 4 v l) _ (λ c q.
-    let h = address-within 4 v l c q in
-    every-got _ _ (record { username = username-inside v user u; id = d; nettype = h .nettype; addrtype = h .addrtype; address = h .address })))))
+    every-then _ _ (addressOf 4 v l) _ (address-within 4 v l) (λ c h.
+    every-got _ _ (record {
+      username = username-inside v user (word-within v 0 user i u .0);
+      id = word-within v i id j d .0;
+      nettype = h .nettype;
+      addrtype = h .addrtype;
+      address = h .address;
+    })))))
 
 -- ---- the records of pieces
 pub bandwidth-within : (v : List ℕ) (b : Bandwidth) → bandwidthOf v ≡ got b → Inside v (b .bwtype)
 unfolding bandwidthOf
 bandwidth-within v =
-    every-text _ 12 v (firstPiece 0x3a v) (first-within 0x3a v) _ (λ kind i k.
+    every-text _ 12 v _ (firstPiece 0x3a v) (λ kind i k.
     every-amount _ (numberOf 13 v (pieceAfter 0x3a v i)) _ (λ n e q.
-    every-end _ 14 (pieceAfter 0x3a v e) _ (every-got _ _ k)))
+    every-end _ 14 (pieceAfter 0x3a v e) _ (every-got _ _ (first-within 0x3a v kind i k .0))))
 
 pub record PairInside (v : List ℕ) (p : Pair) : Type 0 where
   pub name : Inside v (p .name)
@@ -75,6 +81,8 @@ pub record PairInside (v : List ℕ) (p : Pair) : Type 0 where
 pub pair-within : (w x : ℕ) (v : List ℕ) (p : Pair) → pairOf w x v ≡ got p → PairInside v p
 unfolding pairOf
 pair-within w x v =
-    every-text _ w v (firstPiece 0x3a v) (first-within 0x3a v) _ (λ name e n.
-    every-choice _ x v (restAfter v e) (rest-within v e) _ (λ value m.
-    every-got _ _ (record { name = n; value = m })))
+    every-text _ w v _ (firstPiece 0x3a v) (λ name i n.
+    let l = first-within 0x3a v name i n .0 in
+    every-choice _ x v _ (restAfter v i)
+    (λ value e q. every-got _ _ (record { name = l; value = rest-within v i value e q .0 }))
+    (every-got _ _ (record { name = l; value = omega arith })))

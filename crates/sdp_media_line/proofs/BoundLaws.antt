@@ -13,47 +13,45 @@ use Rattle.sdp_number.specs.declared.Number.{Number}
 use Rattle.sdp_number.specs.declared.Number.the-variants.{Value, Encoding, Format}
 use Rattle.sdp_number.proofs.NumberLaws.{number-below}
 use Rattle.sdp_split.specs.Split.{part, firstPiece, pieceAfter, restAfter, Inside}
-use Rattle.sdp_judge.specs.Read.{Read, got, refused, andThen}
+use Rattle.sdp_judge.specs.Read.{Read, got}
 use Rattle.sdp_media_line.specs.MediaLine.{portNumber, portOf, afterPort, mediaOf}
 use Rattle.sdp_media_line.specs.declared.Port.{Port}
 use Rattle.sdp_media_line.specs.declared.Media.{Media}
+use Rattle.sdp_split.specs.declared.Piece.{Piece}
 use Rattle.sdp_split.specs.declared.Field.{Field}
 use Rattle.sdp_split.specs.declared.Field.the-variants as field
 use Rattle.sdp_split.proofs.SplitLaws.{first-within, after-within, rest-within}
-use Rattle.sdp_judge.proofs.EveryLaws.{Every, every-got, never, every-text, every-cond}
+use Rattle.sdp_judge.proofs.EveryLaws.{Every, every-got, never, every-cond, every-then, every-text}
+
+-- ---- each field on the way to the record
+module _ {A : Type 0} (P : A → Type 0) where
+  pub every-number : (w : ℕ) (x : Number) (k : ℕ → Read A) → ((n : ℕ) → x ≡ Value n → Every P (k n)) → Every P (portNumber w x k)
+  every-number w (Value n) k h = h n refl
+  every-number w Encoding k h = never _ _
+  every-number w Format k h = never _ _
+
+  pub every-port : (v : List ℕ) (k : Port → ℕ → Read A) (f : Field) → ((p : Port) (e : ℕ) (x : Piece) → f ≡ field.Got x e → portOf (part v x) ≡ got p → Every P (k p e))
+      → Every P (afterPort v f k)
+  every-port v k field.Nothing h = never _ _
+  every-port v k (field.Got x e) h = every-then P _ (portOf (part v x)) _ (λ p q. q) (λ p. h p e x refl)
 
 -- both numbers of a port's field have 16 bits
 pub record Ports (p n : ℕ) : Type 0 where
   pub port : p < 65536
   pub num : n < 65536
 
-module _ {A : Type 0} (P : A → Type 0) (w : ℕ) (s : List ℕ) (k : ℕ → Read A) where
-  every-number : ((n : ℕ) → n < 65536 → Every P (k n)) → Every P (portNumber w (wholeNumber 16 s) k)
-  every-number h = go (wholeNumber 16 s) refl
-    where
-      go : (n : Number) → wholeNumber 16 s ≡ n → Every P (portNumber w n k)
-      go (Value n) q = h n (number-below 16 s n q)
-      go Encoding q = never _ _
-      go Format q = never _ _
-
 ports : (s : List ℕ) (p : Port) → portOf s ≡ got p → Ports (p .port) (p .«num_ports» .value)
 unfolding portOf
 ports s =
+    let before = take (indexOf 0x2f s) s in
+    let after = drop (indexOf 0x2f s + 1) s in
     every-cond _ (isUtf8 s) _ _
-    (every-number _ 28 (take (indexOf 0x2f s) s) _ (λ p l.
+    (every-number _ 28 (wholeNumber 16 before) _ (λ p q.
+    let l = number-below 16 before p q in
     every-cond _ (ltb (indexOf 0x2f s) (length s)) _ _
-    (every-number _ 30 (drop (indexOf 0x2f s + 1) s) _ (λ n m. every-got _ _ (record { port = l; num = m })))
+    (every-number _ 30 (wholeNumber 16 after) _ (λ n r. every-got _ _ (record { port = l; num = number-below 16 after n r })))
     (every-got _ _ (record { port = l; num = omega arith }))))
     (never _ _)
-
-module _ {A : Type 0} (P : A → Type 0) where
-  every-port : (v : List ℕ) (f : Field) (k : Port → ℕ → Read A) → ((p : Port) (e : ℕ) → Ports (p .port) (p .«num_ports» .value) → Every P (k p e)) → Every P (afterPort v f k)
-  every-port v field.Nothing k h = never _ _
-  every-port v (field.Got p e) k h = go (portOf (part v p)) (ports (part v p))
-    where
-      go : (r : Read Port) → Every (λ p. Ports (p .port) (p .«num_ports» .value)) r → Every P (andThen r (λ p. k p e))
-      go (got p) b = h p e (b p refl)
-      go (refused x) b = never P x
 
 pub record MediaInside (v : List ℕ) (m : Media) : Type 0 where
   pub media : Inside v (m .media)
@@ -64,8 +62,13 @@ pub record MediaInside (v : List ℕ) (m : Media) : Type 0 where
 pub media-within : (v : List ℕ) (m : Media) → mediaOf v ≡ got m → MediaInside v m
 unfolding mediaOf
 media-within v =
-    every-text _ 27 v (firstPiece 0x20 v) (first-within 0x20 v) _ (λ name i n.
-    every-port _ v (pieceAfter 0x20 v i) _ (λ port j b.
-    every-text _ 31 v (pieceAfter 0x20 v j) (after-within 0x20 v j) _ (λ proto e p.
-    every-text _ 32 v (restAfter v e) (rest-within v e) _ (λ fmt e f.
-    every-got _ _ (record { media = n; ports = b; proto = p; fmt = f })))))
+    every-text _ 27 v _ (firstPiece 0x20 v) (λ name i n.
+    every-port _ v _ (pieceAfter 0x20 v i) (λ port j x q b.
+    every-text _ 31 v _ (pieceAfter 0x20 v j) (λ proto l p.
+    every-text _ 32 v _ (restAfter v l) (λ fmt e f.
+    every-got _ _ (record {
+      media = first-within 0x20 v name i n .0;
+      ports = ports (part v x) port b;
+      proto = after-within 0x20 v j proto l p .0;
+      fmt = rest-within v l fmt e f .0;
+    })))))
