@@ -22,10 +22,10 @@ use Rattle.sdp_judge.specs.Read as field-read
 use Rattle.sdp_judge.specs.Read.{Read, got, refused, encoding, andThen, wholeOf}
 use Rattle.sdp_fields.specs.Records as records
 use Rattle.sdp_fields.specs.Records.{usernameOf, addressOf, originOf, connectionOf}
-use Rattle.sdp_fields.specs.Lists.{numbered}
+use Rattle.sdp_lists.specs.Lists.{numbered}
 use Rattle.sdp_fields.specs.declared.Origin as origin
 use Rattle.sdp_fields.specs.declared.Connection as connection
-use Rattle.sdp_fields.proofs.BoundLaws.{number-below}
+use Rattle.sdp_number.proofs.NumberLaws.{number-below}
 use Rattle.sdp_area.specs.Session.{Origin, Connection}
 use Rattle.sdp_step.specs.Step.{maybeIn, originIn, connectionIn}
 use Rattle.sdp_put.specs.Strings.{clean}

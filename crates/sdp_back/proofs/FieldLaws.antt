@@ -28,10 +28,10 @@ use Rattle.sdp_judge.specs.declared.Text.the-variants as text
 use Rattle.sdp_judge.specs.declared.Amount.{Amount}
 use Rattle.sdp_judge.specs.declared.Amount.the-variants as amount
 use Rattle.sdp_judge.specs.declared.Choice.the-variants as choice
-use Rattle.sdp_fields.specs.Records.{portOf, afterPort}
-use Rattle.sdp_fields.specs.Lists.{numbered}
-use Rattle.sdp_fields.specs.declared.Port.{Port}
-use Rattle.sdp_fields.proofs.WordLaws.{word-none, word-next}
+use Rattle.sdp_media_line.specs.MediaLine.{portOf, afterPort}
+use Rattle.sdp_lists.specs.Lists.{numbered}
+use Rattle.sdp_media_line.specs.declared.Port.{Port}
+use Rattle.sdp_split.proofs.WordLaws.{word-none, word-next}
 use Rattle.sdp_step.specs.Step.{maybeIn}
 use Rattle.sdp_same.specs.Fits.{Each}
 use Rattle.sdp_back.proofs.ByteLaws.{bare}

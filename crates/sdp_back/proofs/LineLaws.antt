@@ -9,8 +9,8 @@ use lib.Dec.{eqb}
 use borrow.Author.Tests.{lt-ltb, le-leb, ne-eqb}
 use Rattle.sdp_split.specs.Split.{part}
 use Rattle.sdp_judge.specs.Read.{Read, got, refused}
-use Rattle.sdp_fields.specs.Lists.{zonesOf}
-use Rattle.sdp_fields.specs.declared.Zone as zone
+use Rattle.sdp_lists.specs.Lists.{zonesOf}
+use Rattle.sdp_lists.specs.declared.Zone as zone
 use Rattle.sdp_area.specs.Session.{Origin, Connection, Key, MediaConnection, Bandwidth, Time, Repeat, Zone, Attribute, Media, Session}
 use Rattle.sdp_area.specs.With.{withOrigin, withName, withDescription, withUri, withConnection, withKey, withEmails, withPhones, withConnections, withBandwidths, withTimes, withRepeats, withOffsets, withZones, withAttributes, withMedias, setLast, titled, keyed}
 use Rattle.sdp_area.specs.Latest.{given, lastTitled, lastKeyed}

@@ -15,14 +15,16 @@ use Rattle.sdp_number.specs.declared.Number.the-variants.{Value, Encoding, Form
 use Rattle.sdp_split.specs.Split.{part, firstPiece, pieceAfter, restAfter}
 use Rattle.sdp_judge.specs.Read.{Read, got, refused, encoding, andThen}
 use Rattle.sdp_fields.specs.Records as records
-use Rattle.sdp_fields.specs.Records.{bandwidthOf, pairOf, portNumber, portOf, mediaOf}
-use Rattle.sdp_fields.specs.Lists.{numbered}
+use Rattle.sdp_fields.specs.Records.{bandwidthOf, pairOf}
+use Rattle.sdp_media_line.specs.MediaLine
+use Rattle.sdp_media_line.specs.MediaLine.{portNumber, portOf, mediaOf}
+use Rattle.sdp_lists.specs.Lists.{numbered}
 use Rattle.sdp_fields.specs.declared.Bandwidth as bandwidth
 use Rattle.sdp_fields.specs.declared.Pair.{Pair}
-use Rattle.sdp_fields.specs.declared.Port.{Port}
-use Rattle.sdp_fields.specs.declared.MaybeNumber.{MaybeNumber}
-use Rattle.sdp_fields.specs.declared.Media as media
-use Rattle.sdp_fields.proofs.BoundLaws.{number-below}
+use Rattle.sdp_media_line.specs.declared.Port.{Port}
+use Rattle.sdp_media_line.specs.declared.MaybeNumber.{MaybeNumber}
+use Rattle.sdp_media_line.specs.declared.Media as media
+use Rattle.sdp_number.proofs.NumberLaws.{number-below}
 use Rattle.sdp_area.specs.Session.{Media}
 use Rattle.sdp_step.specs.Step.{maybeIn, mediaIn}
 use Rattle.sdp_put.specs.Strings.{dropped}
@@ -165,7 +167,7 @@ portsFrom (some r) k = portNumber 30 (wholeNumber 16 r) (λ n. k (record { there
 
 see-ports : (s : List ℕ)
     → portOf s ≡ cond (isUtf8 s) (portNumber 28 (wholeNumber 16 (cut 0x2f s .0)) (λ port. portsFrom (cut 0x2f s .1) (λ num. got (record { port = port; «num_ports» = num })))) (refused (encoding 29))
-unfolding cut records.portOf
+unfolding cut MediaLine.portOf
 see-ports s = go (ltb (indexOf 0x2f s) (length s))
   where
     go : (b : Bool)
@@ -239,7 +241,7 @@ mediaFrom : List ℕ × Option (List ℕ) → Read (Media (List ℕ))
 mediaFrom c = andThen (textIn 27 (c .0)) (λ name. mediaRest name (c .1))
 
 see-media : (v : List ℕ) → mapRead (mediaIn (part v)) (mediaOf v) ≡ mediaFrom (cut 0x20 v)
-unfolding mediaFrom mediaRest records.mediaOf
+unfolding mediaFrom mediaRest MediaLine.mediaOf
 see-media v =
     see-text _ 27 v (behind v) (firstPiece 0x20 v) _ (see-first v 0x20) _ mediaRest (λ name e q.
     see-port _ 28 v (behind v) (pieceAfter 0x20 v e) _ (see-after v 0x20 e) _ _ (λ p e.

@@ -14,8 +14,9 @@ use Rattle.sdp_lines.specs.declared.Form.the-variants.{Blank, Good, Bad}
 use Rattle.sdp_lines.specs.declared.Fault.the-variants.{NulOrCr}
 use Rattle.sdp_split.specs.Split.{part}
 use Rattle.sdp_judge.specs.Read.{Read, got, refused, wholeOf}
-use Rattle.sdp_fields.specs.Records.{originOf, connectionOf, bandwidthOf, timesOf, pairOf, mediaOf}
-use Rattle.sdp_fields.specs.Lists.{RepeatLine, repeatOf, zonesOf}
+use Rattle.sdp_fields.specs.Records.{originOf, connectionOf, bandwidthOf, timesOf, pairOf}
+use Rattle.sdp_media_line.specs.MediaLine.{mediaOf}
+use Rattle.sdp_lists.specs.Lists.{RepeatLine, repeatOf, zonesOf}
 use Rattle.sdp_area.specs.Session.{Key, MediaConnection, Bandwidth, Time, Repeat, Offset, Zone, Attribute, Media, Head, Tables, Session, empty}
 use Rattle.sdp_area.specs.With.{withTimes, withRepeats, withOffsets, withZones, withMedias, setLast, titled, keyed}
 use Rattle.sdp_area.specs.Latest.{given, lastTitled, lastKeyed}

@@ -10,11 +10,11 @@ use Rattle.sdp_number.specs.Number.{wholeNumber, typedTime}
 use Rattle.sdp_split.specs.Split.{wordAt, words}
 use Rattle.sdp_judge.specs.Read.{Read, got, refused, andThen}
 use Rattle.sdp_fields.specs.Records as records
-use Rattle.sdp_fields.specs.Records.{timesOf, repeatHead}
-use Rattle.sdp_fields.specs.Lists as lists
-use Rattle.sdp_fields.specs.Lists.{numbered, repeatOf, offsetsOf, pairsOf, zonesOf}
-use Rattle.sdp_fields.specs.declared.RepeatHead.{RepeatHead}
-use Rattle.sdp_fields.specs.declared.Zone as zone
+use Rattle.sdp_fields.specs.Records.{timesOf}
+use Rattle.sdp_lists.specs.Lists as lists
+use Rattle.sdp_lists.specs.Lists.{repeatHead, numbered, repeatOf, offsetsOf, pairsOf, zonesOf}
+use Rattle.sdp_lists.specs.declared.RepeatHead.{RepeatHead}
+use Rattle.sdp_lists.specs.declared.Zone as zone
 use Rattle.sdp_area.specs.Session.{Time, Zone}
 use Rattle.sdp_step.specs.Step.{timeIn, zoneIn}
 use Rattle.sdp_put.specs.Digits.{digits, timeText, offsetText}
@@ -65,7 +65,7 @@ module _ (v : List ℕ) where
   headIs h = (h .«repeat_interval», h .«active_duration», left v (h .next))
 
   see-head : mapRead headIs (repeatHead v) ≡ headFrom (words v)
-  unfolding headFrom records.repeatHead
+  unfolding headFrom lists.repeatHead
   see-head =
       see-time _ 18 v (left v) (wordAt v 0) _ (see-word v 0) _ _ (λ interval e.
       see-time _ 19 v (left v) (wordAt v e) _ (see-word v e) _ _ (λ duration e. refl))

@@ -15,7 +15,7 @@ use Rattle.sdp_bytes.proofs.ScanLaws.{and-left, and-right}
 use Rattle.sdp_split.specs.Split as split
 use Rattle.sdp_split.specs.Split.{spaces, wordAt, wordsFrom, words}
 use Rattle.sdp_split.specs.declared.Field.the-variants.{Got}
-use Rattle.sdp_fields.proofs.WordLaws.{word-next}
+use Rattle.sdp_split.proofs.WordLaws.{word-next}
 use Rattle.sdp_put.specs.Strings.{dropped}
 use Rattle.sdp_put.specs.Digits.{digits, timeText}
 use Rattle.sdp_row.specs.Written.{spaced}

@@ -8,25 +8,19 @@ use lib.ListN.{length, take, drop, length-take, length-drop}
 use lib.Dec.{eqb}
 use Rattle.sdp_bytes.specs.Runs
 use Rattle.sdp_bytes.specs.Runs.{indexOf}
-use Rattle.sdp_utf8.specs.Utf8.{isUtf8}
-use Rattle.sdp_bytes.specs.Token.{isToken}
 use Rattle.sdp_number.specs.Number.{wholeNumber, typedTime}
 use Rattle.sdp_number.specs.declared.Number.{Number}
 use Rattle.sdp_number.specs.declared.Number.the-variants.{Value, Encoding, Format}
 use Rattle.sdp_bytes.proofs.ScanLaws.{index-le}
 use Rattle.sdp_split.specs.Split
 use Rattle.sdp_split.specs.Split.{part, pieceFrom, wordAt, firstPiece, pieceAfter, restAfter, wordsFrom, words}
-use Rattle.sdp_judge.specs.Read.{Read, encoding, format, textOf, tokenOf, amountOf, numberOf, timeOf, choiceOf, absent, afterText, afterAmount, afterChoice, ending}
+use Rattle.sdp_judge.specs.Read.{Read, amountOf, numberOf, timeOf, afterAmount}
 use Rattle.sdp_split.specs.declared.Piece.{Piece}
-use Rattle.sdp_judge.specs.declared.MaybePiece.{MaybePiece}
-use Rattle.sdp_judge.specs.declared.Wrong.{Wrong}
 use Rattle.sdp_split.specs.declared.Field.{Field}
 use Rattle.sdp_split.specs.declared.Field.the-variants as field
-use Rattle.sdp_judge.specs.declared.Text.the-variants as text
-use Rattle.sdp_judge.specs.declared.Choice.the-variants as choice
 use Rattle.sdp_split.proofs.SplitLaws.{chosen}
-use Rattle.sdp_fields.proofs.WordLaws.{word-next}
-use Rattle.sdp_judge.proofs.ReadLaws.{Every, never}
+use Rattle.sdp_split.proofs.WordLaws.{word-next}
+use Rattle.sdp_judge.proofs.EveryLaws.{Every, never}
 use Rattle.sdp_put.specs.Digits.{digits, timeText}
 use Rattle.sdp_bound.proofs.NumberLaws.{number-short, time-short}
 use Rattle.sdp_room.proofs.SumLaws
@@ -103,44 +97,17 @@ module _ (v : List ℕ) where
         let x : record { at = i + 1; len = length v - (i + 1) } ≡ p = cc in
         omega (arith, ap (λ (q : Piece). q .len) x)
 
--- ---- what holds of every record, after a field f of the value v
-module _ {A : Type 0} (P : A → Type 0) (w : ℕ) (v : List ℕ) where
-  module _ (k : Piece → ℕ → Read A) where
-    read-text : (b : Bool) (p : Piece) (e : ℕ) (x : Wrong) → Every P (k p e) → Every P (afterText (cond b (text.Got p e) (text.Refused x)) k)
-    read-text true p e x h = h
-    read-text false p e x h = never P x
+-- ---- what holds of every record, after a number's field f of the value v
+module _ {A : Type 0} (P : A → Type 0) (w : ℕ) (v : List ℕ) (k : ℕ → ℕ → Read A) where
+  read-amount : (e : ℕ) (x : Number) → ((n : ℕ) → x ≡ Value n → Every P (k n e)) → Every P (afterAmount (amountOf w e x) k)
+  read-amount e (Value n) h = h n refl
+  read-amount e Encoding h = never P _
+  read-amount e Format h = never P _
 
-    pub past-text : (f : Field) → ((p : Piece) (e : ℕ) → f ≡ field.Got p e → Every P (k p e)) → Every P (afterText (textOf w v f) k)
-    past-text (field.Got p e) h = read-text (isUtf8 (part v p)) p e (encoding w) (h p e refl)
-    past-text field.Nothing h = never P _
+  pub past-number : (f : Field) → ((n e : ℕ) (p : Piece) → f ≡ field.Got p e → length (digits n) ≤ length (part v p) → Every P (k n e)) → Every P (afterAmount (numberOf w v f) k)
+  past-number field.Nothing h = never P _
+  past-number (field.Got p e) h = read-amount e (wholeNumber 64 (part v p)) (λ n q. h n e p refl (number-short 64 (part v p) n q))
 
-    pub past-token : (f : Field) → ((p : Piece) (e : ℕ) → f ≡ field.Got p e → Every P (k p e)) → Every P (afterText (tokenOf w v f) k)
-    past-token (field.Got p e) h = read-text (isToken (part v p)) p e (format w) (h p e refl)
-    past-token field.Nothing h = never P _
-
-  module _ (k : ℕ → ℕ → Read A) where
-    read-amount : (e : ℕ) (x : Number) → ((n : ℕ) → x ≡ Value n → Every P (k n e)) → Every P (afterAmount (amountOf w e x) k)
-    read-amount e (Value n) h = h n refl
-    read-amount e Encoding h = never P _
-    read-amount e Format h = never P _
-
-    pub past-number : (f : Field) → ((n e : ℕ) (p : Piece) → f ≡ field.Got p e → length (digits n) ≤ length (part v p) → Every P (k n e)) → Every P (afterAmount (numberOf w v f) k)
-    past-number field.Nothing h = never P _
-    past-number (field.Got p e) h = read-amount e (wholeNumber 64 (part v p)) (λ n q. h n e p refl (number-short 64 (part v p) n q))
-
-    pub past-time : (f : Field) → ((n e : ℕ) (p : Piece) → f ≡ field.Got p e → length (timeText n) ≤ length (part v p) → Every P (k n e)) → Every P (afterAmount (timeOf w v f) k)
-    past-time field.Nothing h = never P _
-    past-time (field.Got p e) h = read-amount e (typedTime (part v p)) (λ n q. h n e p refl (time-short (part v p) n q))
-
-  pub past-choice : (k : MaybePiece → Read A) (f : Field) → ((p : Piece) (e : ℕ) → f ≡ field.Got p e → Every P (k (record { there = true; piece = p }))) → Every P (k absent)
-      → Every P (afterChoice (choiceOf w v f) k)
-  past-choice k field.Nothing h g = g
-  past-choice k (field.Got p e) h g = go (isUtf8 (part v p)) (h p e refl)
-    where
-      go : (b : Bool) → Every P (k (record { there = true; piece = p })) → Every P (afterChoice (cond b (choice.Got (record { there = true; piece = p })) (choice.Refused (encoding w))) k)
-      go true h = h
-      go false h = never P _
-
-  pub past-end : (f : Field) (r : Read A) → Every P r → Every P (ending w f r)
-  past-end (field.Got p e) r h = never P _
-  past-end field.Nothing r h = h
+  pub past-time : (f : Field) → ((n e : ℕ) (p : Piece) → f ≡ field.Got p e → length (timeText n) ≤ length (part v p) → Every P (k n e)) → Every P (afterAmount (timeOf w v f) k)
+  past-time field.Nothing h = never P _
+  past-time (field.Got p e) h = read-amount e (typedTime (part v p)) (λ n q. h n e p refl (time-short (part v p) n q))

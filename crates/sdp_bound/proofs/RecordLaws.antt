@@ -14,26 +14,26 @@ use Rattle.sdp_number.specs.Number.{wholeNumber, typedTime}
 use Rattle.sdp_number.specs.declared.Number.{Number}
 use Rattle.sdp_number.specs.declared.Number.the-variants.{Value, Encoding, Format}
 use Rattle.sdp_split.specs.Split.{part, wordAt, firstPiece, pieceAfter, restAfter, words}
-use Rattle.sdp_judge.specs.Read as FieldRead
 use Rattle.sdp_judge.specs.Read.{Read, got, refused, andThen, wholeOf}
 use Rattle.sdp_fields.specs.Records
-use Rattle.sdp_fields.specs.Records.{usernameOf, addressOf, originOf, connectionOf, bandwidthOf, timesOf, pairOf, portNumber, portOf, afterPort, mediaOf, repeatHead}
+use Rattle.sdp_fields.specs.Records.{usernameOf, addressOf, originOf, connectionOf, bandwidthOf, timesOf, pairOf}
+use Rattle.sdp_media_line.specs.MediaLine
+use Rattle.sdp_media_line.specs.MediaLine.{portNumber, portOf, mediaOf}
 use Rattle.sdp_judge.specs.Offset.{offsetOf}
-use Rattle.sdp_fields.specs.Lists
-use Rattle.sdp_fields.specs.Lists.{numbered, RepeatLine, offsetsOf, repeatOf, pairsOf, zonesOf}
+use Rattle.sdp_lists.specs.Lists
+use Rattle.sdp_lists.specs.Lists.{repeatHead, numbered, RepeatLine, offsetsOf, repeatOf, pairsOf, zonesOf}
 use Rattle.sdp_split.specs.declared.Piece.{Piece}
 use Rattle.sdp_fields.specs.declared.Origin.{Origin}
 use Rattle.sdp_fields.specs.declared.Connection.{Connection}
 use Rattle.sdp_fields.specs.declared.Bandwidth.{Bandwidth}
 use Rattle.sdp_fields.specs.declared.Time.{Time}
 use Rattle.sdp_fields.specs.declared.Pair.{Pair}
-use Rattle.sdp_fields.specs.declared.Port.{Port}
-use Rattle.sdp_fields.specs.declared.Media.{Media}
-use Rattle.sdp_fields.specs.declared.RepeatHead.{RepeatHead}
-use Rattle.sdp_fields.specs.declared.Zone.{Zone}
-use Rattle.sdp_split.specs.declared.Field.{Field}
-use Rattle.sdp_split.specs.declared.Field.the-variants as field
-use Rattle.sdp_judge.proofs.ReadLaws.{Every, every-got, never}
+use Rattle.sdp_media_line.specs.declared.Port.{Port}
+use Rattle.sdp_media_line.specs.declared.Media.{Media}
+use Rattle.sdp_lists.specs.declared.RepeatHead.{RepeatHead}
+use Rattle.sdp_lists.specs.declared.Zone.{Zone}
+use Rattle.sdp_judge.proofs.EveryLaws.{Every, every-got, never, every-then, every-end, every-text, every-token, every-choice, whole-within}
+use Rattle.sdp_media_line.proofs.BoundLaws.{every-number, every-port}
 use Rattle.sdp_step.specs.Step.{maybeIn, originIn, connectionIn, bandwidthIn, mediaIn, timeIn, zoneIn}
 use Rattle.sdp_put.specs.Digits.{digits, timeText}
 use Rattle.sdp_put.specs.Strings.{clean}
@@ -44,35 +44,22 @@ use Rattle.sdp_bound.specs.Kept.{id}
 use Rattle.sdp_bound.proofs.NumberLaws.{number-short, time-short, offset-short}
 use Rattle.sdp_room.proofs.SumLaws
 use Rattle.sdp_room.proofs.SumLaws.{sum}
-use Rattle.sdp_bound.proofs.FieldLaws.{part-len, weight, left, left-whole, left-word, first-piece, next-piece, rest-piece, past-text, past-token, past-number, past-time, past-choice, past-end}
+use Rattle.sdp_bound.proofs.FieldLaws.{part-len, weight, left, left-whole, left-word, first-piece, next-piece, rest-piece, past-number, past-time}
 
 -- ---- one string
 pub whole-short : (letter w : ℕ) (v : List ℕ) (p : Piece) → wholeOf w v ≡ got p → length (stringLine id letter (part v p)) ≤ length v + 4
-unfolding FieldRead.wholeOf
-whole-short letter w v p = go (isUtf8 v)
-  where
-    go : (b : Bool) → cond b (got (record { at = 0; len = length v })) (refused (record { number = 8; field = w })) ≡ got p → length (stringLine id letter (part v p)) ≤ length v + 4
-    go true e =
-        let z : record { at = 0; len = length v } ≡ p = cc in
-        omega (arith, length-line letter (clean (part v p)), length-clean (part v p), part-len v p, ap (λ (q : Piece). q .len) z)
-    go false e = absurd (let z : _≡_ {A = ℕ} 0 1 = cc in omega arith)
+whole-short letter w v p e = omega (arith, length-line letter (clean (part v p)), length-clean (part v p), part-len v p, whole-within w v p e)
 
 -- ---- records of words
--- a part that was read, and what follows it
-module _ {A B : Type 0} (P : B → Type 0) (Q : A → Type 0) where
-  past-read : (r : Read A) (k : A → Read B) → Every Q r → ((a : A) → Q a → Every P (k a)) → Every P (andThen r k)
-  past-read (got a) k q h = h a (q a refl)
-  past-read (refused x) k q h = never P x
-
 module _ (v : List ℕ) where
   -- how o and c end: three words, each with the space before it
   address-short : (w i : ℕ) → Every (λ c. length (clean (part v (c .nettype))) + length (clean (part v (c .addrtype))) + length (clean (part v (c .«connection_address»))) + 3 ≤ left v i) (addressOf w v i)
   unfolding Records.addressOf
   address-short w i =
-      past-token _ w v _ (wordAt v i) (λ net j n.
-      past-token _ (w + 1) v _ (wordAt v j) (λ kind l k.
-      past-text _ (w + 2) v _ (wordAt v l) (λ address e a.
-      past-end _ (w + 3) v (wordAt v e) _ (every-got _ _
+      every-token _ w v _ (wordAt v i) (λ net j n.
+      every-token _ (w + 1) v _ (wordAt v j) (λ kind l k.
+      every-text _ (w + 2) v _ (wordAt v l) (λ address e a.
+      every-end _ (w + 3) (wordAt v e) _ (every-got _ _
       (omega (arith, left-word v i net j n .0, left-word v j kind l k .0, left-word v l address e a .0, length-clean (part v net), length-clean (part v kind), length-clean (part v address)))))))
 
   pub connection-short : (c : Connection) → connectionOf v ≡ got c → length (connectionLine id (connectionIn (part v) c)) ≤ length v + 4
@@ -95,10 +82,10 @@ module _ (v : List ℕ) where
   pub origin-short : (o : Origin) → originOf v ≡ got o → length (originLine id (some (originIn (part v) o))) ≤ length v + 4
   unfolding Records.originOf Written.originLine Written.originValue Written.line
   origin-short =
-      past-text _ 1 v _ (wordAt v 0) (λ user i u.
-      past-text _ 2 v _ (wordAt v i) (λ sess j s.
+      every-text _ 1 v _ (wordAt v 0) (λ user i u.
+      every-text _ 2 v _ (wordAt v i) (λ sess j s.
       past-number _ 3 v _ (wordAt v j) (λ version k x n m.
-      past-read _ _ (addressOf 4 v k) _ (address-short 4 k) (λ c a. every-got _ _
+      every-then _ _ (addressOf 4 v k) _ (address-short 4 k) (λ c a. every-got _ _
       (simp length-append
       (omega (
         arith,
@@ -117,7 +104,7 @@ module _ (v : List ℕ) where
   times-short =
       past-number _ 15 v _ (wordAt v 0) (λ start i p n m.
       past-number _ 16 v _ (wordAt v i) (λ stop e q o k.
-      past-end _ 17 v (wordAt v e) _ (every-got _ _
+      every-end _ 17 (wordAt v e) _ (every-got _ _
       (simp length-append (omega (arith, left-word v 0 p i n .0, left-word v i q e o .0, left-whole v, m, k))))))
 
 -- ---- records of pieces
@@ -125,17 +112,17 @@ module _ (v : List ℕ) where
   pub bandwidth-short : (n : ℕ) (b : Bandwidth) → bandwidthOf v ≡ got b → length (bandwidthLine id (bandwidthIn (part v) n b)) ≤ length v + 4
   unfolding Records.bandwidthOf Written.bandwidthLine Written.line
   bandwidth-short n =
-      past-text _ 12 v _ (firstPiece 0x3a v) (λ kind i k.
+      every-text _ 12 v _ (firstPiece 0x3a v) (λ kind i k.
       past-number _ 13 v _ (pieceAfter 0x3a v i) (λ m e p q l.
-      past-end _ 14 v (pieceAfter 0x3a v e) _ (every-got _ _
+      every-end _ 14 (pieceAfter 0x3a v e) _ (every-got _ _
       (simp length-append
       (omega (arith, first-piece v 0x3a kind i k .0, next-piece v i p e 0x3a q .0, next-piece v i p e 0x3a q .1, l, length-clean (part v kind), part-len v kind, part-len v p))))))
 
   pub pair-short : (letter w x : ℕ) (p : Pair) → pairOf w x v ≡ got p → length (pairLine id letter (part v (p .name)) (maybeIn (part v) (p .value))) ≤ length v + 4
   unfolding Records.pairOf Written.pairLine Written.line
   pair-short letter w x =
-      past-text _ w v _ (firstPiece 0x3a v) (λ name i n.
-      past-choice _ x v _ (restAfter v i)
+      every-text _ w v _ (firstPiece 0x3a v) (λ name i n.
+      every-choice _ x v _ (restAfter v i)
       (λ value e q. every-got _ _
       (simp length-append
       (omega (arith, first-piece v 0x3a name i n .0, rest-piece v i value e q, length-clean (part v name), part-len v name, length-clean (part v value), part-len v value))))
@@ -143,21 +130,12 @@ module _ (v : List ℕ) where
       (simp length-append (omega (arith, first-piece v 0x3a name i n .0, first-piece v 0x3a name i n .1, length-clean (part v name), part-len v name)))))
 
 -- ---- the media, and its ports
-module _ {A : Type 0} (P : A → Type 0) (w : ℕ) (s : List ℕ) (k : ℕ → Read A) where
-  past-port : ((n : ℕ) → length (digits n) ≤ length s → Every P (k n)) → Every P (portNumber w (wholeNumber 16 s) k)
-  past-port h = go (wholeNumber 16 s) refl
-    where
-      go : (n : Number) → wholeNumber 16 s ≡ n → Every P (portNumber w n k)
-      go (Value n) q = h n (number-short 16 s n q)
-      go Encoding q = never _ _
-      go Format q = never _ _
-
 -- port or port/num
 abbrev portText : Port → List ℕ
 portText p = digits (p .port) ++ optional (λ n. (0x2f ∷ []) ++ digits n) (cond (p .«num_ports» .there) (some (p .«num_ports» .value)) none)
 
 port-short : (s : List ℕ) (p : Port) → portOf s ≡ got p → length (portText p) ≤ length s
-unfolding Records.portOf
+unfolding MediaLine.portOf
 port-short s = go (isUtf8 s) (ltb (indexOf 0x2f s) (length s)) refl
   where
     go : (b c : Bool) → ltb (indexOf 0x2f s) (length s) ≡ c
@@ -170,30 +148,21 @@ port-short s = go (isUtf8 s) (ltb (indexOf 0x2f s) (length s)) refl
         (refused (record { number = 8; field = 29 })))
     go false c q = never _ _
     go true true q =
-        past-port _ 28 (take (indexOf 0x2f s) s) _ (λ port h.
-        past-port _ 30 (drop (indexOf 0x2f s + 1) s) _ (λ n l.
+        every-number _ 28 (wholeNumber 16 (take (indexOf 0x2f s) s)) _ (λ port h.
+        every-number _ 30 (wholeNumber 16 (drop (indexOf 0x2f s + 1) s)) _ (λ n l.
         every-got _ _ (simp length-append
-        (omega (arith, h, l, ltb-true (indexOf 0x2f s) (length s) q, length-take (indexOf 0x2f s) s, length-drop (indexOf 0x2f s + 1) s)))))
+        (omega (arith, number-short 16 (take (indexOf 0x2f s) s) port h, number-short 16 (drop (indexOf 0x2f s + 1) s) n l, ltb-true (indexOf 0x2f s) (length s) q, length-take (indexOf 0x2f s) s, length-drop (indexOf 0x2f s + 1) s)))))
     go true false q =
-        past-port _ 28 (take (indexOf 0x2f s) s) _ (λ port h.
-        every-got _ _ (simp length-append (omega (arith, h, length-take (indexOf 0x2f s) s))))
-
-module _ {A : Type 0} (P : A → Type 0) (v : List ℕ) (k : Port → ℕ → Read A) where
-  past-ports : (f : Field) → ((p : Port) (e : ℕ) (x : Piece) → f ≡ field.Got x e → length (portText p) ≤ length (part v x) → Every P (k p e)) → Every P (afterPort v f k)
-  past-ports field.Nothing h = never _ _
-  past-ports (field.Got x e) h = go (portOf (part v x)) (port-short (part v x))
-    where
-      go : (r : Read Port) → Every (λ p. length (portText p) ≤ length (part v x)) r → Every P (andThen r (λ p. k p e))
-      go (got p) b = h p e x refl (b p refl)
-      go (refused x) b = never P x
+        every-number _ 28 (wholeNumber 16 (take (indexOf 0x2f s) s)) _ (λ port h.
+        every-got _ _ (simp length-append (omega (arith, number-short 16 (take (indexOf 0x2f s) s) port h, length-take (indexOf 0x2f s) s))))
 
 pub media-short : (v : List ℕ) (m : Media) → mediaOf v ≡ got m → length (mediaLine id (mediaIn (part v) m)) ≤ length v + 4
-unfolding Records.mediaOf Written.mediaLine Written.line
+unfolding MediaLine.mediaOf Written.mediaLine Written.line
 media-short v =
-    past-text _ 27 v _ (firstPiece 0x20 v) (λ name i n.
-    past-ports _ v _ (pieceAfter 0x20 v i) (λ port j x q l.
-    past-text _ 31 v _ (pieceAfter 0x20 v j) (λ proto k p.
-    past-text _ 32 v _ (restAfter v k) (λ fmt e f.
+    every-text _ 27 v _ (firstPiece 0x20 v) (λ name i n.
+    every-port _ v _ (pieceAfter 0x20 v i) (λ port j x q l.
+    every-text _ 31 v _ (pieceAfter 0x20 v j) (λ proto k p.
+    every-text _ 32 v _ (restAfter v k) (λ fmt e f.
     every-got _ _ (simp length-append
     (omega (
       arith,
@@ -201,7 +170,7 @@ media-short v =
       next-piece v i x j 0x20 q .0,
       next-piece v j proto k 0x20 p .0,
       rest-piece v k fmt e f,
-      simp length-append at l,
+      simp length-append at (port-short (part v x) port l),
       part-len v x,
       length-clean (part v name),
       part-len v name,
@@ -228,7 +197,7 @@ unfolding Lists.offsetsOf SumLaws.sum offsetsSize
 offsets-short [] = every-got _ _ (omega arith)
 offsets-short (w ∷ ws) =
     past-numbered _ 20 _ (typedTime w) (λ n q.
-    past-read _ _ (offsetsOf ws) _ (offsets-short ws) (λ ns h.
+    every-then _ _ (offsetsOf ws) _ (offsets-short ws) (λ ns h.
     every-got _ _ (omega (arith, time-short w n q, h))))
 
 -- interval, duration and offsets, with spaces between them
@@ -237,7 +206,7 @@ repeatSize r = length (timeText (r .interval)) + 1 + length (timeText (r .durati
 
 module _ (v : List ℕ) where
   head-short : (h : RepeatHead) → repeatHead v ≡ got h → length (timeText (h .«repeat_interval»)) + 1 + length (timeText (h .«active_duration»)) + left v (h .next) ≤ length v
-  unfolding Records.repeatHead
+  unfolding Lists.repeatHead
   head-short =
       past-time _ 18 v _ (wordAt v 0) (λ interval i p n m.
       past-time _ 19 v _ (wordAt v i) (λ duration e q o k.
@@ -246,8 +215,8 @@ module _ (v : List ℕ) where
   pub repeat-short : (r : RepeatLine) → repeatOf v ≡ got r → repeatSize r ≤ length v
   unfolding Lists.repeatOf repeatSize
   repeat-short =
-      past-read _ _ (repeatHead v) _ head-short (λ h a.
-      past-read _ _ (offsetsOf (words (drop (h .next) v))) _ (offsets-short (words (drop (h .next) v))) (λ ns b.
+      every-then _ _ (repeatHead v) _ head-short (λ h a.
+      every-then _ _ (offsetsOf (words (drop (h .next) v))) _ (offsets-short (words (drop (h .next) v))) (λ ns b.
       every-got _ _ (omega (arith, a, b))))
 
 -- a pair of the z line, with a space before or after it
@@ -260,8 +229,8 @@ pairs-short [] = every-got _ _ (omega arith)
 pairs-short (a ∷ []) = past-numbered _ 21 _ (wholeNumber 64 a) (λ n q. never _ _)
 pairs-short (a ∷ o ∷ ws) =
     past-numbered _ 21 _ (wholeNumber 64 a) (λ n q.
-    past-read _ _ (offsetOf o) _ (offset-short o) (λ m l.
-    past-read _ _ (pairsOf ws) _ (pairs-short ws) (λ zs h.
+    every-then _ _ (offsetOf o) _ (offset-short o) (λ m l.
+    every-then _ _ (pairsOf ws) _ (pairs-short ws) (λ zs h.
     every-got _ _ (omega (arith, number-short 64 a n q, l, h)))))
 
 -- the pairs after the first

@@ -8,8 +8,9 @@ use lib.ListN.{length, length-append}
 use lib.Dec.{ltb, leb, eqb}
 use Rattle.sdp_split.specs.Split.{part}
 use Rattle.sdp_judge.specs.Read.{Read, got, refused, wholeOf}
-use Rattle.sdp_fields.specs.Records.{originOf, connectionOf, bandwidthOf, timesOf, pairOf, mediaOf}
-use Rattle.sdp_fields.specs.Lists.{RepeatLine, repeatOf, zonesOf}
+use Rattle.sdp_fields.specs.Records.{originOf, connectionOf, bandwidthOf, timesOf, pairOf}
+use Rattle.sdp_media_line.specs.MediaLine.{mediaOf}
+use Rattle.sdp_lists.specs.Lists.{RepeatLine, repeatOf, zonesOf}
 use Rattle.sdp_area.specs.Session.{Key, Time, Media, Offset}
 use Rattle.sdp_area.specs.With.{titled, keyed}
 use Rattle.sdp_area.specs.Latest.{given, lastTitled, lastKeyed}

@@ -1,3 +1,2 @@
 pub mod Records
-pub mod Lists
 pub mod Answers

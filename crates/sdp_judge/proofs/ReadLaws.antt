@@ -7,15 +7,13 @@ use mathlib.Core.Bool.{Bool, true, false, cond}
 use mathlib.Core.List.{List}
 use lib.ListN.{length, take, drop}
 use Rattle.sdp_utf8.specs.Utf8.{isUtf8}
-use Rattle.sdp_bytes.specs.Token.{isToken}
 use Rattle.sdp_number.specs.Number.{typedTime}
 use Rattle.sdp_number.specs.declared.Number.{Number}
 use Rattle.sdp_number.specs.declared.Number.the-variants.{Value, Encoding, Format}
 use Rattle.sdp_split.specs.Split.{part, Inside, Within}
-use Rattle.sdp_judge.specs.Read.{Read, got, refused, encoding, format, textOf, tokenOf, amountOf, timeOf, afterText, afterAmount, afterChoice, ending}
+use Rattle.sdp_judge.specs.Read.{Read, encoding, textOf, amountOf, timeOf, afterText, afterAmount, afterChoice, ending}
 use Rattle.sdp_split.specs.declared.Piece.{Piece}
 use Rattle.sdp_judge.specs.declared.MaybePiece.{MaybePiece}
-use Rattle.sdp_judge.specs.declared.Wrong.{Wrong}
 use Rattle.sdp_split.specs.declared.Field.{Field}
 use Rattle.sdp_split.specs.declared.Field.the-variants as field
 use Rattle.sdp_judge.specs.declared.Text.{Text}
@@ -47,10 +45,6 @@ module _ {A : Type 0} where
   by-end w k = told (λ t. ending w t k)
 
 -- ---- what was read stands in a field of the value
-took : (b : Bool) (p p′ : Piece) (e e′ : ℕ) (x : Wrong) → cond b (text.Got p e) (text.Refused x) ≡ text.Got p′ e′ → field.Got p e ≡ field.Got p′ e′
-took true p p′ e e′ x q = cc
-took false p p′ e e′ x q = absurd (let z : _≡_ {A = ℕ} 0 1 = cc in omega arith)
-
 counted : (n : Number) (w e m e′ : ℕ) → amountOf w e n ≡ amount.Got m e′ → e ≡ e′
 counted (Value k) w e m e′ q = cc
 counted Encoding w e m e′ q = absurd (let z : _≡_ {A = ℕ} 0 1 = cc in omega arith)
@@ -58,28 +52,13 @@ counted Format w e m e′ q = absurd (let z : _≡_ {A = ℕ} 0 1 = cc in omega 
 
 module _ (w : ℕ) (v : List ℕ) where
   pub text-within : (f : Field) (p : Piece) (e : ℕ) → Within v f → textOf w v f ≡ text.Got p e → Inside v p × (e ≤ length v)
-  text-within (field.Got p′ e′) p e h q = h p e (took (isUtf8 (part v p′)) p′ p e′ e (encoding w) q)
+  text-within (field.Got p′ e′) p e h q = go (isUtf8 (part v p′)) q
+    where
+      go : (b : Bool) → cond b (text.Got p′ e′) (text.Refused (encoding w)) ≡ text.Got p e → Inside v p × (e ≤ length v)
+      go true q = h p e cc
+      go false q = absurd (let z : _≡_ {A = ℕ} 0 1 = cc in omega arith)
   text-within field.Nothing p e h q = absurd (let z : _≡_ {A = ℕ} 0 1 = cc in omega arith)
-
-  pub token-within : (f : Field) (p : Piece) (e : ℕ) → Within v f → tokenOf w v f ≡ text.Got p e → Inside v p × (e ≤ length v)
-  token-within (field.Got p′ e′) p e h q = h p e (took (isToken (part v p′)) p′ p e′ e (format w) q)
-  token-within field.Nothing p e h q = absurd (let z : _≡_ {A = ℕ} 0 1 = cc in omega arith)
 
   pub time-within : (f : Field) (n e : ℕ) → Within v f → timeOf w v f ≡ amount.Got n e → e ≤ length v
   time-within (field.Got p e′) n e h q = rw (counted (typedTime (part v p)) w e′ n e q) at (h p e′ refl .1)
   time-within field.Nothing n e h q = absurd (let z : _≡_ {A = ℕ} 0 1 = cc in omega arith)
-
--- ---- what holds of every record that is read
-abbrev pub Every : {A : Type 0} → (A → Type 0) → Read A → Type 0
-Every {A} P r = (a : A) → r ≡ got a → P a
-
-module _ {A : Type 0} (P : A → Type 0) where
-  pub every-got : (a : A) → P a → Every P (got a)
-  every-got a h b q = let z : a ≡ b = cc in rw z at h
-
-  pub never : (x : Wrong) → Every P (refused x)
-  never x b q = absurd (let z : _≡_ {A = ℕ} 0 1 = cc in omega arith)
-
-  pub every-amount : (t : Amount) (k : ℕ → ℕ → Read A) → ((n e : ℕ) → t ≡ amount.Got n e → Every P (k n e)) → Every P (afterAmount t k)
-  every-amount (amount.Got n e) k h = h n e refl
-  every-amount (amount.Refused x) k h = never x

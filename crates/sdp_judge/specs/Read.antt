@@ -11,6 +11,8 @@ use Rattle.sdp_number.specs.declared.Number.the-variants.{Value, Encoding, Form
 use Rattle.sdp_split.specs.Split.{part}
 use Rattle.sdp_split.specs.declared.Piece.{Piece}
 use Rattle.sdp_judge.specs.declared.MaybePiece.{MaybePiece}
+use Rattle.sdp_judge.specs.declared.Fault.{Fault}
+use Rattle.sdp_judge.specs.declared.Fault.the-variants as fault
 use Rattle.sdp_judge.specs.declared.Wrong.{Wrong}
 use Rattle.sdp_split.specs.declared.Field.{Field}
 use Rattle.sdp_split.specs.declared.Field.the-variants as field
@@ -43,6 +45,13 @@ missing w = record { number = 10; field = w }
 -- 11: something follows the last field
 abbrev pub trailing : ℕ → Wrong
 trailing w = record { number = 11; field = w }
+
+-- the refusal of field w by the name of what is wrong with it
+abbrev pub wrongOf : Fault → ℕ → Wrong
+wrongOf fault.Encoding w = encoding w
+wrongOf fault.Format w = format w
+wrongOf fault.Missing w = missing w
+wrongOf fault.Trailing w = trailing w
 
 -- a string: "all strings are UTF-8"
 abbrev pub textOf : ℕ → List ℕ → Field → Text

@@ -1,7 +1,7 @@
 // Document 01, module 3: one field judged, a string, a token, a number or a time. parser.rs has the same names.
 ghost use mathlib.Core.Path.{_≡_};
 ghost use Rattle.sdp_split.specs.Split.{Within, wordAt};
-ghost use Rattle.sdp_judge.specs.Read.{encoding, format, missing, amountOf, textOf, tokenOf, numberOf, timeOf, choiceOf, wholeOf, wholeAnswer};
+ghost use Rattle.sdp_judge.specs.Read.{wrongOf, amountOf, textOf, tokenOf, numberOf, timeOf, choiceOf, wholeOf, wholeAnswer};
 ghost use Rattle.sdp_judge.specs.Offset.{negated, signed, signedOf, offsetOf, offsetAnswer};
 use sdp_bytes::token::is_token;
 use sdp_number::Number;
@@ -18,6 +18,14 @@ pub struct MaybePiece {
     pub piece: Piece,
 }
 
+// What is wrong with a field.
+pub enum Fault {
+    Encoding,
+    Format,
+    Missing,
+    Trailing,
+}
+
 // A refusal: 8 encoding, 9 format, 10 missing field, 11 trailing data, and the field's number.
 pub struct Wrong {
     pub number: u64,
@@ -30,10 +38,22 @@ pub enum Text {
     Refused(Wrong),
 }
 
+// A piece and its end, out of its answer.
+pub struct Taken {
+    pub piece: Piece,
+    pub next: usize,
+}
+
 // A number that was read, and its field's end.
 pub enum Amount {
     Got { value: u64, next: usize },
     Refused(Wrong),
+}
+
+// A number and its field's end, out of its answer.
+pub struct Counted {
+    pub value: u64,
+    pub next: usize,
 }
 
 // A string that may be absent, read.
@@ -52,22 +72,16 @@ pub enum OffsetRead {
     Refused(Wrong),
 }
 
-fn encoding(field: u64) -> Wrong
-    ensures { λ r. ⌜ r ≡ encoding field ⌝ }
+// The refusal of field `field`.
+pub fn wrong_of(fault: Fault, field: u64) -> Wrong
+    ensures { λ r. ⌜ r ≡ wrongOf fault field ⌝ }
 {
-    Wrong { number: 8, field }
-}
-
-fn format(field: u64) -> Wrong
-    ensures { λ r. ⌜ r ≡ format field ⌝ }
-{
-    Wrong { number: 9, field }
-}
-
-fn missing(field: u64) -> Wrong
-    ensures { λ r. ⌜ r ≡ missing field ⌝ }
-{
-    Wrong { number: 10, field }
+    match fault {
+        Fault::Encoding => Wrong { number: 8, field },
+        Fault::Format => Wrong { number: 9, field },
+        Fault::Missing => Wrong { number: 10, field },
+        Fault::Trailing => Wrong { number: 11, field },
+    }
 }
 
 // A number that was read, as the answer for field w.
@@ -76,8 +90,8 @@ fn amount_of(w: u64, next: usize, n: Number) -> Amount
 {
     match n {
         Number::Value(value) => Amount::Got { value, next },
-        Number::Encoding => Amount::Refused(encoding(w)),
-        Number::Format => Amount::Refused(format(w)),
+        Number::Encoding => Amount::Refused(wrong_of(Fault::Encoding, w)),
+        Number::Format => Amount::Refused(wrong_of(Fault::Format, w)),
     }
 }
 
@@ -87,14 +101,14 @@ pub fn text_of(v: &[u8], w: u64, f: Field) -> Text
     ensures { λ r. ⌜ r ≡ textOf w (now (v .entry)) f ⌝ }
 {
     match f {
-        Field::Nothing => Text::Refused(missing(w)),
+        Field::Nothing => Text::Refused(wrong_of(Fault::Missing, w)),
         Field::Got { piece, next } => {
             let at = piece.at;
             let end = at + piece.len;
             if is_utf8(&v[at..end]) {
                 Text::Got { piece, next }
             } else {
-                Text::Refused(encoding(w))
+                Text::Refused(wrong_of(Fault::Encoding, w))
             }
         }
     }
@@ -106,14 +120,14 @@ fn token_of(v: &[u8], w: u64, f: Field) -> Text
     ensures { λ r. ⌜ r ≡ tokenOf w (now (v .entry)) f ⌝ }
 {
     match f {
-        Field::Nothing => Text::Refused(missing(w)),
+        Field::Nothing => Text::Refused(wrong_of(Fault::Missing, w)),
         Field::Got { piece, next } => {
             let at = piece.at;
             let end = at + piece.len;
             if is_token(&v[at..end]) {
                 Text::Got { piece, next }
             } else {
-                Text::Refused(format(w))
+                Text::Refused(wrong_of(Fault::Format, w))
             }
         }
     }
@@ -125,7 +139,7 @@ pub fn number_of(v: &[u8], w: u64, f: Field) -> Amount
     ensures { λ r. ⌜ r ≡ numberOf w (now (v .entry)) f ⌝ }
 {
     match f {
-        Field::Nothing => Amount::Refused(missing(w)),
+        Field::Nothing => Amount::Refused(wrong_of(Fault::Missing, w)),
         Field::Got { piece, next } => {
             let at = piece.at;
             let end = at + piece.len;
@@ -140,7 +154,7 @@ pub fn time_of(v: &[u8], w: u64, f: Field) -> Amount
     ensures { λ r. ⌜ r ≡ timeOf w (now (v .entry)) f ⌝ }
 {
     match f {
-        Field::Nothing => Amount::Refused(missing(w)),
+        Field::Nothing => Amount::Refused(wrong_of(Fault::Missing, w)),
         Field::Got { piece, next } => {
             let at = piece.at;
             let end = at + piece.len;
@@ -165,7 +179,7 @@ pub fn choice_of(v: &[u8], w: u64, f: Field) -> Choice
             if is_utf8(&v[at..end]) {
                 Choice::Got(MaybePiece { there: true, piece })
             } else {
-                Choice::Refused(encoding(w))
+                Choice::Refused(wrong_of(Fault::Encoding, w))
             }
         }
     }
@@ -209,7 +223,7 @@ pub fn whole(v: &[u8], w: u64) -> WholeRead
             len: v.len(),
         });
     }
-    WholeRead::Refused(encoding(w))
+    WholeRead::Refused(wrong_of(Fault::Encoding, w))
 }
 
 // Minus m in the 64 bits of an i64.
@@ -230,12 +244,12 @@ fn signed(negative: bool, m: u64) -> OffsetRead
         if m <= 0x8000_0000_0000_0000 {
             return OffsetRead::Got(negated(m));
         }
-        return OffsetRead::Refused(format(22));
+        return OffsetRead::Refused(wrong_of(Fault::Format, 22));
     }
     if m < 0x8000_0000_0000_0000 {
         return OffsetRead::Got(m);
     }
-    OffsetRead::Refused(format(22))
+    OffsetRead::Refused(wrong_of(Fault::Format, 22))
 }
 
 fn signed_of(negative: bool, n: Number) -> OffsetRead
@@ -243,8 +257,8 @@ fn signed_of(negative: bool, n: Number) -> OffsetRead
 {
     match n {
         Number::Value(m) => signed(negative, m),
-        Number::Encoding => OffsetRead::Refused(encoding(22)),
-        Number::Format => OffsetRead::Refused(format(22)),
+        Number::Encoding => OffsetRead::Refused(wrong_of(Fault::Encoding, 22)),
+        Number::Format => OffsetRead::Refused(wrong_of(Fault::Format, 22)),
     }
 }
 

@@ -7,7 +7,7 @@ use native.Mathlib.Nat.{le-div-iff-mul-le, div-lt-iff-lt-mul, le-trans}
 use mathlib.Core.Path.{_≡_, refl, sym, ap, _∙_}
 use mathlib.Core.Bool.{Bool, true, false, _&&_, and-true, and-false, cond}
 use mathlib.Core.List.{List, [], _∷_}
-use borrow.Author.Tests.{lt-ltb, le-ltb, le-leb, lt-leb, eq-eqb, ne-eqb, eqb-true, leb-true}
+use borrow.Author.Tests.{lt-ltb, le-ltb, le-leb, lt-leb, eq-eqb, ne-eqb, eqb-true, leb-true, ltb-true}
 use lib.Dec.{ltb, leb, eqb}
 use lib.ListN.{length, getD, take, drop, drop-of-length-le}
 use lib.Seq.{drop-cons}
@@ -160,3 +160,16 @@ module _ (k v : ℕ) (p : 0 < k) where
 
   pub scale-bad : 0xffff_ffff_ffff_ffff / k < v → scaled k (Value v) ≡ Format
   scale-bad h = let l = product-over 0xffff_ffff_ffff_ffff k v p h in scaled-over k v (omega arith)
+
+-- ---- a whole number of w bits is below 2^w
+pub number-below : (w : ℕ) (s : List ℕ) (n : ℕ) → wholeNumber w s ≡ Value n → n < 2 ^ w
+unfolding wholeNumber numeral digitsBelow
+number-below w s n = go (isUtf8 s) (ltb 0 (length (dropPlus s)) && (allDigits (dropPlus s) && ltb (value 0 (dropPlus s)) (2 ^ w))) refl
+  where
+    go : (u t : Bool) → (ltb 0 (length (dropPlus s)) && (allDigits (dropPlus s) && ltb (value 0 (dropPlus s)) (2 ^ w))) ≡ t
+        → cond u (cond t (Value (value 0 (dropPlus s))) Format) Encoding ≡ Value n → n < 2 ^ w
+    go true true q h =
+        let z : value 0 (dropPlus s) ≡ n = cc in
+        rw z at (ltb-true (value 0 (dropPlus s)) (2 ^ w) (and-right (allDigits (dropPlus s)) _ (and-right (ltb 0 (length (dropPlus s))) _ q)))
+    go true false q h = absurd (let z : _≡_ {A = ℕ} 0 1 = cc in omega arith)
+    go false t q h = absurd (let z : _≡_ {A = ℕ} 0 1 = cc in omega arith)

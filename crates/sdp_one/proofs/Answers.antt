@@ -24,6 +24,7 @@ use Rattle.sdp_split.proofs.word_at.Reads as sdpSplitWordAt
 use Rattle.sdp_split.proofs.first_piece.Reads as sdpSplitFirstPiece
 use Rattle.sdp_split.proofs.piece_after.Reads as sdpSplitPieceAfter
 use Rattle.sdp_split.proofs.rest_after.Reads as sdpSplitRestAfter
+use Rattle.sdp_judge.proofs.wrong_of.Reads as sdpJudgeWrongOf
 use Rattle.sdp_judge.proofs.text_of.Reads as sdpJudgeTextOf
 use Rattle.sdp_judge.proofs.number_of.Reads as sdpJudgeNumberOf
 use Rattle.sdp_judge.proofs.time_of.Reads as sdpJudgeTimeOf
@@ -39,10 +40,10 @@ use Rattle.sdp_fields.proofs.Connection.parse.Reads as sdpFieldsConnectionParse
 use Rattle.sdp_fields.proofs.Bandwidth.parse.Reads as sdpFieldsBandwidthParse
 use Rattle.sdp_fields.proofs.Time.parse.Reads as sdpFieldsTimeParse
 use Rattle.sdp_fields.proofs.Pair.parse.Reads as sdpFieldsPairParse
-use Rattle.sdp_fields.proofs.Media.parse_m_line.Reads as sdpFieldsMediaParseMLine
-use Rattle.sdp_fields.proofs.RepeatHead.parse.Reads as sdpFieldsRepeatHeadParse
-use Rattle.sdp_fields.proofs.repeat_offset.Reads as sdpFieldsRepeatOffset
-use Rattle.sdp_fields.proofs.Zone.parse.Reads as sdpFieldsZoneParse
+use Rattle.sdp_media_line.proofs.Media.parse_m_line.Reads as sdpMediaLineMediaParseMLine
+use Rattle.sdp_lists.proofs.RepeatHead.parse.Reads as sdpListsRepeatHeadParse
+use Rattle.sdp_lists.proofs.repeat_offset.Reads as sdpListsRepeatOffset
+use Rattle.sdp_lists.proofs.Zone.parse.Reads as sdpListsZoneParse
 use Rattle.sdp_cells.proofs.get2.Reads as sdpCellsGet2
 use Rattle.sdp_cells.proofs.put_words.Reads as sdpCellsPutWords
 use Rattle.sdp_cells.proofs.push_words.Reads as sdpCellsPushWords
@@ -192,6 +193,9 @@ pub sdp-split-rest-after : OneAnswer sdpSplitRestAfter.Learnt
 sdp-split-rest-after κs a z z′ e e′ p q = same p q
 
 -- ---- sdp_judge
+pub sdp-judge-wrong-of : OneAnswer sdpJudgeWrongOf.Learnt
+sdp-judge-wrong-of κs a z z′ e e′ p q = same p q
+
 pub sdp-judge-text-of : OneAnswer sdpJudgeTextOf.Learnt
 sdp-judge-text-of κs a z z′ e e′ p q = same p q
 
@@ -238,17 +242,19 @@ sdp-fields-Time-parse κs a z z′ e e′ p q = same p q
 pub sdp-fields-Pair-parse : OneAnswer sdpFieldsPairParse.Learnt
 sdp-fields-Pair-parse κs a z z′ e e′ p q = same p q
 
-pub sdp-fields-Media-parse-m-line : OneAnswer sdpFieldsMediaParseMLine.Learnt
-sdp-fields-Media-parse-m-line κs a z z′ e e′ p q = same p q
+-- ---- sdp_media_line
+pub sdp-media-line-Media-parse-m-line : OneAnswer sdpMediaLineMediaParseMLine.Learnt
+sdp-media-line-Media-parse-m-line κs a z z′ e e′ p q = same p q
 
-pub sdp-fields-RepeatHead-parse : OneAnswer sdpFieldsRepeatHeadParse.Learnt
-sdp-fields-RepeatHead-parse κs a z z′ e e′ p q = same p q
+-- ---- sdp_lists
+pub sdp-lists-RepeatHead-parse : OneAnswer sdpListsRepeatHeadParse.Learnt
+sdp-lists-RepeatHead-parse κs a z z′ e e′ p q = same p q
 
-pub sdp-fields-repeat-offset : OneAnswer sdpFieldsRepeatOffset.Learnt
-sdp-fields-repeat-offset κs a z z′ e e′ p q = same p q
+pub sdp-lists-repeat-offset : OneAnswer sdpListsRepeatOffset.Learnt
+sdp-lists-repeat-offset κs a z z′ e e′ p q = same p q
 
-pub sdp-fields-Zone-parse : OneAnswer sdpFieldsZoneParse.Learnt
-sdp-fields-Zone-parse κs a z z′ e e′ p q = same p q
+pub sdp-lists-Zone-parse : OneAnswer sdpListsZoneParse.Learnt
+sdp-lists-Zone-parse κs a z z′ e e′ p q = same p q
 
 -- ---- sdp_cells
 pub sdp-cells-get2 : OneAnswer sdpCellsGet2.Learnt

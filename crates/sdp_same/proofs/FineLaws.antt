@@ -22,23 +22,25 @@ use Rattle.sdp_split.specs.Split.{part, wordAt, firstPiece, pieceAfter, restAft
 use Rattle.sdp_judge.specs.Read as field-read
 use Rattle.sdp_judge.specs.Read.{Read, got, refused, andThen, encoding, format, textOf, tokenOf, amountOf, numberOf, timeOf, choiceOf, absent, afterText, afterAmount, afterChoice, ending, wholeOf}
 use Rattle.sdp_fields.specs.Records as records
-use Rattle.sdp_fields.specs.Records.{usernameOf, addressOf, originOf, connectionOf, bandwidthOf, timesOf, pairOf, portNumber, portOf, afterPort, mediaOf, repeatHead}
+use Rattle.sdp_fields.specs.Records.{usernameOf, addressOf, originOf, connectionOf, bandwidthOf, timesOf, pairOf}
+use Rattle.sdp_media_line.specs.MediaLine
+use Rattle.sdp_media_line.specs.MediaLine.{portNumber, portOf, afterPort, mediaOf}
 use Rattle.sdp_judge.specs.Offset as signed-offset
 use Rattle.sdp_judge.specs.Offset.{negated, signed, signedOf, offsetOf}
-use Rattle.sdp_fields.specs.Lists as lists
-use Rattle.sdp_fields.specs.Lists.{RepeatLine, numbered, offsetsOf, repeatOf, pairsOf, zonesOf}
+use Rattle.sdp_lists.specs.Lists as lists
+use Rattle.sdp_lists.specs.Lists.{repeatHead, RepeatLine, numbered, offsetsOf, repeatOf, pairsOf, zonesOf}
 use Rattle.sdp_split.specs.declared.Piece.{Piece}
 use Rattle.sdp_judge.specs.declared.MaybePiece.{MaybePiece}
-use Rattle.sdp_fields.specs.declared.MaybeNumber.{MaybeNumber}
+use Rattle.sdp_media_line.specs.declared.MaybeNumber.{MaybeNumber}
 use Rattle.sdp_fields.specs.declared.Pair.{Pair}
-use Rattle.sdp_fields.specs.declared.Port.{Port}
+use Rattle.sdp_media_line.specs.declared.Port.{Port}
 use Rattle.sdp_judge.specs.declared.Wrong.{Wrong}
 use Rattle.sdp_split.specs.declared.Field.{Field}
 use Rattle.sdp_split.specs.declared.Field.the-variants as field
 use Rattle.sdp_judge.specs.declared.Text.the-variants as text
 use Rattle.sdp_judge.specs.declared.Choice.the-variants as choice
 use Rattle.sdp_split.proofs.SplitLaws.{word-within, first-within, after-within, rest-within}
-use Rattle.sdp_fields.proofs.BoundLaws.{number-below}
+use Rattle.sdp_number.proofs.NumberLaws.{number-below}
 use Rattle.sdp_step.specs.Step.{maybeIn, originIn, connectionIn, keyIn, attributeIn, bandwidthIn, portsIn, mediaIn, timeIn, zoneIn}
 use Rattle.sdp_same.specs.Fits.{IfGiven, Each, FitOrigin, FitConnection, FitKey, FitBandwidth, FitAttribute, FitMedia, FitTime, FitZone}
 use Rattle.sdp_same.proofs.TokenLaws.{token-utf8}
@@ -186,7 +188,7 @@ offsets-below (x ∷ xs) =
     gives-then _ (Each (λ n. n < 2 ^ 64)) (offsetsOf xs) (offsets-below xs) _ (λ ns h. (l, h)))
 
 head-below : (v : List ℕ) → Gives (λ h. (h .«repeat_interval» < 2 ^ 64) × (h .«active_duration» < 2 ^ 64)) (repeatHead v)
-unfolding records.repeatHead
+unfolding lists.repeatHead
 head-below v = of-time _ 18 v (wordAt v 0) _ (λ n i a. of-time _ 19 v (wordAt v i) _ (λ m e b. (a, b)))
 
 pub repeat-fit : (v : List ℕ) → Gives FitLine (repeatOf v)
@@ -210,7 +212,7 @@ zones-fit v = pairs-fit (words v)
 
 -- both numbers of a port's field have 16 bits
 port-fit : (s : List ℕ) → Gives (λ p. (p .port < 65536) × (p .«num_ports» .value < 65536)) (portOf s)
-unfolding records.portOf
+unfolding MediaLine.portOf
 port-fit s =
     gives-cond _ (isUtf8 s) _ (refused (encoding 29))
     (of-port _ 28 (take (indexOf 0x2f s) s) _ (λ p l.
@@ -291,7 +293,7 @@ module _ (v : List ℕ) (mk : Piece → Span) (P : Span → Type 0) (fine : (p :
       go false = tt
 
   pub media-fit : Gives (λ m. FitMedia P (mediaIn mk m)) (mediaOf v)
-  unfolding records.mediaOf
+  unfolding MediaLine.mediaOf
   media-fit =
       of-text _ 27 v (firstPiece 0x20 v) (first-within 0x20 v) _ (λ name i n.
       port _ (pieceAfter 0x20 v i) _ (λ port j b.

@@ -7,17 +7,19 @@ use mathlib.Core.Option.{Option, none, some, Option·map}
 use lib.Dec.{ltb, leb, eqb}
 use lib.ListN.{length, length-map}
 use Rattle.sdp_judge.specs.Read.{Read, got, refused, wholeOf}
-use Rattle.sdp_fields.specs.Records.{originOf, connectionOf, bandwidthOf, timesOf, pairOf, mediaOf}
-use Rattle.sdp_fields.specs.Lists.{RepeatLine, repeatOf, zonesOf}
+use Rattle.sdp_fields.specs.Records.{originOf, connectionOf, bandwidthOf, timesOf, pairOf}
+use Rattle.sdp_media_line.specs.MediaLine.{mediaOf}
+use Rattle.sdp_lists.specs.Lists.{RepeatLine, repeatOf, zonesOf}
 use Rattle.sdp_split.specs.Split.{Inside}
 use Rattle.sdp_split.specs.declared.Piece.{Piece}
 use Rattle.sdp_judge.specs.declared.MaybePiece.{MaybePiece}
 use Rattle.sdp_fields.specs.declared.Origin as origin
 use Rattle.sdp_fields.specs.declared.Connection as connection
 use Rattle.sdp_fields.specs.declared.Pair.{Pair}
-use Rattle.sdp_fields.specs.declared.Media as media
-use Rattle.sdp_judge.proofs.ReadLaws.{Every}
-use Rattle.sdp_fields.proofs.BoundLaws.{OriginInside, origin-within, ConnectionInside, connection-within, PairInside, pair-within, MediaInside, media-within, whole-within, bandwidth-within}
+use Rattle.sdp_media_line.specs.declared.Media as media
+use Rattle.sdp_fields.proofs.BoundLaws.{OriginInside, origin-within, ConnectionInside, connection-within, PairInside, pair-within, bandwidth-within}
+use Rattle.sdp_media_line.proofs.BoundLaws.{MediaInside, media-within}
+use Rattle.sdp_judge.proofs.EveryLaws.{Every, whole-within}
 use Rattle.sdp_area.specs.Session.{Media, Session}
 use Rattle.sdp_area.specs.With as change
 use Rattle.sdp_area.specs.With.{withOrigin, withName, withDescription, withUri, withConnection, withKey, withEmails, withPhones, withConnections, withBandwidths, withZones, withAttributes, withMedias, setLast, titled, keyed}

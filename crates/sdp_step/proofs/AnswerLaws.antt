@@ -17,11 +17,13 @@ use Rattle.sdp_fields.specs.declared.Time.{Time}
 use Rattle.sdp_fields.specs.declared.TimeRead.the-variants as time
 use Rattle.sdp_fields.specs.declared.Pair.{Pair}
 use Rattle.sdp_fields.specs.declared.PairRead.the-variants as pair
-use Rattle.sdp_fields.specs.declared.Media.{Media}
-use Rattle.sdp_fields.specs.declared.MediaRead.the-variants as media
-use Rattle.sdp_fields.specs.declared.RepeatHead.{RepeatHead}
-use Rattle.sdp_fields.specs.declared.RepeatRead.the-variants as repeat
-use Rattle.sdp_fields.specs.Answers.{originAnswer, connectionAnswer, bandwidthAnswer, timeAnswer, pairAnswer, mediaAnswer, repeatAnswer}
+use Rattle.sdp_media_line.specs.declared.Media.{Media}
+use Rattle.sdp_media_line.specs.declared.MediaRead.the-variants as media
+use Rattle.sdp_lists.specs.declared.RepeatHead.{RepeatHead}
+use Rattle.sdp_lists.specs.declared.RepeatRead.the-variants as repeat
+use Rattle.sdp_fields.specs.Answers.{originAnswer, connectionAnswer, bandwidthAnswer, timeAnswer, pairAnswer}
+use Rattle.sdp_media_line.specs.Answers.{mediaAnswer}
+use Rattle.sdp_lists.specs.Answers.{repeatAnswer}
 
 pub whole-got : (r : Read Piece) (x : Piece) → wholeAnswer r ≡ whole.Got x → r ≡ got x
 whole-got (got y) x e = cc

@@ -11,15 +11,14 @@ use borrow.Author.Tests.{lt-ltb, le-ltb, le-leb, lt-leb, ltb-true, ltb-false}
 use Rattle.sdp_lines.specs.declared.Span.{Span}
 use Rattle.sdp_split.specs.Split.{words}
 use Rattle.sdp_judge.specs.Read.{Read, got, refused, andThen}
-use Rattle.sdp_fields.specs.Lists
-use Rattle.sdp_fields.specs.Lists.{offsetsOf, repeatOf}
-use Rattle.sdp_fields.specs.Records.{repeatHead}
-use Rattle.sdp_fields.specs.Answers.{offsetAt}
+use Rattle.sdp_lists.specs.Lists
+use Rattle.sdp_lists.specs.Lists.{offsetsOf, repeatOf, repeatHead}
+use Rattle.sdp_lists.specs.Answers.{offsetAt}
 use Rattle.sdp_split.specs.declared.Piece.{Piece}
-use Rattle.sdp_fields.specs.declared.RepeatHead.{RepeatHead}
+use Rattle.sdp_lists.specs.declared.RepeatHead.{RepeatHead}
 use Rattle.sdp_judge.specs.declared.Wrong.{Wrong}
-use Rattle.sdp_fields.specs.declared.RepeatOffset.the-variants as offsets
-use Rattle.sdp_fields.proofs.WordLaws.{offset-done, offset-next, offset-refused}
+use Rattle.sdp_lists.specs.declared.RepeatOffset.the-variants as offsets
+use Rattle.sdp_lists.proofs.RestLaws.{offset-done, offset-next, offset-refused}
 use Rattle.sdp_area.specs.Session.{Repeat, Offset, Session, Within}
 use Rattle.sdp_area.specs.With.{withRepeats, withOffsets}
 use Rattle.sdp_cells.specs.Tables.{add, pushed, told, grown}

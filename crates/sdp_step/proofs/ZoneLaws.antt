@@ -10,14 +10,14 @@ use borrow.Author.Tests.{le-leb, lt-leb}
 use Rattle.sdp_lines.specs.declared.Span.{Span}
 use Rattle.sdp_split.specs.Split.{words}
 use Rattle.sdp_judge.specs.Read.{got, refused, andThen}
-use Rattle.sdp_fields.specs.Lists
-use Rattle.sdp_fields.specs.Lists.{pairsOf, zonesOf}
-use Rattle.sdp_fields.specs.Answers.{zoneAt}
+use Rattle.sdp_lists.specs.Lists
+use Rattle.sdp_lists.specs.Lists.{pairsOf, zonesOf}
+use Rattle.sdp_lists.specs.Answers.{zoneAt}
 use Rattle.sdp_split.specs.declared.Piece.{Piece}
 use Rattle.sdp_judge.specs.declared.Wrong.{Wrong}
-use Rattle.sdp_fields.specs.declared.Zone as field
-use Rattle.sdp_fields.specs.declared.ZoneRead.the-variants as zones
-use Rattle.sdp_fields.proofs.WordLaws.{zone-done, zone-next, zone-refused}
+use Rattle.sdp_lists.specs.declared.Zone as field
+use Rattle.sdp_lists.specs.declared.ZoneRead.the-variants as zones
+use Rattle.sdp_lists.proofs.RestLaws.{zone-done, zone-next, zone-refused}
 use Rattle.sdp_area.specs.Session.{Zone, Session, Within}
 use Rattle.sdp_area.specs.With.{withZones}
 use Rattle.sdp_cells.specs.Tables.{add, grown}

@@ -8,7 +8,7 @@ use lib.ListN.{length, drop}
 use Rattle.sdp_lines.specs.declared.Span.{Span}
 use Rattle.sdp_split.specs.Split.{words}
 use Rattle.sdp_judge.specs.Read.{Read, got, refused}
-use Rattle.sdp_fields.specs.Lists.{offsetsOf}
+use Rattle.sdp_lists.specs.Lists.{offsetsOf}
 use Rattle.sdp_area.specs.Session.{Repeat, Session}
 use Rattle.sdp_area.specs.Area.{encode, size}
 use Rattle.sdp_cells.specs.declared.Pushed.{Pushed}

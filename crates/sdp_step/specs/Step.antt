@@ -8,18 +8,19 @@ use lib.ListN.{length}
 use lib.Dec.{ltb, leb, eqb}
 use Rattle.sdp_split.specs.declared.Piece.{Piece}
 use Rattle.sdp_judge.specs.declared.MaybePiece.{MaybePiece}
-use Rattle.sdp_fields.specs.declared.MaybeNumber.{MaybeNumber}
+use Rattle.sdp_media_line.specs.declared.MaybeNumber.{MaybeNumber}
 use Rattle.sdp_judge.specs.declared.Wrong.{Wrong}
-use Rattle.sdp_fields.specs.declared.Zone as zone
+use Rattle.sdp_lists.specs.declared.Zone as zone
 use Rattle.sdp_fields.specs.declared.Origin as origin
 use Rattle.sdp_fields.specs.declared.Connection as connection
 use Rattle.sdp_fields.specs.declared.Bandwidth as bandwidth
 use Rattle.sdp_fields.specs.declared.Time as time
 use Rattle.sdp_fields.specs.declared.Pair.{Pair}
-use Rattle.sdp_fields.specs.declared.Media as media
+use Rattle.sdp_media_line.specs.declared.Media as media
 use Rattle.sdp_judge.specs.Read.{Read, got, refused, wholeOf}
-use Rattle.sdp_fields.specs.Records.{originOf, connectionOf, bandwidthOf, timesOf, pairOf, mediaOf}
-use Rattle.sdp_fields.specs.Lists.{RepeatLine, repeatOf, zonesOf}
+use Rattle.sdp_fields.specs.Records.{originOf, connectionOf, bandwidthOf, timesOf, pairOf}
+use Rattle.sdp_media_line.specs.MediaLine.{mediaOf}
+use Rattle.sdp_lists.specs.Lists.{RepeatLine, repeatOf, zonesOf}
 use Rattle.sdp_area.specs.Session.{Origin, Connection, Key, MediaConnection, Bandwidth, Time, Repeat, Zone, Attribute, Media, Session, empty}
 use Rattle.sdp_area.specs.With.{withOrigin, withName, withDescription, withUri, withConnection, withKey, withMedias, setLast, titled, keyed}
 use Rattle.sdp_area.specs.With.{withEmails, withPhones, withConnections, withBandwidths, withTimes, withRepeats, withOffsets, withZones, withAttributes}

@@ -36,7 +36,7 @@ returns-4 c =
     let g3 = c .before .before .before .before in
     let g2 = g3 .before .before .before .before in
     let g1 = g2 .before .before .before .before in
-    rw (c .trailing .ensures) (sym (ap connectionAnswer
+    rw (c .wrong-of .ensures) (sym (ap connectionAnswer
     (by-text _ (g1 .before .before .before .word-token .ensures) (g1 .before .piece .given .1)
     ∙ by-text _ (g2 .before .before .before .word-token2 .ensures) (g2 .before .piece2 .given .1)
     ∙ by-text _ (g3 .before .before .before .word-text .ensures) (g3 .before .piece3 .given .1)

@@ -19,7 +19,7 @@ returns-2 : tie.Need-returns-2
 returns-2 c = rw (c .before .before .before .before .before .f .given .1, judged isUtf8 _ _ _ _ (c .before .is-utf8 .ensures) (c .if1 .taken))
 
 returns-3 : tie.Need-returns-3
-returns-3 c = rw (c .encoding .ensures, c .before .before .before .before .before .before .f .given .1, judged isUtf8 _ _ _ _ (c .before .before .is-utf8 .ensures) (c .before .if1 .left))
+returns-3 c = rw (c .wrong-of .ensures, c .before .before .before .before .before .before .f .given .1, judged isUtf8 _ _ _ _ (c .before .before .is-utf8 .ensures) (c .before .if1 .left))
 
 pub choice-of-spec : {M : Type 1} → statement M
 choice-of-spec =

@@ -14,7 +14,7 @@ part-number64-end : tie.Need-part-number64-end
 part-number64-end c = let h = c .before .before .before .before .before .pre _ _ (c .before .before .f .given .1) in omega arith
 
 returns : tie.Need-returns
-returns c = rw (c .missing .ensures, c .before .enum-told .given .1)
+returns c = rw (c .wrong-of .ensures, c .before .enum-told .given .1)
 
 returns-2 : tie.Need-returns-2
 returns-2 c = c .amount-of .ensures ∙ rw (c .before .before .before .before .before .f .given .1, judged (wholeNumber 64) _ _ _ _ (c .before .number64 .ensures) refl)

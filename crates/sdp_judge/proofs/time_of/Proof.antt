@@ -14,7 +14,7 @@ part-typed-time-end : tie.Need-part-typed-time-end
 part-typed-time-end c = let h = c .before .before .before .before .before .pre _ _ (c .before .before .f .given .1) in omega arith
 
 returns : tie.Need-returns
-returns c = rw (c .missing .ensures, c .before .enum-told .given .1)
+returns c = rw (c .wrong-of .ensures, c .before .enum-told .given .1)
 
 returns-2 : tie.Need-returns-2
 returns-2 c = c .amount-of .ensures ∙ rw (c .before .before .before .before .before .f .given .1, judged typedTime _ _ _ _ (c .before .typed-time .ensures) refl)

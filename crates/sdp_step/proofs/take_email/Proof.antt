@@ -1,7 +1,7 @@
 -- `sdp_step::take_email` meets its contract. Assumes nothing.
 use mathlib.Core.Path.{refl, sym, _∙_}
 use native.Mathlib.Omega.{arith}
-use Rattle.sdp_fields.proofs.BoundLaws.{whole-within}
+use Rattle.sdp_judge.proofs.EveryLaws.{whole-within}
 use Rattle.sdp_area.specs.With.{withEmails}
 use Rattle.sdp_area.proofs.GrownLaws.{emails-grown}
 use Rattle.sdp_step.specs.Step.{stepRole}

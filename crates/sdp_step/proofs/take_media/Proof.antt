@@ -1,7 +1,7 @@
 -- `sdp_step::take_media` meets its contract. Assumes nothing.
 use mathlib.Core.Path.{refl, sym, _∙_}
 use native.Mathlib.Omega.{arith}
-use Rattle.sdp_fields.proofs.BoundLaws.{media-within}
+use Rattle.sdp_media_line.proofs.BoundLaws.{media-within}
 use Rattle.sdp_area.specs.With.{withMedias}
 use Rattle.sdp_area.proofs.GrownLaws.{medias-grown}
 use Rattle.sdp_step.specs.Step.{stepRole}

@@ -1,7 +1,7 @@
 -- `sdp_step::take_name` meets its contract. Assumes nothing.
 use mathlib.Core.Path.{refl, sym, ap, _∙_}
 use native.Mathlib.Omega.{arith}
-use Rattle.sdp_fields.proofs.BoundLaws.{whole-within}
+use Rattle.sdp_judge.proofs.EveryLaws.{whole-within}
 use Rattle.sdp_area.proofs.HeadLaws.{name-set}
 use Rattle.sdp_step.specs.Step.{stepRole}
 use Rattle.sdp_step.specs.declared.Marks.{Marks}

@@ -6,7 +6,7 @@ use mathlib.Core.List.{List, []}
 use lib.ListN.{length}
 use borrow.Author.Needs.{needs}
 use Rattle.sdp_lines.specs.declared.Span.{Span}
-use Rattle.sdp_fields.proofs.WordLaws.{offset-next}
+use Rattle.sdp_lists.proofs.RestLaws.{offset-next}
 use Rattle.sdp_area.specs.Session.{Repeat}
 use Rattle.sdp_step.specs.Step.{Reading}
 use Rattle.sdp_step.specs.Hold.{Holds}

@@ -5,7 +5,7 @@ use Prim.Native.Nat.{ℕ, _+_}
 use native.Mathlib.Omega.{arith}
 use mathlib.Core.Path.{refl, sym, ap, _∙_}
 use mathlib.Core.List.{[]}
-use Rattle.sdp_fields.proofs.WordLaws.{head-next}
+use Rattle.sdp_lists.proofs.RestLaws.{head-next}
 use Rattle.sdp_area.proofs.GrownLaws.{times-count, repeats-count, repeats-grown}
 use Rattle.sdp_strings.specs.Strings.{spanAt}
 use Rattle.sdp_step.specs.Step.{stepRole}

@@ -8,7 +8,7 @@ use mathlib.Core.List.{List, []}
 use lib.ListN.{length}
 use borrow.Author.Needs.{needs}
 use Rattle.sdp_lines.specs.declared.Span.{Span}
-use Rattle.sdp_fields.proofs.WordLaws.{zone-next}
+use Rattle.sdp_lists.proofs.RestLaws.{zone-next}
 use Rattle.sdp_step.specs.Step.{Reading, stepRole}
 use Rattle.sdp_step.specs.Hold.{Holds}
 use Rattle.sdp_step.specs.declared.Marks.{Marks}

@@ -33,7 +33,7 @@ unfolding bandwidthOf
 returns-3 c =
     let g2 = c .before .before .before .before in
     let g1 = g2 .before .before .before .before .before in
-    rw (c .trailing .ensures) (sym (ap bandwidthAnswer
+    rw (c .wrong-of .ensures) (sym (ap bandwidthAnswer
     (by-text _ (g1 .before .before .before .text-of .ensures ∙ ap (textOf _ _) (g1 .before .before .before .before .first-piece .ensures)) (g1 .before .piece .given .1)
     ∙ by-amount _ (g2 .before .before .before .number-of .ensures ∙ ap (numberOf _ _) (g2 .before .before .before .before .piece-after .ensures)) (g2 .before .value .given .1)
     ∙ by-end _ _ (c .before .before .before .piece-after2 .ensures) (c .before .enum-told .given .1))))

@@ -25,7 +25,7 @@ unfolding timesOf
 returns-3 c =
     let g2 = c .before .before .before .before in
     let g1 = g2 .before .before .before .before in
-    rw (c .trailing .ensures) (sym (ap timeAnswer
+    rw (c .wrong-of .ensures) (sym (ap timeAnswer
     (by-amount _ (g1 .before .before .before .word-number .ensures) (g1 .before .value .given .1)
     ∙ by-amount _ (g2 .before .before .before .word-number2 .ensures) (g2 .before .value2 .given .1)
     ∙ by-end _ _ (c .before .before .before .word-at .ensures) (c .before .enum-told .given .1))))

@@ -1,0 +1,61 @@
+-- The answers of the code as the enums that it hands out: the record, one offset or one pair, or the refusal in the paper's numbers (Wrong).
+use Prim.Native.Nat.{ℕ}
+use mathlib.Core.List.{List}
+use Rattle.sdp_number.specs.Number.{wholeNumber, typedTime}
+use Rattle.sdp_split.specs.Split.{part, wordAt}
+use Rattle.sdp_judge.specs.Read.{Read, got, refused, missing, amountOf}
+use Rattle.sdp_judge.specs.Offset.{offsetOf}
+use Rattle.sdp_lists.specs.declared.RepeatHead.{RepeatHead}
+use Rattle.sdp_split.specs.declared.Field.{Field}
+use Rattle.sdp_split.specs.declared.Field.the-variants as field
+use Rattle.sdp_judge.specs.declared.Amount.{Amount}
+use Rattle.sdp_judge.specs.declared.Amount.the-variants as amount
+use Rattle.sdp_lists.specs.declared.RepeatRead.{RepeatRead}
+use Rattle.sdp_lists.specs.declared.RepeatRead.the-variants as repeat
+use Rattle.sdp_lists.specs.declared.RepeatOffset.{RepeatOffset}
+use Rattle.sdp_lists.specs.declared.RepeatOffset.the-variants as offsets
+use Rattle.sdp_lists.specs.declared.ZoneRead.{ZoneRead}
+use Rattle.sdp_lists.specs.declared.ZoneRead.the-variants.{Got, Done, Refused}
+
+-- repeat
+abbrev pub repeatAnswer : Read RepeatHead → RepeatRead
+repeatAnswer (got x) = repeat.Got x
+repeatAnswer (refused w) = repeat.Refused w
+
+-- a pair of the z line whose offset was judged
+abbrev pub zoneDone : ℕ → ℕ → Read ℕ → ZoneRead
+zoneDone n e (got m) = Got (record { «adjustment_time» = n; offset = m }) e
+zoneDone n e (refused x) = Refused x
+
+-- its second field: a missing offset is 10 at field 22
+abbrev pub zoneSecond : ℕ → List ℕ → Field → ZoneRead
+zoneSecond n v field.Nothing = Refused (missing 22)
+zoneSecond n v (field.Got p e) = zoneDone n e (offsetOf (part v p))
+
+-- what follows its first field
+abbrev pub zoneFirst : List ℕ → Amount → ZoneRead
+zoneFirst v (amount.Got n e) = zoneSecond n v (wordAt v e)
+zoneFirst v (amount.Refused x) = Refused x
+
+-- its first field: where none is left the line is done
+abbrev pub zoneField : List ℕ → Field → ZoneRead
+zoneField v field.Nothing = Done
+zoneField v (field.Got p e) = zoneFirst v (amountOf 21 e (wholeNumber 64 (part v p)))
+
+-- the pair from place i on
+unfoldable pub zoneAt : List ℕ → ℕ → ZoneRead
+zoneAt v i = zoneField v (wordAt v i)
+
+-- an offset of the r line that was judged
+abbrev pub offsetTaken : Amount → RepeatOffset
+offsetTaken (amount.Got n e) = offsets.Got n e
+offsetTaken (amount.Refused x) = offsets.Refused x
+
+-- its field: where none is left the line is done
+abbrev pub offsetField : List ℕ → Field → RepeatOffset
+offsetField v field.Nothing = offsets.Done
+offsetField v (field.Got p e) = offsetTaken (amountOf 20 e (typedTime (part v p)))
+
+-- the offset from place i on
+unfoldable pub offsetAt : List ℕ → ℕ → RepeatOffset
+offsetAt v i = offsetField v (wordAt v i)

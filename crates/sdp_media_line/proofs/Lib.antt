@@ -1,0 +1,2 @@
+pub mod PortLaws
+pub mod BoundLaws

@@ -1,0 +1,2 @@
+pub mod MediaLine
+pub mod Answers
