@@ -5,8 +5,7 @@ use mathlib.Core.Path.{_≡_, sym, _∙_, subst}
 use mathlib.Core.Bool.{Bool, true, false, cond}
 use mathlib.Core.List.{List}
 use lib.Dec.{eqb}
-use lib.ListN.{length, getD, take, drop}
-use borrow.Author.Tests.{eq-eqb, ne-eqb}
+use lib.ListN.{length, take, drop}
 use Rattle.sdp_lines.specs.Lines.{start}
 use Rattle.sdp_lines.specs.declared.Cursor.{Cursor}
 use Rattle.sdp_lines.specs.declared.LineNumber.{LineNumber}
@@ -20,22 +19,12 @@ use Rattle.sdp_read.proofs.RunLaws.{part-is, begin-line, line-moves}
 use Rattle.sdp_strings.specs.Strings.{spanAt}
 use Rattle.sdp_step.specs.Step.{fresh}
 use Rattle.sdp_read.specs.Run.{refused, noVersion, badVersion, isZero, version}
-use Rattle.sdp_read.specs.From.{Reached, runAt, beginAt, openingOf, Begun}
-use Rattle.sdp_read.specs.declared.Opening.{Opening}
-use Rattle.sdp_read.specs.declared.Opening.the-variants as opening
+use Rattle.sdp_line.specs.Version.{openingOf}
+use Rattle.sdp_read.specs.From.{Reached, runAt, beginAt, Begun}
+use Rattle.sdp_line.specs.declared.Opening.{Opening}
+use Rattle.sdp_line.specs.declared.Opening.the-variants as opening
 use Rattle.sdp_read.specs.declared.Version.{Version}
 use Rattle.sdp_read.specs.declared.Version.the-variants as found
-
--- the value that is `0`, by its length and its only byte
-module _ (v : List ℕ) where
-  pub zero-yes : length v ≡ 1 → getD v 0 0 ≡ 0x30 → isZero v ≡ true
-  zero-yes e f = rw (eq-eqb (length v) 1 e, eq-eqb (getD v 0 0) 0x30 f)
-
-  pub zero-other : length v ≡ 1 → (getD v 0 0 ≡ 0x30 → ⊥) → isZero v ≡ false
-  zero-other e f = rw (eq-eqb (length v) 1 e, ne-eqb (getD v 0 0) 0x30 f)
-
-  pub zero-long : (length v ≡ 1 → ⊥) → isZero v ≡ false
-  zero-long e = rw (ne-eqb (length v) 1 e)
 
 -- the version line, and what follows it
 abbrev pub versionOf : Opening → Cursor → Version

@@ -1,9 +1,7 @@
 -- Reading from a cursor on: what the loops over the lines promise.
 use Prim.Native.Nat.{ℕ, _+_, _≤_}
 use mathlib.Core.Path.{_≡_}
-use mathlib.Core.Bool.{cond}
 use mathlib.Core.List.{List, _++_}
-use lib.Dec.{eqb}
 use lib.ListN.{length, drop}
 use Rattle.sdp_area.specs.Area.{encode, size}
 use Rattle.sdp_lines.specs.Lines.{split, start}
@@ -11,11 +9,9 @@ use Rattle.sdp_lines.specs.declared.Span.{Span}
 use Rattle.sdp_lines.specs.declared.Cursor.{Cursor}
 use Rattle.sdp_strings.specs.Strings.{spanAt}
 use Rattle.sdp_step.specs.Step.{Reading, fresh}
-use Rattle.sdp_read.specs.Run.{Verdict, accepted, refused, noVersion, badVersion, isZero, run, begin}
+use Rattle.sdp_read.specs.Run.{Verdict, accepted, refused, run, begin}
 use Rattle.sdp_read.specs.declared.Ended.{Ended}
 use Rattle.sdp_read.specs.declared.Ended.the-variants.{Accepted, Stopped}
-use Rattle.sdp_read.specs.declared.Opening.{Opening}
-use Rattle.sdp_read.specs.declared.Opening.the-variants as opening
 use Rattle.sdp_read.specs.declared.Version.{Version}
 use Rattle.sdp_read.specs.declared.Version.the-variants as version
 
@@ -31,10 +27,6 @@ runAt s ρ c = run spanAt ρ (c .line .0) (c .at .0) (split (drop (c .at .0) s))
 -- and before it
 unfoldable pub beginAt : List ℕ → Cursor → Verdict Span
 beginAt s c = begin spanAt (c .line .0) (c .at .0) (split (drop (c .at .0) s))
-
--- the first line that is not empty: its value v at place p, its number n, its letter l
-abbrev pub openingOf : ℕ → ℕ → ℕ → List ℕ → Opening
-openingOf p n l v = cond (eqb l 0x76) (cond (isZero v) opening.Zero (opening.Refused (badVersion n p (length v)))) (opening.Refused noVersion)
 
 -- what is found at a text's start: where the lines after the version are due, or the whole text's refusal
 abbrev pub Begun : List ℕ → Version → Type 0

@@ -1,29 +1,27 @@
 // Document 01, module 4: session and media reading, a text line by line.
 ghost use mathlib.Core.Path.{_≡_};
 ghost use mathlib.Core.List.{List, _++_};
-ghost use Prim.Native.Nat.{ℕ, _+_, _≤_};
+ghost use Prim.Native.Nat.{ℕ, _≤_};
 ghost use lib.ListN.{length};
 ghost use Rattle.sdp_area.specs.Session.{empty};
 ghost use Rattle.sdp_area.specs.Area.{encode, size};
-ghost use Rattle.sdp_strings.specs.Strings.{spanAt};
-ghost use Rattle.sdp_step.specs.Step.{fresh, step};
-ghost use Rattle.sdp_step.specs.Hold.{Takes};
-ghost use Rattle.sdp_read.specs.Run.{answer, readText};
-ghost use Rattle.sdp_read.specs.From.{Reached, runAt, openingOf, Begun, Left};
+ghost use Rattle.sdp_step.specs.Step.{fresh};
+ghost use Rattle.sdp_line.specs.Version.{answer};
+ghost use Rattle.sdp_read.specs.Run.{readText};
+ghost use Rattle.sdp_read.specs.From.{Reached, runAt, Begun, Left};
 use sdp_area::SIZE;
 use sdp_area::clear;
-use sdp_cutter::Line;
 use sdp_cutter::Next;
 use sdp_cutter::cut_line;
-use sdp_cutter::made;
+use sdp_line::Opening;
+use sdp_line::opening_line;
+use sdp_line::take;
 use sdp_lines::Answer;
 use sdp_lines::Cursor;
 use sdp_lines::LineNumber;
-use sdp_lines::Place;
 use sdp_lines::fault_number;
 use sdp_step::Marks;
 use sdp_step::Taken;
-use sdp_step::take_line;
 
 // How the lines ended.
 pub enum Ended {
@@ -34,12 +32,6 @@ pub enum Ended {
 // The version line: where the next line is due, or the refusal.
 pub enum Version {
     Found(Cursor),
-    Refused(Answer),
-}
-
-// What the first line that is not empty says.
-pub enum Opening {
-    Zero,
     Refused(Answer),
 }
 
@@ -54,31 +46,6 @@ fn on_line(number: u64, line: LineNumber, field: u64) -> Answer
         place: 0,
         len: 0,
     }
-}
-
-// A line is taken apart, and what it says goes into the area.
-fn take_of<'t>(area: &mut [u8], at: Place, marks: Marks, line: Line<'t>) -> Taken
-    requires { ⌜ (size ≤ length (now area)) × (at .0 + length (now (line .value)) ≤ 32768) ⌝ }
-    ensures { λ r. ⌜ Takes (λ ρ. step (spanAt (at .0) (now (line .entry .value))) ρ (now (line .entry .value)) (line .entry .letter))
-        marks r (now (area .entry)) (now (area .exit)) ⌝ }
-{
-    take_line(area, at, marks, line.letter, line.value)
-}
-
-// From plain parameters: the line is made here, and handed on. Whoever calls this needs no walk by hand.
-fn take(
-    area: &mut [u8],
-    at: Place,
-    marks: Marks,
-    number: LineNumber,
-    letter: u8,
-    value: &[u8],
-) -> Taken
-    requires { ⌜ (size ≤ length (now area)) × (at .0 + length (now value) ≤ 32768) ⌝ }
-    ensures { λ r. ⌜ Takes (λ ρ. step (spanAt (at .0) (now (value .entry))) ρ (now (value .entry)) letter)
-        marks r (now (area .entry)) (now (area .exit)) ⌝ }
-{
-    take_of(area, at, marks, made(number, letter, value))
 }
 
 // The lines after the version line.
@@ -130,41 +97,6 @@ fn read_lines(text: &[u8], area: &mut [u8], from: Cursor) -> Ended
             }
         }
     }
-}
-
-// What the first line that is not empty says; it must be v=0. Its value stands at a place of the text.
-fn opening_at(at: Place, number: LineNumber, letter: u8, value: &[u8]) -> Opening
-    ensures { λ r. ⌜ r ≡ openingOf (at .0) (number .0) letter (now (value .entry)) ⌝ }
-{
-    if letter != b'v' {
-        return Opening::Refused(on_line(6, LineNumber(0), 0));
-    }
-    if value.len() == 1 {
-        if value[0] == b'0' {
-            return Opening::Zero;
-        }
-    }
-    Opening::Refused(Answer {
-        number: 7,
-        line: number.0 as u64,
-        field: 0,
-        place: at.0 as u64,
-        len: value.len() as u64,
-    })
-}
-
-// The same of a line, which is taken apart.
-fn opening_of<'t>(at: Place, line: Line<'t>) -> Opening
-    ensures { λ r. ⌜ r ≡ openingOf (at .0) (line .entry .number .0) (line .entry .letter) (now (line .entry .value)) ⌝ }
-{
-    opening_at(at, line.number, line.letter, line.value)
-}
-
-// From plain parameters, as `take`.
-fn opening_line(at: Place, number: LineNumber, letter: u8, value: &[u8]) -> Opening
-    ensures { λ r. ⌜ r ≡ openingOf (at .0) (number .0) letter (now (value .entry)) ⌝ }
-{
-    opening_of(at, made(number, letter, value))
 }
 
 // The version line, past empty lines.
