@@ -26,6 +26,7 @@ use Rattle.sdp_read.specs.OneLine.{steppedTo, goodLine, lineBy, lineAt, 
 use Rattle.sdp_read.specs.declared.Ended.the-variants.{Accepted, Stopped}
 use Rattle.sdp_read.specs.declared.Turn.{Turn}
 use Rattle.sdp_read.specs.declared.Turn.the-variants.{Goes, Over}
+use Rattle.sdp_read.specs.declared.Search.{Search}
 use Rattle.sdp_read.specs.declared.Search.the-variants.{On, Told}
 use Rattle.sdp_read.specs.declared.Version.the-variants as version
 use Rattle.sdp_read.proofs.CutLaws.{empty-further, line-fine}
@@ -52,16 +53,16 @@ module _ (s : List ℕ) (c : Cursor) (k : Moved) (moved : k ≡ moveAt s (c .at)
   unfolding lineAt
   line-is x e ρ = ap (lineBy s ρ (c .line .0)) e
 
-  version-is : (x : Cut) → cutAt s c ≡ x → versionAt s c ≡ versionBy s (c .line .0) x
+  version-is : (x : Cut) → cutAt s c ≡ x → versionBy s (c .line .0) x ≡ versionAt s c
   unfolding versionAt
-  version-is x e = ap (versionBy s (c .line .0)) e
+  version-is x e = ap (versionBy s (c .line .0)) (sym e)
 
   -- the end
   module _ (q : k .next ≡ End) where
     pub turns-end : (m : Marks) (a : List ℕ) → Turns (λ ρ. lineAt s ρ c) m (Over Accepted) a a
     turns-end m a ρ t h = rw (line-is cut.End (moved-told s c k moved End q) ρ) (h .bytes)
 
-    pub version-end : versionAt s c ≡ Told (version.Refused noVersion)
+    pub version-end : Told (version.Refused noVersion) ≡ versionAt s c
     version-end = version-is cut.End (moved-told s c k moved End q)
 
   -- a line of bad form
@@ -69,7 +70,7 @@ module _ (s : List ℕ) (c : Cursor) (k : Moved) (moved : k ≡ moveAt s (c .at)
     pub turns-bad : (m : Marks) (a : List ℕ) → Turns (λ ρ. lineAt s ρ c) m (Over (Stopped (answer (faultNumber f) (n .0) 0))) a a
     turns-bad m a ρ t h = rw (line-is (cut.Refused f n) (moved-told s c k moved (Refused f n) q) ρ) (refl, tail-of h)
 
-    pub version-bad : versionAt s c ≡ Told (version.Refused (answer (faultNumber f) (n .0) 0))
+    pub version-bad : Told (version.Refused (answer (faultNumber f) (n .0) 0)) ≡ versionAt s c
     version-bad = version-is (cut.Refused f n) (moved-told s c k moved (Refused f n) q)
 
   -- an empty line
@@ -79,7 +80,7 @@ module _ (s : List ℕ) (c : Cursor) (k : Moved) (moved : k ≡ moveAt s (c .at)
         let e = moved-told s c k moved Empty q in
         (λ ρ t h. rw (line-is (cut.Empty (stands k)) e ρ) (refl, h), empty-further s c (stands k) e)
 
-    pub version-empty : versionAt s c ≡ On (stands k)
+    pub version-empty : On (stands k) ≡ versionAt s c
     version-empty = version-is (cut.Empty (stands k)) (moved-told s c k moved Empty q)
 
   -- a line of good form
@@ -99,5 +100,5 @@ module _ (s : List ℕ) (c : Cursor) (k : Moved) (moved : k ≡ moveAt s (c .at)
         further (Goes x) e = subst (λ (d : Cursor). Further s c d) (sym e) (line-fine s c l v (stands k) (told .0) .0)
         further (Over e) u = tt
 
-    pub version-found : versionAt s c ≡ openedLine s (n .0) l v (stands k)
-    version-found = version-is (cut.Line l v (stands k)) (told .0) ∙ rw (told .1)
+    pub version-found : (y : Search) → y ≡ openedLine s (n .0) l v (stands k) → y ≡ versionAt s c
+    version-found y e = e ∙ rw (told .1) (version-is (cut.Line l v (stands k)) (told .0))

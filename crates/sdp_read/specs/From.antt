@@ -9,6 +9,9 @@ use Rattle.sdp_lines.specs.declared.Span.{Span}
 use Rattle.sdp_lines.specs.declared.Cursor.{Cursor}
 use Rattle.sdp_strings.specs.Strings.{spanAt}
 use Rattle.sdp_step.specs.Step.{Reading, fresh}
+use Rattle.sdp_lines.specs.declared.Answer.{Answer}
+use Rattle.sdp_cells.specs.Bytes.{zeros}
+use Rattle.sdp_line.specs.Version.{answer}
 use Rattle.sdp_read.specs.Run.{Verdict, accepted, refused, run, begin}
 use Rattle.sdp_read.specs.declared.Ended.{Ended}
 use Rattle.sdp_read.specs.declared.Ended.the-variants.{Accepted, Stopped}
@@ -40,3 +43,8 @@ Left (accepted s) Accepted a t = a ≡ encode s ++ t
 Left (accepted s) (Stopped y) a t = ⊥
 Left (refused x) Accepted a t = ⊥
 Left (refused x) (Stopped y) a t = (y ≡ x) × (drop size a ≡ t)
+
+-- the answer of the whole, and the area after it, all zero where the lines are refused
+abbrev pub Said : Verdict Span → Answer → List ℕ → List ℕ → Type 0
+Said (accepted s) y a t = (y ≡ answer 0 0 0) × (a ≡ encode s ++ t)
+Said (refused x) y a t = (y ≡ x) × (a ≡ zeros size ++ t)

@@ -8,7 +8,7 @@ ghost use Rattle.sdp_area.specs.Area.{encode, size};
 ghost use Rattle.sdp_step.specs.Step.{fresh};
 ghost use Rattle.sdp_line.specs.Version.{answer};
 ghost use Rattle.sdp_read.specs.Run.{readText};
-ghost use Rattle.sdp_read.specs.From.{Reached, runAt, Begun, Left};
+ghost use Rattle.sdp_read.specs.From.{Reached, runAt, Begun, Left, Said};
 ghost use Rattle.sdp_read.specs.OneLine.{goodLine, lineAt, Turns, Due, Onward, openedLine, versionAt};
 use sdp_area::SIZE;
 use sdp_area::clear;
@@ -203,6 +203,20 @@ fn refusal(number: u64) -> Answer
     on_line(number, LineNumber(0), 0)
 }
 
+// The lines after the version line; where one is refused, the area is cleared again.
+fn read_rest(text: &[u8], area: &mut [u8], from: Cursor) -> Answer
+    requires { ⌜ (size ≤ length (now area)) × ((length (now text) ≤ 32768) × Reached (now text) from) ⌝ }
+    ensures { λ r. ⌜ ((t : List ℕ) → now (area .entry) ≡ encode empty ++ t → Said (runAt (now (text .entry)) fresh from) r (now (area .exit)) t) ⌝ }
+{
+    match read_lines(text, area, from) {
+        Ended::Accepted => refusal(0),
+        Ended::Stopped(x) => {
+            clear(area);
+            x
+        }
+    }
+}
+
 // Reads a text into the area that the caller lends.
 pub fn read(text: &[u8], area: &mut [u8]) -> Answer
     ensures { λ r. ⌜ r ≡ readText (now (text .entry)) (now (area .entry)) .answer ⌝ }
@@ -217,12 +231,6 @@ pub fn read(text: &[u8], area: &mut [u8]) -> Answer
     clear(area);
     match find_version(text) {
         Version::Refused(x) => x,
-        Version::Found(c) => match read_lines(text, area, c) {
-            Ended::Accepted => refusal(0),
-            Ended::Stopped(x) => {
-                clear(area);
-                x
-            }
-        },
+        Version::Found(c) => read_rest(text, area, c),
     }
 }
