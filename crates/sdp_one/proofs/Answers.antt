@@ -80,6 +80,7 @@ use Rattle.sdp_area.proofs.medias.Reads as sdpAreaMedias
 use Rattle.sdp_roles.proofs.role_at.Reads as sdpRolesRoleAt
 use Rattle.sdp_strings.proofs.span_of.Reads as sdpStringsSpanOf
 use Rattle.sdp_strings.proofs.maybe_of.Reads as sdpStringsMaybeOf
+use Rattle.sdp_line.proofs.opening_line.Reads as sdpLineOpeningLine
 use Rattle.sdp_read.proofs.read.Reads as sdpReadRead
 use Rattle.sdp_put.proofs.put_byte.Reads as sdpPutPutByte
 use Rattle.sdp_put.proofs.put_two.Reads as sdpPutPutTwo
@@ -367,6 +368,10 @@ sdp-strings-span-of κs a z z′ e e′ p q = same p q
 
 pub sdp-strings-maybe-of : OneAnswer sdpStringsMaybeOf.Learnt
 sdp-strings-maybe-of κs a z z′ e e′ p q = same p q
+
+-- ---- sdp_line
+pub sdp-line-opening-line : OneAnswer sdpLineOpeningLine.Learnt
+sdp-line-opening-line κs a z z′ e e′ p q = same p q
 
 -- ---- sdp_read
 pub sdp-read-read : OneState (λ κs e. now (e .1 .0)) sdpReadRead.Learnt

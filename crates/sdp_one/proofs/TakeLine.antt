@@ -1,4 +1,4 @@
--- The exception of docs/ONE-ANSWER.md: where the area holds a session, `take_line` has one answer too. Assumes nothing.
+-- The exception of docs/ONE-ANSWER.md: where the area holds a session, `take_line` and `take` have one answer too. Assumes nothing.
 use mathlib.Core.Path.{_≡_, ap}
 use mathlib.Core.List.{List}
 use Prim.Native.Nat.{ℕ}
@@ -12,6 +12,7 @@ use Rattle.sdp_step.specs.Hold.{Holds, Handled}
 use Rattle.sdp_step.specs.declared.Taken.{Taken}
 use Rattle.sdp_step.specs.declared.Taken.the-variants.{Kept, Refused}
 use Rattle.sdp_step.proofs.take_line.Reads as takeLine
+use Rattle.sdp_line.proofs.take.Reads as lineTake
 use Rattle.sdp_one.specs.One.{OneWhere}
 use Rattle.sdp_one.proofs.OneLaws.{same}
 
@@ -32,3 +33,8 @@ pub sdp-step-take-line : (ρ : Reading Span) (t : List ℕ) → OneWhere (λ κs
 sdp-step-take-line ρ t κs a r r′ e e′ h p q =
     let v = now (a .1 .1 .1 .1 .0) in
     handled-once (step (spanAt (a .1 .0 .0) v) ρ v (a .1 .1 .1 .0)) r r′ (now (e .0)) (now (e′ .0)) t (p ρ t h) (q ρ t h)
+
+pub sdp-line-take : (ρ : Reading Span) (t : List ℕ) → OneWhere (λ κs a. Holds ρ (a .1 .1 .0) (now (a .0)) t) (λ κs r e. seen r (now (e .0))) lineTake.Learnt
+sdp-line-take ρ t κs a r r′ e e′ h p q =
+    let v = now (a .1 .1 .1 .1 .1 .0) in
+    handled-once (step (spanAt (a .1 .0 .0) v) ρ v (a .1 .1 .1 .1 .0)) r r′ (now (e .0)) (now (e′ .0)) t (p ρ t h) (q ρ t h)

@@ -1,4 +1,5 @@
-pub mod RunLaws
+pub mod CutLaws
+pub mod RestLaws
+pub mod TurnLaws
 pub mod LoopLaws
-pub mod VersionLaws
 pub mod ReadLaws

@@ -1,71 +1,73 @@
--- The loop over the lines: what holds before each line, by what the cutter and the line's step found.
+-- The loops over the lines: what holds before each line.
 -- Assumes nothing.
-use Prim.Native.Nat.{ℕ, _+_, _≤_}
+use Prim.Native.Nat.{ℕ, _≤_}
 use native.Mathlib.Omega.{arith}
-use mathlib.Core.Path.{_≡_, refl, ap, _∙_}
+use mathlib.Core.Path.{_≡_, refl, sym, ap, _∙_, subst}
 use mathlib.Core.Bool.{false}
 use mathlib.Core.List.{List, _++_}
 use lib.ListN.{length}
-use Rattle.sdp_lines.specs.Lines.{cutAt}
-use Rattle.sdp_lines.specs.Answers.{faultNumber}
+use Rattle.sdp_lines.specs.Lines.{start, cutAt}
 use Rattle.sdp_lines.specs.declared.Span.{Span}
 use Rattle.sdp_lines.specs.declared.Cursor.{Cursor}
-use Rattle.sdp_lines.specs.declared.LineNumber.{LineNumber}
-use Rattle.sdp_lines.specs.declared.Fault.{Fault}
-use Rattle.sdp_lines.specs.declared.Cut.the-variants.{Line, Empty, Refused, End}
 use Rattle.sdp_area.specs.Session.{Within, empty}
 use Rattle.sdp_area.specs.Area.{encode}
-use Rattle.sdp_step.proofs.TailLaws.{tail-of}
-use Rattle.sdp_lines.specs.Strings.{bytesOf}
-use Rattle.sdp_strings.specs.Strings.{spanAt}
-use Rattle.sdp_step.specs.Step.{Reading, Stepped, goes, stops, step, fresh}
-use Rattle.sdp_read.specs.Run.{answer, after}
-use Rattle.sdp_read.specs.From.{Reached, runAt, Left}
-use Rattle.sdp_step.specs.Hold.{Holds, Handled}
-use Rattle.sdp_step.specs.declared.Marks.{Marks}
-use Rattle.sdp_step.specs.declared.Taken.the-variants as taken
-use Rattle.sdp_read.specs.declared.Ended.the-variants.{Accepted, Stopped}
-use Rattle.sdp_read.proofs.RunLaws.{run-end, run-empty, run-bad, run-line}
+use Rattle.sdp_step.specs.Step.{Reading, fresh}
+use Rattle.sdp_step.specs.Hold.{Holds}
+use Rattle.sdp_read.specs.Run.{Verdict}
+use Rattle.sdp_read.specs.From.{Reached, runAt, beginAt, Begun, Left}
+use Rattle.sdp_read.specs.OneLine.{Lined, on, over, lineAt, Turned, Further, versionAt}
+use Rattle.sdp_read.specs.declared.Stand.{Stand}
+use Rattle.sdp_read.specs.declared.Ended.{Ended}
+use Rattle.sdp_read.specs.declared.Turn.the-variants.{Goes, Over}
+use Rattle.sdp_read.specs.declared.Search.{Search}
+use Rattle.sdp_read.specs.declared.Search.the-variants.{On, Told}
+use Rattle.sdp_read.specs.declared.Version.{Version}
+use Rattle.sdp_read.specs.declared.Version.the-variants as version
+use Rattle.sdp_read.proofs.CutLaws.{search-fine}
+use Rattle.sdp_read.proofs.RestLaws.{runOn, searchOn, rest-line, rest-version}
 
+-- ---- after the version
 -- before a line: the session so far, and that the lines from here on read it as the whole text reads
-pub record Going (s : List ℕ) (from c : Cursor) (m : Marks) (a t : List ℕ) : Type 0 where
+pub record Going (s : List ℕ) (from : Cursor) (x : Stand) (a t : List ℕ) : Type 0 where
   pub so-far : Reading Span
-  pub holds : Holds so-far m a t
-  pub left : runAt s fresh from ≡ runAt s so-far c
+  pub holds : Holds so-far (x .marks) a t
+  pub left : runAt s fresh from ≡ runAt s so-far (x .due)
 
 within-empty : Within {S = Span} empty
 within-empty = record { emails = omega arith; phones = omega arith; connections = omega arith; bandwidths = omega arith; times = omega arith; repeats = omega arith; offsets = omega arith; zones = omega arith; attributes = omega arith; medias = omega arith }
 
-pub going-begin : (s : List ℕ) (from : Cursor) (a t : List ℕ) → a ≡ encode empty ++ t → Going s from from (record { named = false; zoned = false }) a t
+pub going-begin : (s : List ℕ) (from : Cursor) (a t : List ℕ) → a ≡ encode empty ++ t → Going s from (record { due = from; marks = record { named = false; zoned = false } }) a t
 going-begin s from a t e = record { so-far = fresh; holds = record { marks = refl; bytes = e; within = within-empty; unzoned = λ z. refl }; left = refl }
 
-module _ (s : List ℕ) (short : length s ≤ 32768) (from c : Cursor) (w : Reached s c) (m : Marks) (a t : List ℕ) (g : Going s from c m a t) where
-  pub going-end : cutAt s c ≡ End → Left (runAt s fresh from) Accepted a t
-  going-end e = rw (g .left, run-end s short c w (g .so-far) e) (g .holds .bytes)
+module _ (s : List ℕ) (short : length s ≤ 32768) (from : Cursor) (x : Stand) (w : Reached s (x .due)) (a a′ t : List ℕ) (g : Going s from x a t) where
+  abbrev lined : Lined
+  lined = lineAt s (g .so-far) (x .due)
 
-  pub going-bad : (f : Fault) (n : LineNumber) → cutAt s c ≡ Refused f n → Left (runAt s fresh from) (Stopped (answer (faultNumber f) (n .0) 0)) a t
-  going-bad f n e = rw (g .left, run-bad s short c w f n e (g .so-far)) (refl, tail-of (g .holds))
+  left-on : (y : Lined) → lined ≡ y → runAt s fresh from ≡ runOn s y
+  left-on y e = g .left ∙ rest-line s short (x .due) w (g .so-far) ∙ ap (runOn s) e
 
-  pub going-empty : (next : Cursor) → cutAt s c ≡ Empty next → Going s from next m a t
-  going-empty next e = record { so-far = g .so-far; holds = g .holds; left = g .left ∙ run-empty s short c w next e (g .so-far) }
+  pub going-on : (n : Stand) → Turned lined (Goes n) a′ t → Going s from n a′ t
+  going-on n h = go lined refl h
+    where
+      go : (y : Lined) → lined ≡ y → Turned y (Goes n) a′ t → Going s from n a′ t
+      go (on ρ d) e h = record { so-far = ρ; holds = h .1; left = left-on (on ρ d) e ∙ ap (runAt s ρ) (sym (h .0)) }
+      go (over v) e h = absurd h
 
-  module _ (l : ℕ) (v : Span) (next : Cursor) (e : cutAt s c ≡ Line l v next) (a′ : List ℕ) where
-    abbrev stepped : Stepped Span
-    stepped = step (spanAt (v .at .0) (bytesOf s v)) (g .so-far) (bytesOf s v) l
+  pub going-over : (r : Ended) → Turned lined (Over r) a′ t → Left (runAt s fresh from) r a′ t
+  going-over r h = go lined refl h
+    where
+      go : (y : Lined) → lined ≡ y → Turned y (Over r) a′ t → Left (runAt s fresh from) r a′ t
+      go (on ρ d) e h = absurd h
+      go (over v) e h = rw (left-on (over v) e) h
 
-    goes-on : runAt s fresh from ≡ after spanAt stepped (c .line .0) (λ τ. runAt s τ next)
-    goes-on = g .left ∙ run-line s short c w l v next e (g .so-far)
+-- ---- before it
+module _ (s : List ℕ) (short : length s ≤ 32768) (c : Cursor) (w : Reached s c) (b : beginAt s start ≡ beginAt s c) where
+  begun-on : (y : Search) → y ≡ versionAt s c → beginAt s start ≡ searchOn s y
+  begun-on y e = b ∙ rest-version s short c w ∙ ap (searchOn s) (sym e)
 
-    pub going-kept : (m′ : Marks) → Handled stepped (taken.Kept m′) a′ t → Going s from next m′ a′ t
-    going-kept m′ h = go stepped refl h
-      where
-        go : (x : Stepped Span) → stepped ≡ x → Handled x (taken.Kept m′) a′ t → Going s from next m′ a′ t
-        go (goes ρ) q h = record { so-far = ρ; holds = h; left = goes-on ∙ ap (λ (y : Stepped Span). after spanAt y (c .line .0) (λ τ. runAt s τ next)) q }
-        go (stops k f) q h = absurd h
+  pub begun-skips : (d : Cursor) → On d ≡ versionAt s c → Further s c d × (beginAt s start ≡ beginAt s d)
+  begun-skips d e = (search-fine s c (On d) e, begun-on (On d) e)
 
-    pub going-refused : (k f : ℕ) → Handled stepped (taken.Refused k f) a′ t → Left (runAt s fresh from) (Stopped (answer k (c .line .0) f)) a′ t
-    going-refused k f h = rw goes-on (go stepped h)
-      where
-        go : (x : Stepped Span) → Handled x (taken.Refused k f) a′ t → Left (after spanAt x (c .line .0) (λ τ. runAt s τ next)) (Stopped (answer k (c .line .0) f)) a′ t
-        go (goes ρ) h = absurd h
-        go (stops j i) h = (rw (h .0, h .1), h .2)
+  pub begun-told : (v : Version) → Told v ≡ versionAt s c → Begun s v
+  begun-told (version.Found d) e = (begun-on (Told (version.Found d)) e, search-fine s c (Told (version.Found d)) e .reached w)
+  begun-told (version.Refused x) e = begun-on (Told (version.Refused x)) e

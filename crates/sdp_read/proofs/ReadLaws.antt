@@ -14,7 +14,7 @@ use Rattle.sdp_area.specs.Area.{encode, size}
 use Rattle.sdp_area.proofs.WidthLaws.{encode-empty}
 use Rattle.sdp_step.specs.Step.{fresh}
 use Rattle.sdp_read.specs.Run.{Verdict, accepted, refused, answer, lines, outcomeOf, readText}
-use Rattle.sdp_read.specs.From.{runAt, beginAt, Left}
+use Rattle.sdp_read.specs.From.{runAt, beginAt, Left, Said}
 use Rattle.sdp_lines.specs.declared.Answer.{Answer}
 use Rattle.sdp_read.specs.declared.Ended.the-variants.{Accepted, Stopped}
 
@@ -44,17 +44,25 @@ module _ (s a : List ℕ) where
       pub says-refused : (x : Answer) (b : List ℕ) → beginAt s start ≡ refused x → b ≡ zeros size ++ drop size a → Says s a x b
       says-refused x b e f = rw (read-is, e) (refl, f)
 
-      module _ (c : Cursor) (e : beginAt s start ≡ runAt s fresh c) (b : List ℕ) where
-        pub says-accepted : Left (runAt s fresh c) Accepted b (drop size a) → Says s a (answer 0 0 0) b
-        says-accepted h = rw (read-is, e) (go (runAt s fresh c) h)
-          where
-            go : (v : Verdict Span) → Left v Accepted b (drop size a) → (answer 0 0 0 ≡ outcomeOf a v .answer) × (b ≡ outcomeOf a v .area)
-            go (accepted σ) h = (refl, h)
-            go (refused x) h = absurd h
+      pub says-rest : (c : Cursor) → beginAt s start ≡ runAt s fresh c → (y : Answer) (b : List ℕ) → Said (runAt s fresh c) y b (drop size a) → Says s a y b
+      says-rest c e y b h = rw (read-is, e) (go (runAt s fresh c) h)
+        where
+          go : (v : Verdict Span) → Said v y b (drop size a) → (y ≡ outcomeOf a v .answer) × (b ≡ outcomeOf a v .area)
+          go (accepted σ) h = h
+          go (refused x) h = h
 
-        pub says-stopped : (y : Answer) (b′ : List ℕ) → Left (runAt s fresh c) (Stopped y) b (drop size a) → b′ ≡ zeros size ++ drop size b → Says s a y b′
-        says-stopped y b′ h f = rw (read-is, e) (go (runAt s fresh c) h)
-          where
-            go : (v : Verdict Span) → Left v (Stopped y) b (drop size a) → (y ≡ outcomeOf a v .answer) × (b′ ≡ outcomeOf a v .area)
-            go (accepted σ) h = absurd h
-            go (refused x) h = (h .0, f ∙ ap (λ (l : List ℕ). zeros size ++ l) (h .1))
+-- ---- after the lines, b the area then
+module _ (v : Verdict Span) (b t : List ℕ) where
+  pub said-accepted : Left v Accepted b t → Said v (answer 0 0 0) b t
+  said-accepted h = go v h
+    where
+      go : (v : Verdict Span) → Left v Accepted b t → Said v (answer 0 0 0) b t
+      go (accepted σ) h = (refl, h)
+      go (refused x) h = absurd h
+
+  pub said-stopped : (y : Answer) (b′ : List ℕ) → Left v (Stopped y) b t → b′ ≡ zeros size ++ drop size b → Said v y b′ t
+  said-stopped y b′ h e = go v h
+    where
+      go : (v : Verdict Span) → Left v (Stopped y) b t → Said v y b′ t
+      go (accepted σ) h = absurd h
+      go (refused x) h = (h .0, e ∙ ap (λ (l : List ℕ). zeros size ++ l) (h .1))

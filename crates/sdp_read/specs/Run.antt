@@ -1,8 +1,8 @@
 -- Document 01, "Lines", "Refusal numbers": a text, line by line. The runner alone knows a line's number and its place.
 use Prim.Native.Nat.{ℕ, _+_}
-use mathlib.Core.Bool.{Bool, true, false, _&&_, cond}
+use mathlib.Core.Bool.{cond}
 use mathlib.Core.List.{List, [], _∷_, _++_}
-use lib.ListN.{length, getD, drop}
+use lib.ListN.{length, drop}
 use lib.Dec.{ltb, eqb}
 use Rattle.sdp_lines.specs.Lines.{Raw, split, content, width, formOf}
 use Rattle.sdp_lines.specs.Answers.{faultNumber}
@@ -16,31 +16,17 @@ use Rattle.sdp_area.specs.Area.{encode, size}
 use Rattle.sdp_strings.specs.Strings.{spanAt}
 use Rattle.sdp_step.specs.Step.{Reading, Stepped, goes, stops, step, fresh}
 use Rattle.sdp_lines.specs.declared.Answer.{Answer}
+-- the answers, and the version line's value, are defined there
+pub use Rattle.sdp_line.specs.Version.{answer, noVersion, badVersion, isZero}
 
 -- what reading a text says: a session, or the refusal
 pub data Verdict (S : Type 0) : Type 0 where
   accepted : Session S → Verdict S
   refused : Answer → Verdict S
 
--- "Each returns number, line, field, place and length; all but the number are 0 where not named."
-abbrev pub answer : ℕ → ℕ → ℕ → Answer
-answer number line field = record { number = number; line = line; field = field; place = 0; len = 0 }
-
 -- a refusal of a line: its number, and its field where it has one
 abbrev pub onLine : {S : Type 0} → ℕ → ℕ → ℕ → Verdict S
 onLine number line field = refused (answer number line field)
-
--- "6 no version" returns no line
-abbrev pub noVersion : Answer
-noVersion = answer 6 0 0
-
--- "7 version not 0: line, place and length of the value"
-abbrev pub badVersion : ℕ → ℕ → ℕ → Answer
-badVersion line place len = record { number = 7; line = line; field = 0; place = place; len = len }
-
--- "Its value must be exactly `0`"
-abbrev pub isZero : List ℕ → Bool
-isZero v = eqb (length v) 1 && eqb (getD v 0 0) 0x30
 
 -- at p v makes the strings of a line whose value is v and stands at place p
 module _ {S : Type 0} (at : ℕ → List ℕ → Piece → S) where

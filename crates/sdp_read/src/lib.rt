@@ -5,30 +5,42 @@ ghost use Prim.Native.Nat.{ℕ, _+_, _≤_};
 ghost use lib.ListN.{length};
 ghost use Rattle.sdp_area.specs.Session.{empty};
 ghost use Rattle.sdp_area.specs.Area.{encode, size};
-ghost use Rattle.sdp_strings.specs.Strings.{spanAt};
-ghost use Rattle.sdp_step.specs.Step.{fresh, step};
-ghost use Rattle.sdp_step.specs.Hold.{Takes};
-ghost use Rattle.sdp_read.specs.Run.{answer, readText};
-ghost use Rattle.sdp_read.specs.From.{Reached, runAt, openingOf, Begun, Left};
+ghost use Rattle.sdp_step.specs.Step.{fresh};
+ghost use Rattle.sdp_line.specs.Version.{answer};
+ghost use Rattle.sdp_read.specs.Run.{readText};
+ghost use Rattle.sdp_read.specs.From.{Reached, runAt, Begun, Left, Said};
+ghost use Rattle.sdp_read.specs.OneLine.{goodLine, lineAt, Turns, Due, Onward, openedLine, versionAt};
 use sdp_area::SIZE;
 use sdp_area::clear;
-use sdp_cutter::Line;
 use sdp_cutter::Next;
 use sdp_cutter::cut_line;
-use sdp_cutter::made;
+use sdp_line::Opening;
+use sdp_line::opening_line;
+use sdp_line::take;
 use sdp_lines::Answer;
 use sdp_lines::Cursor;
 use sdp_lines::LineNumber;
-use sdp_lines::Place;
+use sdp_lines::Span;
 use sdp_lines::fault_number;
 use sdp_step::Marks;
 use sdp_step::Taken;
-use sdp_step::take_line;
 
 // How the lines ended.
 pub enum Ended {
     Accepted,
     Stopped(Answer),
+}
+
+// A run between two lines: where the next one is due, and what is kept beside the area.
+pub struct Stand {
+    pub due: Cursor,
+    pub marks: Marks,
+}
+
+// What a line did to a run.
+pub enum Turn {
+    Goes(Stand),
+    Over(Ended),
 }
 
 // The version line: where the next line is due, or the refusal.
@@ -37,10 +49,10 @@ pub enum Version {
     Refused(Answer),
 }
 
-// What the first line that is not empty says.
-pub enum Opening {
-    Zero,
-    Refused(Answer),
+// What a line says while the version is looked for.
+pub enum Search {
+    On(Cursor),
+    Told(Version),
 }
 
 // A refusal of a line.
@@ -56,29 +68,55 @@ fn on_line(number: u64, line: LineNumber, field: u64) -> Answer
     }
 }
 
-// A line is taken apart, and what it says goes into the area.
-fn take_of<'t>(area: &mut [u8], at: Place, marks: Marks, line: Line<'t>) -> Taken
-    requires { ⌜ (size ≤ length (now area)) × (at .0 + length (now (line .value)) ≤ 32768) ⌝ }
-    ensures { λ r. ⌜ Takes (λ ρ. step (spanAt (at .0) (now (line .entry .value))) ρ (now (line .entry .value)) (line .entry .letter))
-        marks r (now (area .entry)) (now (area .exit)) ⌝ }
-{
-    take_line(area, at, marks, line.letter, line.value)
-}
-
-// From plain parameters: the line is made here, and handed on. Whoever calls this needs no walk by hand.
-fn take(
+// A line of good form whose value stands in the text; the next line is due at `then`.
+fn good_line(
+    text: &[u8],
     area: &mut [u8],
-    at: Place,
     marks: Marks,
     number: LineNumber,
     letter: u8,
-    value: &[u8],
-) -> Taken
-    requires { ⌜ (size ≤ length (now area)) × (at .0 + length (now value) ≤ 32768) ⌝ }
-    ensures { λ r. ⌜ Takes (λ ρ. step (spanAt (at .0) (now (value .entry))) ρ (now (value .entry)) letter)
-        marks r (now (area .entry)) (now (area .exit)) ⌝ }
+    value: Span,
+    then: Cursor,
+) -> Turn
+    requires { ⌜ (size ≤ length (now area)) × ((length (now text) ≤ 32768) × (value .at .0 + value .len ≤ length (now text))) ⌝ }
+    ensures { λ r. ⌜ Turns (λ ρ. goodLine (now (text .entry)) ρ (number .0) letter value then)
+        marks r (now (area .entry)) (now (area .exit)) × Due then r ⌝ }
 {
-    take_of(area, at, marks, made(number, letter, value))
+    let at = value.at;
+    let begin = at.0;
+    let end = begin + value.len;
+    match take(area, at, marks, number, letter, &text[begin..end]) {
+        Taken::Kept(marks) => Turn::Goes(Stand { due: then, marks }),
+        Taken::Refused {
+            number: refusal,
+            field,
+        } => Turn::Over(Ended::Stopped(on_line(refusal, number, field))),
+    }
+}
+
+// One line, and what it does to a run.
+fn one_line(text: &[u8], area: &mut [u8], stand: Stand) -> Turn
+    requires { ⌜ (size ≤ length (now area)) × (length (now text) ≤ 32768) ⌝ }
+    ensures { λ r. ⌜ Turns (λ ρ. lineAt (now (text .entry)) ρ (stand .due))
+        (stand .marks) r (now (area .entry)) (now (area .exit)) × Onward (now (text .entry)) (stand .due) r ⌝ }
+{
+    let due = stand.due;
+    let marks = stand.marks;
+    let moved = cut_line(text, due.at, due.line);
+    let next = moved.next;
+    let then = moved.then();
+    match next {
+        Next::End => Turn::Over(Ended::Accepted),
+        Next::Refused { fault, line } => {
+            Turn::Over(Ended::Stopped(on_line(fault_number(fault), line, 0)))
+        }
+        Next::Empty => Turn::Goes(Stand { due: then, marks }),
+        Next::Found {
+            number,
+            letter,
+            value,
+        } => good_line(text, area, marks, number, letter, value, then),
+    }
 }
 
 // The lines after the version line.
@@ -86,85 +124,58 @@ fn read_lines(text: &[u8], area: &mut [u8], from: Cursor) -> Ended
     requires { ⌜ (size ≤ length (now area)) × ((length (now text) ≤ 32768) × Reached (now text) from) ⌝ }
     ensures { λ r. ⌜ ((t : List ℕ) → now (area .entry) ≡ encode empty ++ t → Left (runAt (now (text .entry)) fresh from) r (now (area .exit)) t) ⌝ }
 {
-    let mut marks = Marks {
-        named: false,
-        zoned: false,
+    let mut stand = Stand {
+        due: from,
+        marks: Marks {
+            named: false,
+            zoned: false,
+        },
     };
-    let mut c = from;
     loop {
-        let due = c.at;
-        let number = c.line;
-        let moved = cut_line(text, due, number);
-        let next = moved.next;
-        let then = moved.then();
-        match next {
-            Next::End => {
-                return Ended::Accepted;
+        match one_line(text, area, stand) {
+            Turn::Goes(next) => {
+                stand = next;
             }
-            Next::Refused { fault, line } => {
-                return Ended::Stopped(on_line(fault_number(fault), line, 0));
-            }
-            Next::Empty => {
-                c = then;
-            }
-            Next::Found {
-                number,
-                letter,
-                value,
-            } => {
-                let at = value.at;
-                let begin = at.0;
-                let end = begin + value.len;
-                match take(area, at, marks, number, letter, &text[begin..end]) {
-                    Taken::Kept(m) => {
-                        marks = m;
-                        c = then;
-                    }
-                    Taken::Refused {
-                        number: refusal,
-                        field,
-                    } => {
-                        return Ended::Stopped(on_line(refusal, number, field));
-                    }
-                }
+            Turn::Over(ended) => {
+                return ended;
             }
         }
     }
 }
 
-// What the first line that is not empty says; it must be v=0. Its value stands at a place of the text.
-fn opening_at(at: Place, number: LineNumber, letter: u8, value: &[u8]) -> Opening
-    ensures { λ r. ⌜ r ≡ openingOf (at .0) (number .0) letter (now (value .entry)) ⌝ }
+// The first line that is not empty, of good form; the next line is due at `then`.
+fn opened_line(text: &[u8], number: LineNumber, letter: u8, value: Span, then: Cursor) -> Search
+    requires { ⌜ value .at .0 + value .len ≤ length (now text) ⌝ }
+    ensures { λ r. ⌜ r ≡ openedLine (now (text .entry)) (number .0) letter value then ⌝ }
 {
-    if letter != b'v' {
-        return Opening::Refused(on_line(6, LineNumber(0), 0));
+    let at = value.at;
+    let begin = at.0;
+    let end = begin + value.len;
+    match opening_line(at, number, letter, &text[begin..end]) {
+        Opening::Zero => Search::Told(Version::Found(then)),
+        Opening::Refused(x) => Search::Told(Version::Refused(x)),
     }
-    if value.len() == 1 {
-        if value[0] == b'0' {
-            return Opening::Zero;
+}
+
+// One line while the version is looked for.
+fn version_line(text: &[u8], due: Cursor) -> Search
+    ensures { λ r. ⌜ r ≡ versionAt (now (text .entry)) due ⌝ }
+{
+    let moved = cut_line(text, due.at, due.line);
+    let next = moved.next;
+    let then = moved.then();
+    match next {
+        Next::End => Search::Told(Version::Refused(on_line(6, LineNumber(0), 0))),
+        Next::Refused { fault, line } => {
+            Search::Told(Version::Refused(on_line(fault_number(fault), line, 0)))
         }
+        Next::Empty => Search::On(then),
+        Next::Found {
+            number,
+            letter,
+            value,
+        } => opened_line(text, number, letter, value, then),
     }
-    Opening::Refused(Answer {
-        number: 7,
-        line: number.0 as u64,
-        field: 0,
-        place: at.0 as u64,
-        len: value.len() as u64,
-    })
-}
-
-// The same of a line, which is taken apart.
-fn opening_of<'t>(at: Place, line: Line<'t>) -> Opening
-    ensures { λ r. ⌜ r ≡ openingOf (at .0) (line .entry .number .0) (line .entry .letter) (now (line .entry .value)) ⌝ }
-{
-    opening_at(at, line.number, line.letter, line.value)
-}
-
-// From plain parameters, as `take`.
-fn opening_line(at: Place, number: LineNumber, letter: u8, value: &[u8]) -> Opening
-    ensures { λ r. ⌜ r ≡ openingOf (at .0) (number .0) letter (now (value .entry)) ⌝ }
-{
-    opening_of(at, made(number, letter, value))
 }
 
 // The version line, past empty lines.
@@ -172,39 +183,14 @@ fn find_version(text: &[u8]) -> Version
     requires { ⌜ length (now text) ≤ 32768 ⌝ }
     ensures { λ r. ⌜ Begun (now (text .entry)) r ⌝ }
 {
-    let mut c = Cursor::new();
+    let mut due = Cursor::new();
     loop {
-        let due = c.at;
-        let number = c.line;
-        let moved = cut_line(text, due, number);
-        let next = moved.next;
-        let then = moved.then();
-        match next {
-            Next::End => {
-                return Version::Refused(on_line(6, LineNumber(0), 0));
+        match version_line(text, due) {
+            Search::On(next) => {
+                due = next;
             }
-            Next::Refused { fault, line } => {
-                return Version::Refused(on_line(fault_number(fault), line, 0));
-            }
-            Next::Empty => {
-                c = then;
-            }
-            Next::Found {
-                number,
-                letter,
-                value,
-            } => {
-                let at = value.at;
-                let begin = at.0;
-                let end = begin + value.len;
-                match opening_line(at, number, letter, &text[begin..end]) {
-                    Opening::Zero => {
-                        return Version::Found(then);
-                    }
-                    Opening::Refused(x) => {
-                        return Version::Refused(x);
-                    }
-                }
+            Search::Told(version) => {
+                return version;
             }
         }
     }
@@ -215,6 +201,20 @@ fn refusal(number: u64) -> Answer
     ensures { λ r. ⌜ r ≡ answer number 0 0 ⌝ }
 {
     on_line(number, LineNumber(0), 0)
+}
+
+// The lines after the version line; where one is refused, the area is cleared again.
+fn read_rest(text: &[u8], area: &mut [u8], from: Cursor) -> Answer
+    requires { ⌜ (size ≤ length (now area)) × ((length (now text) ≤ 32768) × Reached (now text) from) ⌝ }
+    ensures { λ r. ⌜ ((t : List ℕ) → now (area .entry) ≡ encode empty ++ t → Said (runAt (now (text .entry)) fresh from) r (now (area .exit)) t) ⌝ }
+{
+    match read_lines(text, area, from) {
+        Ended::Accepted => refusal(0),
+        Ended::Stopped(x) => {
+            clear(area);
+            x
+        }
+    }
 }
 
 // Reads a text into the area that the caller lends.
@@ -231,12 +231,6 @@ pub fn read(text: &[u8], area: &mut [u8]) -> Answer
     clear(area);
     match find_version(text) {
         Version::Refused(x) => x,
-        Version::Found(c) => match read_lines(text, area, c) {
-            Ended::Accepted => refusal(0),
-            Ended::Stopped(x) => {
-                clear(area);
-                x
-            }
-        },
+        Version::Found(c) => read_rest(text, area, c),
     }
 }

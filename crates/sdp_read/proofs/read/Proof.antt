@@ -1,29 +1,44 @@
 -- `sdp_read::read` meets its contract. Assumes nothing.
 use lib.ListN.{drop}
-use Rattle.sdp_area.specs.Area.{size}
 use native.Mathlib.Omega.{arith}
-use Rattle.sdp_read.proofs.ReadLaws.{cleared-empty, says-short, says-long, says-refused, says-accepted, says-stopped}
+use Rattle.sdp_area.specs.Area.{size}
+use Rattle.sdp_read.proofs.ReadLaws.{cleared-empty, says-short, says-long, says-refused, says-rest}
 use borrow.Author.Needs.{needs}
 use Rattle.sdp_read.proofs.read.Statement.{statement}
 use Rattle.sdp_read.proofs.read.Tie as tie
 
 returns : tie.Need-returns
-returns c = rw (c .refusal .ensures) (says-short (c .before .before .before .before .args .text .now) (c .before .before .before .before .args .area .now) (c .before .if1 .taken))
+returns c =
+    let a = c .before .before .before .before .args in
+    rw (c .refusal .ensures) (says-short (a .text .now) (a .area .now) (c .before .if1 .taken))
 
 returns-2 : tie.Need-returns-2
-returns-2 c = rw (c .refusal2 .ensures) (says-long (c .before .before .before .before .before .args .text .now) (c .before .before .before .before .before .args .area .now) (c .before .before .if1 .left) (c .before .if2 .taken))
+returns-2 c =
+    let i = c .before .before in
+    let a = i .before .before .before .args in
+    rw (c .refusal2 .ensures) (says-long (a .text .now) (a .area .now) (i .if1 .left) (c .before .if2 .taken))
 
-read-lines-requires : tie.Need-read-lines-requires
-read-lines-requires c κs = (omega (arith, c .before .before .before .before .before .before .before .before .before .before .if1 .left), (omega (arith, c .before .before .before .before .before .before .before .before .before .if2 .left), (rw (c .before .before .c .given .1) at (c .before .before .before .before .find-version .ensures)) .1))
+read-rest-requires : tie.Need-read-rest-requires
+read-rest-requires c κs =
+    let f = c .before .before .before .before in
+    let i = f .before .before .before .before .before in
+    (omega (arith, i .before .if1 .left), (omega (arith, i .if2 .left), (rw (c .before .before .c .given .1) at (f .find-version .ensures)) .1))
 
 returns-3 : tie.Need-returns-3
-returns-3 c = says-refused (c .before .before .before .before .before .before .before .before .before .before .before .before .args .text .now) (c .before .before .before .before .before .before .before .before .before .before .before .before .args .area .now) (c .before .before .before .before .before .before .before .before .before .if1 .left) (c .before .before .before .before .before .before .before .before .if2 .left) _ _ (rw (c .before .x .given .1) at (c .before .before .before .find-version .ensures)) (c .before .before .before .before .before .before .clear .ensures)
+returns-3 c =
+    let f = c .before .before .before in
+    let i = f .before .before .before .before .before in
+    let a = i .before .before .before .before .args in
+    says-refused (a .text .now) (a .area .now) (i .before .if1 .left) (i .if2 .left) _ _ (rw (c .before .x .given .1) at (f .find-version .ensures)) (f .before .before .before .clear .ensures)
 
 returns-4 : tie.Need-returns-4
-returns-4 c = rw (c .refusal3 .ensures) (says-accepted (c .before .before .before .before .before .before .before .before .before .before .before .before .before .before .before .before .before .before .before .args .text .now) (c .before .before .before .before .before .before .before .before .before .before .before .before .before .before .before .before .before .before .before .args .area .now) (c .before .before .before .before .before .before .before .before .before .before .before .before .before .before .before .before .if1 .left) (c .before .before .before .before .before .before .before .before .before .before .before .before .before .before .before .if2 .left) _ ((rw (c .before .before .before .before .before .before .before .before .c .given .1) at (c .before .before .before .before .before .before .before .before .before .before .find-version .ensures)) .0) _ (rw (c .before .enum-told .given .1) at (c .before .before .before .before .before .read-lines .ensures (drop size (c .before .before .before .before .before .before .before .before .before .before .before .before .before .before .before .before .before .before .before .args .area .now)) (cleared-empty (c .before .before .before .before .before .before .before .before .before .before .before .before .before .before .before .before .before .before .before .args .area .now) _ (c .before .before .before .before .before .before .before .before .before .before .before .before .before .clear .ensures)))))
-
-returns-5 : tie.Need-returns-5
-returns-5 c = says-stopped (c .before .before .before .before .before .before .before .before .before .before .before .before .before .before .before .before .before .before .before .before .before .before .before .args .text .now) (c .before .before .before .before .before .before .before .before .before .before .before .before .before .before .before .before .before .before .before .before .before .before .before .args .area .now) (c .before .before .before .before .before .before .before .before .before .before .before .before .before .before .before .before .before .before .before .before .if1 .left) (c .before .before .before .before .before .before .before .before .before .before .before .before .before .before .before .before .before .before .before .if2 .left) _ ((rw (c .before .before .before .before .before .before .before .before .before .before .before .before .c .given .1) at (c .before .before .before .before .before .before .before .before .before .before .before .before .before .before .find-version .ensures)) .0) _ _ _ (rw (c .before .before .before .before .before .x2 .given .1) at (c .before .before .before .before .before .before .before .before .before .read-lines .ensures (drop size (c .before .before .before .before .before .before .before .before .before .before .before .before .before .before .before .before .before .before .before .before .before .before .before .args .area .now)) (cleared-empty (c .before .before .before .before .before .before .before .before .before .before .before .before .before .before .before .before .before .before .before .before .before .before .before .args .area .now) _ (c .before .before .before .before .before .before .before .before .before .before .before .before .before .before .before .before .before .clear .ensures)))) (c .before .before .clear2 .ensures)
+returns-4 c =
+    let x = c .before .before .before .before .before in
+    let f = x .before .before in
+    let i = f .before .before .before .before .before in
+    let a = i .before .before .before .before .args in
+    says-rest (a .text .now) (a .area .now) (i .before .if1 .left) (i .if2 .left) _ ((rw (x .c .given .1) at (f .find-version .ensures)) .0) _ _
+    (c .before .before .read-rest .ensures (drop size (a .area .now)) (cleared-empty (a .area .now) _ (f .before .before .before .clear .ensures)))
 
 pub read-spec : {M : Type 1} → statement M
 read-spec =
@@ -37,14 +52,8 @@ read-spec =
     (λ c κs. search needs)
     (λ c. search needs)
     (λ c. search needs)
-    read-lines-requires
-    (λ c. search needs)
-    (λ c κs. search needs)
-    (λ c. search needs)
-    (λ c κs. search needs)
+    read-rest-requires
     (λ c. search needs)
     returns-3
     (λ c. search needs)
-    returns-4
-    (λ c. search needs)
-    returns-5)
+    returns-4)

@@ -1,4 +1,4 @@
--- `sdp_read::take_of` meets its contract: a walk by hand. The line is taken apart, and `take_line` is called; the borrow of the area is given up to it for good (`gave-slice`).
+-- `sdp_line::take_of` meets its contract: a walk by hand. The line is taken apart, and `take_line` is called; the borrow of the area is given up to it for good (`gave-slice`).
 -- All that it knows of `take_line` is that it meets its contract. Assumes nothing.
 use mathlib.Core.Path.{_≡_, refl, subst}
 use Prim.Native.Nat.{ℕ, _+_, _<_, _≤_, _^_}
@@ -62,10 +62,10 @@ use Rattle.sdp_step.proofs.take_line as callee
 use Rattle.sdp_step.proofs.take_line.Symbol as callee-def
 use Rattle.sdp_step.proofs.take_line.Symbol.{name as #take-line}
 use Rattle.sdp_step.proofs.take_line.Met as callee-thm
-use Rattle.sdp_read.proofs.take_of.Key.{name as #take-of}
-use Rattle.sdp_read.proofs.take_of as self
-use Rattle.sdp_read.proofs.take_of.Statement as stated
-use Rattle.sdp_read.proofs.take_of.Code as code
+use Rattle.sdp_line.proofs.take_of.Key.{name as #take-of}
+use Rattle.sdp_line.proofs.take_of as self
+use Rattle.sdp_line.proofs.take_of.Statement as stated
+use Rattle.sdp_line.proofs.take_of.Code as code
 
 -- the line's type, over the signature's lifetimes
 abbrev B : Lfts 2 → RattleType

@@ -1,4 +1,4 @@
--- `sdp_read::take` meets its contract: a walk by hand. A line is made, and handed to `take_of` with the area's borrow, which is given up for good (`gave-slice`).
+-- `sdp_line::take` meets its contract: a walk by hand. A line is made, and handed to `take_of` with the area's borrow, which is given up for good (`gave-slice`).
 -- All that it knows of `made` and `take_of` is that each meets its contract. Assumes nothing.
 use mathlib.Core.Path.{_≡_, refl, sym, subst}
 use Prim.Native.Nat.{ℕ, _+_, _<_, _≤_, _^_}
@@ -60,14 +60,14 @@ use Rattle.sdp_cutter.proofs.made as new
 use Rattle.sdp_cutter.proofs.made.Symbol as new-def
 use Rattle.sdp_cutter.proofs.made.Symbol.{name as #made}
 use Rattle.sdp_cutter.proofs.made.Met as new-thm
-use Rattle.sdp_read.proofs.take_of as callee
-use Rattle.sdp_read.proofs.take_of.Symbol as callee-def
-use Rattle.sdp_read.proofs.take_of.Symbol.{name as #take-of}
-use Rattle.sdp_read.proofs.take_of.Met as callee-thm
-use Rattle.sdp_read.proofs.take.Key.{name as #take}
-use Rattle.sdp_read.proofs.take as self
-use Rattle.sdp_read.proofs.take.Statement as stated
-use Rattle.sdp_read.proofs.take.Code as code
+use Rattle.sdp_line.proofs.take_of as callee
+use Rattle.sdp_line.proofs.take_of.Symbol as callee-def
+use Rattle.sdp_line.proofs.take_of.Symbol.{name as #take-of}
+use Rattle.sdp_line.proofs.take_of.Met as callee-thm
+use Rattle.sdp_line.proofs.take.Key.{name as #take}
+use Rattle.sdp_line.proofs.take as self
+use Rattle.sdp_line.proofs.take.Statement as stated
+use Rattle.sdp_line.proofs.take.Code as code
 
 abbrev stayed : Stays (self.ended .signature .params) (self.ended .kept)
 stayed = (gave-slice (0 ∷ []) tt (plain (λ _. u8)), (stay-none (λ _. P.the-row) yes, (stay-none (λ _. K.the-row) yes, (stay-none (λ _. N.the-row) yes, (stay-none (λ _. u8) yes, (stay-none-slice (1 ∷ []) tt (plain (λ _. u8)) yes, tt))))))
@@ -217,4 +217,4 @@ take-spec 𝓤 H 𝓜 𝓖 𝓡 =
     (tables 𝓤 H 𝓜 𝓡 code.env .C) (tables 𝓤 H 𝓜 𝓡 code.env .Λ) #take code.function (code.unfolded 𝓤 H 𝓜 𝓡)
     (take-meets 𝓤 H (𝓖 .A) (givenOf 𝓤 H 𝓜 𝓖) (𝓜 .mem) (𝓡 .run) (tablesOf 𝓤 H 𝓜 (tables 𝓤 H 𝓜 𝓡 code.env))
     (cited 𝓤 H (New 𝓤 H (𝓖 .A) (𝓜 .mem) (𝓡 .run)) 𝓜 𝓡 code.env #made new-def.routine code.calls-sdp-cutter·made (new-thm.met 𝓤 H 𝓜 𝓖 𝓡))
-    (cited 𝓤 H (TakeOf 𝓤 H (𝓖 .A) (𝓜 .mem) (𝓡 .run)) 𝓜 𝓡 code.env #take-of callee-def.routine code.calls-sdp-read·take-of (callee-thm.met 𝓤 H 𝓜 𝓖 𝓡)))
+    (cited 𝓤 H (TakeOf 𝓤 H (𝓖 .A) (𝓜 .mem) (𝓡 .run)) 𝓜 𝓡 code.env #take-of callee-def.routine code.calls-sdp-line·take-of (callee-thm.met 𝓤 H 𝓜 𝓖 𝓡)))

@@ -1,4 +1,4 @@
--- `sdp_read::opening_line` meets its contract: a walk by hand. A line is made, and handed to `opening_of`. Assumes nothing.
+-- `sdp_line::opening_line` meets its contract: a walk by hand. A line is made, and handed to `opening_of`. Assumes nothing.
 use mathlib.Core.Path.{_≡_, refl, _∙_}
 use Prim.Native.Nat.{ℕ, _<_, _^_}
 use mathlib.Core.List.{List, [], _∷_}
@@ -36,10 +36,10 @@ use denote.Triple.Table.{entered, cited}
 use denote.Triple.Walked.{says, Stays, stay-none, stay-none-slice, walkOf, goes-none, goes-none-slice, Walks, ends-at, walked, walk-meets}
 use denote.Exit.{yes}
 use denote.Triple.Clauses.{ensured, lasts}
-use Rattle.sdp_read.specs.From.{openingOf}
+use Rattle.sdp_line.specs.Version.{openingOf}
 use Rattle.sdp_cutter.specs.declared.Line.{Line}
 use Rattle.sdp_lines.specs.declared.LineNumber.{LineNumber}
-use Rattle.sdp_read.specs.declared.Opening.{Opening}
+use Rattle.sdp_line.specs.declared.Opening.{Opening}
 use Rattle.sdp_lines.specs.declared.Place.{Place}
 use Rattle.sdp_cutter.proofs.Line as T
 use Rattle.sdp_cutter.proofs.Line.Laws as T′
@@ -47,20 +47,20 @@ use Rattle.sdp_lines.proofs.Place as P
 use Rattle.sdp_lines.proofs.Place.Laws as P′
 use Rattle.sdp_lines.proofs.LineNumber as N
 use Rattle.sdp_lines.proofs.LineNumber.Laws as N′
-use Rattle.sdp_read.proofs.Opening as S
-use Rattle.sdp_read.proofs.Opening.Laws as S′
+use Rattle.sdp_line.proofs.Opening as S
+use Rattle.sdp_line.proofs.Opening.Laws as S′
 use Rattle.sdp_cutter.proofs.made as new
 use Rattle.sdp_cutter.proofs.made.Symbol as new-def
 use Rattle.sdp_cutter.proofs.made.Symbol.{name as #made}
 use Rattle.sdp_cutter.proofs.made.Met as new-thm
-use Rattle.sdp_read.proofs.opening_of as next
-use Rattle.sdp_read.proofs.opening_of.Symbol as next-def
-use Rattle.sdp_read.proofs.opening_of.Symbol.{name as #opening-of}
-use Rattle.sdp_read.proofs.opening_of.Met as next-thm
-use Rattle.sdp_read.proofs.opening_line.Key.{name as #opening-line}
-use Rattle.sdp_read.proofs.opening_line as judged
-use Rattle.sdp_read.proofs.opening_line.Statement as stated
-use Rattle.sdp_read.proofs.opening_line.Code as code
+use Rattle.sdp_line.proofs.opening_of as next
+use Rattle.sdp_line.proofs.opening_of.Symbol as next-def
+use Rattle.sdp_line.proofs.opening_of.Symbol.{name as #opening-of}
+use Rattle.sdp_line.proofs.opening_of.Met as next-thm
+use Rattle.sdp_line.proofs.opening_line.Key.{name as #opening-line}
+use Rattle.sdp_line.proofs.opening_line as judged
+use Rattle.sdp_line.proofs.opening_line.Statement as stated
+use Rattle.sdp_line.proofs.opening_line.Code as code
 
 -- the struct's type, over the signature's lifetimes
 abbrev B : Lfts 1 → RattleType
@@ -182,4 +182,4 @@ opening-line-spec 𝓤 H 𝓜 𝓖 𝓡 =
     (tables 𝓤 H 𝓜 𝓡 code.env .C) (tables 𝓤 H 𝓜 𝓡 code.env .Λ) #opening-line code.function (code.unfolded 𝓤 H 𝓜 𝓡)
     (opening-line-meets 𝓤 H (𝓖 .A) (givenOf 𝓤 H 𝓜 𝓖) (𝓜 .mem) (𝓡 .run) (tablesOf 𝓤 H 𝓜 (tables 𝓤 H 𝓜 𝓡 code.env))
     (cited 𝓤 H (New 𝓤 H (𝓖 .A) (𝓜 .mem) (𝓡 .run)) 𝓜 𝓡 code.env #made new-def.routine code.calls-sdp-cutter·made (new-thm.met 𝓤 H 𝓜 𝓖 𝓡))
-    (cited 𝓤 H (Next 𝓤 H (𝓖 .A) (𝓜 .mem) (𝓡 .run)) 𝓜 𝓡 code.env #opening-of next-def.routine code.calls-sdp-read·opening-of (next-thm.met 𝓤 H 𝓜 𝓖 𝓡)))
+    (cited 𝓤 H (Next 𝓤 H (𝓖 .A) (𝓜 .mem) (𝓡 .run)) 𝓜 𝓡 code.env #opening-of next-def.routine code.calls-sdp-line·opening-of (next-thm.met 𝓤 H 𝓜 𝓖 𝓡)))

@@ -1,4 +1,4 @@
--- `sdp_read::opening_of` meets its contract: a walk by hand. The line is taken apart, and `opening_at` is called. Assumes nothing.
+-- `sdp_line::opening_of` meets its contract: a walk by hand. The line is taken apart, and `opening_at` is called. Assumes nothing.
 use mathlib.Core.Path.{_≡_, refl}
 use Prim.Native.Nat.{_<_, _^_}
 use mathlib.Core.List.{[], _∷_}
@@ -40,9 +40,9 @@ use denote.Triple.Table.{entered, cited}
 use denote.Triple.Walked.{says, Stays, stay-none, walkOf, goes-none, Walks, ends-at, walked, walk-meets}
 use denote.Exit.{yes}
 use denote.Triple.Clauses.{ensured, lasts}
-use Rattle.sdp_read.specs.From.{openingOf}
+use Rattle.sdp_line.specs.Version.{openingOf}
 use Rattle.sdp_cutter.specs.declared.Line.{Line}
-use Rattle.sdp_read.specs.declared.Opening.{Opening}
+use Rattle.sdp_line.specs.declared.Opening.{Opening}
 use Rattle.sdp_lines.specs.declared.Place.{Place}
 use Rattle.sdp_cutter.proofs.Line as T
 use Rattle.sdp_cutter.proofs.Line.Laws as T′
@@ -50,16 +50,16 @@ use Rattle.sdp_lines.proofs.Place as P
 use Rattle.sdp_lines.proofs.Place.Laws as P′
 use Rattle.sdp_lines.proofs.LineNumber as N
 use Rattle.sdp_lines.proofs.LineNumber.Laws as N′
-use Rattle.sdp_read.proofs.Opening as S
-use Rattle.sdp_read.proofs.Opening.Laws as S′
-use Rattle.sdp_read.proofs.opening_at as step
-use Rattle.sdp_read.proofs.opening_at.Symbol as step-def
-use Rattle.sdp_read.proofs.opening_at.Symbol.{name as #opening-at}
-use Rattle.sdp_read.proofs.opening_at.Met as step-thm
-use Rattle.sdp_read.proofs.opening_of.Key.{name as #opening-of}
-use Rattle.sdp_read.proofs.opening_of as take
-use Rattle.sdp_read.proofs.opening_of.Statement as stated
-use Rattle.sdp_read.proofs.opening_of.Code as code
+use Rattle.sdp_line.proofs.Opening as S
+use Rattle.sdp_line.proofs.Opening.Laws as S′
+use Rattle.sdp_line.proofs.opening_at as step
+use Rattle.sdp_line.proofs.opening_at.Symbol as step-def
+use Rattle.sdp_line.proofs.opening_at.Symbol.{name as #opening-at}
+use Rattle.sdp_line.proofs.opening_at.Met as step-thm
+use Rattle.sdp_line.proofs.opening_of.Key.{name as #opening-of}
+use Rattle.sdp_line.proofs.opening_of as take
+use Rattle.sdp_line.proofs.opening_of.Statement as stated
+use Rattle.sdp_line.proofs.opening_of.Code as code
 
 -- the struct's type, over the signature's lifetimes
 abbrev B : Lfts 1 → RattleType
@@ -166,4 +166,4 @@ opening-of-spec 𝓤 H 𝓜 𝓖 𝓡 =
     entered 𝓤 H (tripleOf 𝓤 H (𝓖 .A) take.signature (take.spec 𝓤 H (𝓖 .A) (𝓜 .mem) (𝓡 .run)))
     (tables 𝓤 H 𝓜 𝓡 code.env .C) (tables 𝓤 H 𝓜 𝓡 code.env .Λ) #opening-of code.function (code.unfolded 𝓤 H 𝓜 𝓡)
     (opening-of-meets 𝓤 H (𝓖 .A) (givenOf 𝓤 H 𝓜 𝓖) (𝓜 .mem) (𝓡 .run) (tablesOf 𝓤 H 𝓜 (tables 𝓤 H 𝓜 𝓡 code.env))
-    (cited 𝓤 H (OpeningAt 𝓤 H (𝓖 .A) (𝓜 .mem) (𝓡 .run)) 𝓜 𝓡 code.env #opening-at step-def.routine code.calls-sdp-read·opening-at (step-thm.met 𝓤 H 𝓜 𝓖 𝓡)))
+    (cited 𝓤 H (OpeningAt 𝓤 H (𝓖 .A) (𝓜 .mem) (𝓡 .run)) 𝓜 𝓡 code.env #opening-at step-def.routine code.calls-sdp-line·opening-at (step-thm.met 𝓤 H 𝓜 𝓖 𝓡)))

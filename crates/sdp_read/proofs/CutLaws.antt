@@ -1,0 +1,135 @@
+-- What stands at a cursor, by the raw line there.
+-- Assumes nothing.
+use Prim.Native.Nat.{ℕ, zero, suc, _+_, _-_, _≤_, _<_}
+use native.Mathlib.Decide.{decLt}
+use native.Mathlib.Omega.{arith}
+use native.Mathlib.Nat.{zero-add, suc-add, add-sub-cancel-left}
+use mathlib.Core.Path.{_≡_, refl, sym, ap, _∙_, subst}
+use mathlib.Core.Bool.{Bool, true, false, cond}
+use mathlib.Core.List.{List, [], _∷_}
+use lib.Dec.{ltb}
+use lib.ListN.{length, take, drop, length-drop, drop-of-length-le}
+use lib.Seq.{drop-drop, take-nil, length-take-le}
+use Rattle.sdp_lines.specs.Lines
+use Rattle.sdp_lines.specs.Lines.{Raw, split, content, width, formOf, nextLine, past, cutForm, cutRaws, cutAt}
+use Rattle.sdp_lines.specs.Quick.{firstRaw}
+use Rattle.sdp_lines.specs.Strings.{bytesOf}
+use Rattle.sdp_lines.specs.declared.Span.{Span}
+use Rattle.sdp_lines.specs.declared.Cursor.{Cursor}
+use Rattle.sdp_lines.specs.declared.Form.{Form}
+use Rattle.sdp_lines.specs.declared.Form.the-variants.{Blank, Good, Bad}
+use Rattle.sdp_lines.specs.declared.Cut.{Cut}
+use Rattle.sdp_lines.specs.declared.Cut.the-variants.{Line, Empty, Refused, End}
+use Rattle.sdp_lines.proofs.LineLaws.{split-at-place, content-front, content-le, width-le, width-pos, good-form}
+use Rattle.sdp_read.specs.From.{Reached}
+use Rattle.sdp_line.specs.Version.{openingOf}
+use Rattle.sdp_line.specs.declared.Opening.{Opening}
+use Rattle.sdp_line.specs.declared.Opening.the-variants as opening
+use Rattle.sdp_read.specs.OneLine.{Further, openedTo, versionBy, versionAt}
+use Rattle.sdp_read.specs.declared.Search.{Search}
+use Rattle.sdp_read.specs.declared.Search.the-variants.{On, Told}
+use Rattle.sdp_read.specs.declared.Version.the-variants as version
+
+drop-take : (k m : ℕ) (u : List ℕ) → drop k (take (k + m) u) ≡ take m (drop k u)
+drop-take zero m u = ap (λ (n : ℕ). take n u) (zero-add m)
+drop-take (suc k) m [] = ap (λ (l : List ℕ). drop (suc k) l) (take-nil (suc k + m)) ∙ sym (take-nil m)
+drop-take (suc k) m (x ∷ u) = ap (λ (n : ℕ). drop (suc k) (take n (x ∷ u))) (suc-add k m) ∙ drop-take k m u
+
+-- the part of a text that is a string's bytes, and that it stays within the limit
+pub part-is : (s : List ℕ) (x : Span) → take (x .at .0 + x .len - x .at .0) (drop (x .at .0) s) ≡ bytesOf s x
+part-is s x = ap (λ (k : ℕ). take k (drop (x .at .0) s)) (add-sub-cancel-left (x .at .0) (x .len))
+
+pub part-fits : (s : List ℕ) (x : Span) → length s ≤ 32768 → x .at .0 + x .len ≤ length s
+    → x .at .0 + length (take (x .at .0 + x .len - x .at .0) (drop (x .at .0) s)) ≤ 32768
+part-fits s x short inside =
+    let e : length (bytesOf s x) ≡ x .len = length-take-le (x .len) (drop (x .at .0) s) (omega (arith, inside, length-drop (x .at .0) s)) in
+    rw (part-is s x, e) (omega (arith, short, inside))
+
+next-le : (n : ℕ) → nextLine n ≤ n + 1
+next-le n = go (ltb n 0xffff_ffff_ffff_ffff)
+  where
+    go : (b : Bool) → cond b (n + 1) n ≤ n + 1
+    go true = omega arith
+    go false = omega arith
+
+module _ (s : List ℕ) (c : Cursor) where
+  -- the line there, where there is one, and those after it
+  abbrev pub raw : Raw
+  raw = firstRaw (drop (c .at .0) s)
+
+  abbrev pub rest : List Raw
+  rest = split (drop (c .at .0 + width raw) s)
+
+  -- its value, as the cutter names it
+  abbrev pub span : Span
+  span = record { at = record { 0 = c .at .0 + 2 }; len = length (content raw) - 2 }
+
+  none-left : length s ≤ c .at .0 → split (drop (c .at .0) s) ≡ []
+  unfolding Lines.split
+  none-left h = rw (drop-of-length-le s h)
+
+  -- what holds of the lines from here on and of what is cut, by the form of the first
+  pub at-cursor : (P : List Raw → Cut → Type 0) → P [] End
+      → (c .at .0 < length s → (f : Form) → formOf (content raw) ≡ f → P (raw ∷ rest) (cutForm c raw f))
+      → P (split (drop (c .at .0) s)) (cutAt s c)
+  unfolding Lines.cutAt
+  at-cursor P none line = go (decLt (c .at .0) (length s))
+    where
+      go : Dec (c .at .0 < length s) → P (split (drop (c .at .0) s)) (cutRaws c (split (drop (c .at .0) s)))
+      go (yes h) = rw (split-at-place s (c .at .0) h) (line h (formOf (content raw)) refl)
+      go (no h) = rw (none-left (omega arith)) none
+
+  -- the value's bytes, out of the text and out of the line
+  pub value-is : (l : ℕ) → formOf (content raw) ≡ Good l → bytesOf s span ≡ drop 2 (content raw)
+  value-is l e =
+      let two = good-form (content raw) l e in
+      let k : 2 + (length (content raw) - 2) ≡ length (content raw) = omega arith in
+      rw (← drop-drop 2 (c .at .0) s) (sym (drop-take 2 (length (content raw) - 2) (drop (c .at .0) s)) ∙ ap (λ (j : ℕ). drop 2 (take j (drop (c .at .0) s))) k ∙ ap (drop 2) (content-front (drop (c .at .0) s)))
+
+  past-further : c .at .0 < length s → Further s c (past c raw)
+  past-further h =
+      let d = length-drop (c .at .0) s in
+      let p = width-pos (drop (c .at .0) s) (omega arith) in
+      let n = next-le (c .line .0) in
+      record { forward = omega arith; reached = λ w. record { inside = omega (arith, width-le (drop (c .at .0) s)); counted = omega (arith, w .counted) } }
+
+  -- what was cut goes further on, and its value stands in the text
+  abbrev Fine : Cut → Type 0
+  Fine End = Unit {0}
+  Fine (Refused f n) = Unit {0}
+  Fine (Empty d) = Further s c d
+  Fine (Line l v d) = Further s c d × (v .at .0 + v .len ≤ length s)
+
+  cut-fine : Fine (cutAt s c)
+  cut-fine = at-cursor (λ rs k. Fine k) tt form
+    where
+      form : c .at .0 < length s → (f : Form) → formOf (content raw) ≡ f → Fine (cutForm c raw f)
+      form h Blank e = past-further h
+      form h (Bad f) e = tt
+      form h (Good l) e = (past-further h, omega (arith, good-form (content raw) l e, content-le raw, width-le (drop (c .at .0) s), length-drop (c .at .0) s))
+
+  pub empty-further : (d : Cursor) → cutAt s c ≡ Empty d → Further s c d
+  empty-further d e = subst (λ (k : Cut). Fine k) e cut-fine
+
+  pub line-fine : (l : ℕ) (v : Span) (d : Cursor) → cutAt s c ≡ Line l v d → Further s c d × (v .at .0 + v .len ≤ length s)
+  line-fine l v d e = subst (λ (k : Cut). Fine k) e cut-fine
+
+  -- a line that is passed while the version is looked for
+  abbrev pub SearchFine : Search → Type 0
+  SearchFine (On d) = Further s c d
+  SearchFine (Told (version.Found d)) = Further s c d
+  SearchFine (Told (version.Refused x)) = Unit {0}
+
+  pub search-fine : (y : Search) → y ≡ versionAt s c → SearchFine y
+  unfolding versionAt
+  search-fine y e = subst (λ (z : Search). SearchFine z) (sym e) (go (cutAt s c) cut-fine)
+    where
+      opened : (d : Cursor) (o : Opening) → Further s c d → SearchFine (openedTo d o)
+      opened d opening.Zero h = h
+      opened d (opening.Refused x) h = tt
+
+      go : (k : Cut) → Fine k → SearchFine (versionBy s (c .line .0) k)
+      go End u = tt
+      go (Refused f n) u = tt
+      go (Empty d) h = h
+      go (Line l v d) h = opened d (openingOf (v .at .0) (c .line .0) l (bytesOf s v)) (h .0)
