@@ -166,11 +166,20 @@ fn times(text: &[u8], c: Cursor, left: u8) -> Stop
 }
 
 // r*, and these hand back to the next time's line.
-fn repeats(text: &[u8], c: Cursor, left: u8) -> Stop
-    ensures { λ r. ⌜ Halts (now (text .entry)) fromRepeats fromRepeats fromZone c r ⌝ }
+fn repeats(text: &[u8], from: Cursor, left: u8) -> Stop
+    ensures { λ r. ⌜ Halts (now (text .entry)) fromRepeats fromRepeats fromZone from r ⌝ }
 {
-    let t = many(text, c, b'r');
-    times(text, t, left)
+    let mut c = from;
+    loop {
+        match line_with(text, c, b'r') {
+            Found::Past(next) => {
+                c = next;
+            }
+            Found::Not => {
+                return times(text, c, left);
+            }
+        }
+    }
 }
 
 // One or more times (t r*).

@@ -1,9 +1,11 @@
 -- `sdp_order::repeats` and `sdp_order::times` meet their contracts. Assumes nothing.
-use Prim.Native.Nat.{_+_, _*_}
+use Prim.Native.Nat.{_+_, _*_, _-_}
 use native.Mathlib.Omega.{arith}
+use mathlib.Core.Path.{refl}
+use lib.ListN.{length}
 use borrow.Author.Needs.{needs}
-use Rattle.sdp_order.specs.From.{fromRepeats, fromZone}
-use Rattle.sdp_order.proofs.PassLaws.{halts-on, run-came, run-none}
+use Rattle.sdp_order.specs.From.{Passes, fromRepeats, fromZone}
+use Rattle.sdp_order.proofs.PassLaws.{passes-on, halts-on, many-came, many-none, run-came, run-none}
 use Rattle.sdp_order.proofs.GrammarLaws.{repeats-end, times-end}
 use Prim.Native.Nat.{ℕ, _<_}
 use borrow.Fn.Kinds.{In}
@@ -15,7 +17,6 @@ use Rattle.sdp_order.proofs.times.Reads as times
 use Rattle.sdp_order.proofs.times.Kinds as times-kinds
 use Rattle.sdp_order.proofs.+repeats+times.Lts-times as times-lts
 use Rattle.sdp_order.proofs.line_with.Reads as line-with-reads
-use Rattle.sdp_order.proofs.many.Reads as many-reads
 use Rattle.sdp_order.proofs.+repeats+times.{statement}
 use Rattle.sdp_order.proofs.+repeats+times.Tie.{close}
 
@@ -38,32 +39,83 @@ times-at t = and 1 times-kinds.ps (is 1 times-kinds.ps μ-times t) times.Pre
 abbrev times-below : ℕ → In 1 times-kinds.ps
 times-below t = and 1 times-kinds.ps (falls 1 times-kinds.ps _<_ μ-times t) times.Pre
 
--- src/lib.rt:172:9
-repeats-many-requires : (t : ℕ) → repeats-lts.Need-many-requires (
-  many-reads.Asked,
-  many-reads.Learnt,
-  times-below t,
-  times.Post,
-) (repeats-at t) repeats.Post
-repeats-many-requires t c κs = search needs
+abbrev repeats-Inv-loop : repeats-lts.InvT-loop
+repeats-Inv-loop text left c₀ c = Passes text fromRepeats fromRepeats c₀ c
+
+abbrev repeats-μ-loop : repeats-lts.MeasureT-loop
+repeats-μ-loop text left c₀ c = length text - c .at .0
 
 -- src/lib.rt:173:5
-repeats-times-requires : (t : ℕ) → repeats-lts.Need-times-requires (
-  many-reads.Asked,
-  many-reads.Learnt,
+repeats-loop-holds : (t : ℕ) → repeats-lts.Need-loop-holds (
+  line-with-reads.Asked,
+  line-with-reads.Learnt,
   times-below t,
   times.Post,
-) (repeats-at t) repeats.Post
+) (repeats-at t) repeats.Post repeats-Inv-loop repeats-μ-loop
+repeats-loop-holds t c = record { onward = omega arith; rest = refl }
+
+-- src/lib.rt:174:15
+repeats-line-with-requires : (t : ℕ) → repeats-lts.Need-line-with-requires (
+  line-with-reads.Asked,
+  line-with-reads.Learnt,
+  times-below t,
+  times.Post,
+) (repeats-at t) repeats.Post repeats-Inv-loop repeats-μ-loop
+repeats-line-with-requires t c κs = search needs
+
+-- src/lib.rt:175:25
+repeats-enum-known-next : (t : ℕ) → repeats-lts.Need-enum-known-next (
+  line-with-reads.Asked,
+  line-with-reads.Learnt,
+  times-below t,
+  times.Post,
+) (repeats-at t) repeats.Post repeats-Inv-loop repeats-μ-loop
+repeats-enum-known-next t c = search needs
+
+-- src/lib.rt:173:5
+repeats-loop-less : (t : ℕ) → repeats-lts.Need-loop-less (
+  line-with-reads.Asked,
+  line-with-reads.Learnt,
+  times-below t,
+  times.Post,
+) (repeats-at t) repeats.Post repeats-Inv-loop repeats-μ-loop
+repeats-loop-less t c = let h = rw (c .before .next .given .1) at (c .before .before .before .line-with .ensures) in omega (arith, h .0 .stands, h .0 .moved)
+
+-- src/lib.rt:173:5
+repeats-loop-again : (t : ℕ) → repeats-lts.Need-loop-again (
+  line-with-reads.Asked,
+  line-with-reads.Learnt,
+  times-below t,
+  times.Post,
+) (repeats-at t) repeats.Post repeats-Inv-loop repeats-μ-loop
+repeats-loop-again t c = passes-on _ _ _ _ _ _ _ (c .before .before .before .before .loop .inv) (many-came _ _ _ _ repeats-end _ (rw (c .before .next .given .1) at (c .before .before .before .line-with .ensures)))
+
+-- src/lib.rt:179:17
+repeats-enum-told : (t : ℕ) → repeats-lts.Need-enum-told (
+  line-with-reads.Asked,
+  line-with-reads.Learnt,
+  times-below t,
+  times.Post,
+) (repeats-at t) repeats.Post repeats-Inv-loop repeats-μ-loop
+repeats-enum-told t c = search needs
+
+-- src/lib.rt:179:17
+repeats-times-requires : (t : ℕ) → repeats-lts.Need-times-requires (
+  line-with-reads.Asked,
+  line-with-reads.Learnt,
+  times-below t,
+  times.Post,
+) (repeats-at t) repeats.Post repeats-Inv-loop repeats-μ-loop
 repeats-times-requires t c κs = omega arith
 
--- src/lib.rt:169:1
+-- src/lib.rt:179:17
 repeats-returns : (t : ℕ) → repeats-lts.Need-returns (
-  many-reads.Asked,
-  many-reads.Learnt,
+  line-with-reads.Asked,
+  line-with-reads.Learnt,
   times-below t,
   times.Post,
-) (repeats-at t) repeats.Post
-repeats-returns t c = halts-on _ _ _ fromRepeats fromZone _ _ (c .times .result) (c .before .many .ensures _ repeats-end) (c .times .ensures)
+) (repeats-at t) repeats.Post repeats-Inv-loop repeats-μ-loop
+repeats-returns t c = halts-on _ _ _ fromRepeats fromZone _ _ (c .times .result) (passes-on _ _ _ _ _ _ _ (c .before .before .before .before .loop .inv) (many-none _ _ _ (rw (c .before .enum-told .given .1) at (c .before .before .before .line-with .ensures)) _)) (c .times .ensures)
 
 -- src/lib.rt:157:11
 times-line-with-requires : (t : ℕ) → times-lts.Need-line-with-requires (
@@ -90,7 +142,7 @@ times-returns : (t : ℕ) → times-lts.Need-returns (
   repeats-below t,
   repeats.Post,
 ) (times-at t) times.Post
-times-returns t c = let h = (rw (c .before .before .next .given .1) at (c .before .before .before .before .line-with .ensures)) in (h .0, run-came _ _ _ _ times-end _ _ h .rest)
+times-returns t c = let h = rw (c .before .before .next .given .1) at (c .before .before .before .before .line-with .ensures) in (h .0, run-came _ _ _ _ times-end _ _ h .rest)
 
 -- src/lib.rt:162:33
 times-sub-repeats : (t : ℕ) → times-lts.Need-sub-repeats (
@@ -139,14 +191,21 @@ times-returns-3 t c = run-none _ _ _ (rw (c .enum-told .given .1) at (c .before 
 
 pub +repeats+times-spec : {M : Type 1} → statement M
 +repeats+times-spec = close μ-repeats μ-times (λ t. repeats-lts.spec (
-  many-reads.Asked,
-  many-reads.Learnt,
+  line-with-reads.Asked,
+  line-with-reads.Learnt,
   times-below t,
   times.Post,
 )
     (repeats-at t)
     repeats.Post
-    (repeats-many-requires t)
+    repeats-Inv-loop
+    repeats-μ-loop
+    (repeats-loop-holds t)
+    (repeats-line-with-requires t)
+    (repeats-enum-known-next t)
+    (repeats-loop-less t)
+    (repeats-loop-again t)
+    (repeats-enum-told t)
     (repeats-times-requires t)
     (repeats-returns t))
     λ t. times-lts.spec
