@@ -3,11 +3,11 @@
 use mathlib.Core.Path.{_≡_, refl, _∙_}
 use mathlib.Core.Bool.{false}
 use Rattle.sdp_order.specs.Expression.{letter, _·_, _*, _⁇, maybeEmpty}
-use Rattle.sdp_order.specs.From.{begins, timeRun, fromTimes, fromZone, fromMedia, inMedia}
+use Rattle.sdp_order.specs.From.{begins, timeRun, fromTimes, fromRepeats, fromZone, fromMedia, inMedia}
 use Rattle.sdp_order.proofs.ExpressionLaws.{Same, then-assoc, then-in}
 
 -- the first of the times
-pub first-time : Same fromTimes (letter 0x74 · (letter 0x72 * · (timeRun * · fromZone)))
+pub first-time : Same fromTimes (letter 0x74 · fromRepeats)
 first-time ls = then-assoc timeRun (timeRun *) fromZone ls ∙ then-assoc (letter 0x74) (letter 0x72 *) (timeRun * · fromZone) ls
 
 -- after the repeats no repeat comes, and after the times no time

@@ -7,9 +7,11 @@ use mathlib.Core.Bool.{false}
 use mathlib.Core.List.{List}
 use Rattle.sdp_lines.specs.declared.Cursor.{Cursor}
 use Rattle.sdp_order.specs.Expression.{Expr, empty, letter, _·_, _*, _⁇, maybeEmpty, after}
-use Rattle.sdp_order.specs.From.{runFrom, begins, Finds, Passes, Leads}
+use Rattle.sdp_order.specs.From.{runFrom, begins, Finds, Passes, Leads, Halts}
 use Rattle.sdp_order.specs.declared.Found.{Found}
 use Rattle.sdp_order.specs.declared.Found.the-variants.{Past, Not}
+use Rattle.sdp_order.specs.declared.Stop.{Stop}
+use Rattle.sdp_order.specs.declared.Stop.the-variants.{Through, AtRepeats}
 use Rattle.sdp_order.proofs.ExpressionLaws.{Same, empty-then, then-empty, then-assoc, after-then, after-letter, after-one, after-maybe, after-many}
 use Rattle.sdp_order.proofs.SeenLaws.{run-same}
 
@@ -22,6 +24,11 @@ passes-as s x x′ y c d f g = record { onward = g .onward; rest = run-same s c 
 pub leads-on : (s : List ℕ) (x y z : Expr) (c d : Cursor) (r : Found) → runFrom s c x ≡ runFrom s d y → Leads s y z d r → Leads s x z c r
 leads-on s x y z c d (Past e) f g = f ∙ g
 leads-on s x y z c d Not f g = f ∙ g
+
+pub halts-on : (s : List ℕ) (x y w z : Expr) (c d : Cursor) (r : Stop) → Passes s x y c d → Halts s y w z d r → Halts s x w z c r
+halts-on s x y w z c d (Through e) f g = f .rest ∙ g
+halts-on s x y w z c d (AtRepeats e) f g =
+    (record { stands = omega (arith, f .onward, g .0 .stands); moved = omega (arith, f .onward, g .0 .moved) }, f .rest ∙ g .1)
 
 module _ (s : List ℕ) (c : Cursor) (l : ℕ) where
   -- one line must come
@@ -46,10 +53,11 @@ module _ (s : List ℕ) (c : Cursor) (l : ℕ) where
     }
 
     -- any number of runs of lines that begin with this letter
-    pub run-came : (x : Expr) (d : Cursor) → Finds s l c (Past d) → runFrom s c ((letter l · x) * · y) ≡ runFrom s d (x · ((letter l · x) * · y))
-    run-came x d h =
-        h .1 ((letter l · x) * · y)
-        ∙ run-same s d _ _ (λ ls. after-then l ((letter l · x) *) (x · (letter l · x) *) y (after-many l (letter l · x) x (after-one l x)) b ls ∙ then-assoc x ((letter l · x) *) y ls)
+    pub run-came : (x : Expr) (d : Cursor) → Finds s l c (Past d) → Passes s ((letter l · x) * · y) (x · ((letter l · x) * · y)) c d
+    run-came x d h = record {
+      onward = omega (arith, h .0 .moved);
+      rest = h .1 ((letter l · x) * · y) ∙ run-same s d _ _ (λ ls. after-then l ((letter l · x) *) (x · (letter l · x) *) y (after-many l (letter l · x) x (after-one l x)) b ls ∙ then-assoc x ((letter l · x) *) y ls);
+    }
 
   -- none of them came
   module _ (h : Finds s l c Not) where

@@ -13,6 +13,8 @@ use Rattle.sdp_order.specs.declared.Next.{Next}
 use Rattle.sdp_order.specs.declared.Next.the-variants.{Good, Bad, End}
 use Rattle.sdp_order.specs.declared.Found.{Found}
 use Rattle.sdp_order.specs.declared.Found.the-variants.{Past, Not}
+use Rattle.sdp_order.specs.declared.Stop.{Stop}
+use Rattle.sdp_order.specs.declared.Stop.the-variants.{Through, AtRepeats}
 
 -- the lines from c on run as x says
 unfoldable pub runFrom : List ℕ → Cursor → Expr → Bool
@@ -55,6 +57,11 @@ abbrev pub Leads : List ℕ → Expr → Expr → Cursor → Found → Type 0
 Leads s x y c (Past d) = runFrom s c x ≡ runFrom s d y
 Leads s x y c Not = runFrom s c x ≡ false
 
+-- the same where the way to y may stop behind a line: then w is due there
+abbrev pub Halts : List ℕ → Expr → Expr → Expr → Cursor → Stop → Type 0
+Halts s x w y c (Through d) = runFrom s c x ≡ runFrom s d y
+Halts s x w y c (AtRepeats d) = Behind s c d × (runFrom s c x ≡ runFrom s d w)
+
 -- ---- parts of the grammar
 -- y of x · y
 abbrev pub second : Expr → Expr
@@ -94,6 +101,10 @@ timeRun = letter 0x74 · letter 0x72 *
 -- "z? k? a*" and on
 abbrev pub fromZone : Expr
 fromZone = partsFrom 10 grammar
+
+-- what is due behind a time's line
+abbrev pub fromRepeats : Expr
+fromRepeats = letter 0x72 * · (timeRun * · fromZone)
 
 -- "any number of (m i? c* b* k? a*)"
 abbrev pub fromMedia : Expr

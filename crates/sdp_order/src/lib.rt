@@ -3,7 +3,7 @@ ghost use mathlib.Core.Path.{_≡_};
 ghost use Rattle.sdp_lines.specs.Lines.{start};
 ghost use Rattle.sdp_order.specs.Expression.{Expr, empty, letter, _·_, _*, _⁇};
 ghost use Rattle.sdp_order.specs.Order.{grammar, orderOf, verdictOf};
-ghost use Rattle.sdp_order.specs.From.{runFrom, begins, Follows, Finds, Passes, Leads, timeRun, fromTitle, fromTimes, fromZone, fromMedia, inMedia};
+ghost use Rattle.sdp_order.specs.From.{runFrom, begins, Follows, Finds, Passes, Leads, Halts, timeRun, fromTitle, fromTimes, fromRepeats, fromZone, fromMedia, inMedia};
 ghost use mathlib.Core.Bool.{false};
 use sdp_lines::Cursor;
 use sdp_lines::Cut;
@@ -33,6 +33,15 @@ pub enum Next {
 pub enum Found {
     Past(Cursor),
     Not,
+}
+
+// So often times and repeats hand over before they stop: the calls inside each other are few, whatever the text.
+const HAND_OVERS: u8 = 16;
+
+// Where times and repeats stopped: after the last of them; or behind a time's line, where its repeats are due.
+pub enum Stop {
+    Through(Cursor),
+    AtRepeats(Cursor),
 }
 
 // The next line that is not empty.
@@ -141,33 +150,55 @@ fn session_lines(text: &[u8], from: Cursor) -> Cursor
     many(text, b, b'b')
 }
 
-// Any number of (t r*): a time's line hands over to its repeats.
-fn times(text: &[u8], c: Cursor) -> Cursor
-    ensures { λ r. ⌜ runFrom (now (text .entry)) c (timeRun * · fromZone) ≡ runFrom (now (text .entry)) r fromZone ⌝ }
+// Any number of (t r*): a time's line hands over to its repeats, as often as is left.
+fn times(text: &[u8], c: Cursor, left: u8) -> Stop
+    ensures { λ r. ⌜ Halts (now (text .entry)) (timeRun * · fromZone) fromRepeats fromZone c r ⌝ }
 {
     match line_with(text, c, b't') {
-        Found::Past(next) => repeats(text, next),
-        Found::Not => c,
+        Found::Past(next) => {
+            if left == 0 {
+                return Stop::AtRepeats(next);
+            }
+            repeats(text, next, left - 1)
+        }
+        Found::Not => Stop::Through(c),
     }
 }
 
 // r*, and these hand back to the next time's line.
-fn repeats(text: &[u8], c: Cursor) -> Cursor
-    ensures { λ r. ⌜ runFrom (now (text .entry)) c (letter 0x72 * · timeRun * · fromZone) ≡ runFrom (now (text .entry)) r fromZone ⌝ }
+fn repeats(text: &[u8], from: Cursor, left: u8) -> Stop
+    ensures { λ r. ⌜ Halts (now (text .entry)) fromRepeats fromRepeats fromZone from r ⌝ }
 {
-    match line_with(text, c, b'r') {
-        Found::Past(next) => repeats(text, next),
-        Found::Not => times(text, c),
+    let mut c = from;
+    loop {
+        match line_with(text, c, b'r') {
+            Found::Past(next) => {
+                c = next;
+            }
+            Found::Not => {
+                return times(text, c, left);
+            }
+        }
     }
 }
 
 // One or more times (t r*).
-fn time_lines(text: &[u8], c: Cursor) -> Found
-    ensures { λ r. ⌜ Leads (now (text .entry)) fromTimes fromZone c r ⌝ }
+fn time_lines(text: &[u8], from: Cursor) -> Found
+    ensures { λ r. ⌜ Leads (now (text .entry)) fromTimes fromZone from r ⌝ }
 {
-    match line_with(text, c, b't') {
-        Found::Past(next) => Found::Past(repeats(text, next)),
-        Found::Not => Found::Not,
+    let Found::Past(first) = line_with(text, from, b't') else {
+        return Found::Not;
+    };
+    let mut c = first;
+    loop {
+        match repeats(text, c, HAND_OVERS) {
+            Stop::Through(next) => {
+                return Found::Past(next);
+            }
+            Stop::AtRepeats(next) => {
+                c = next;
+            }
+        }
     }
 }
 
