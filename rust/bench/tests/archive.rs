@@ -55,7 +55,9 @@ fn size_of_the_area() {
 
 #[test]
 fn no_heap() {
-    let folder = option_env!("RATTLE_STATICLIB").unwrap_or(concat!(env!("CARGO_MANIFEST_DIR"), "/../../target/staticlib"));
+    let usual = if cfg!(target_arch = "x86_64") { "staticlib" } else { "arm" };
+    let usual = format!("{}/../../target/{usual}", env!("CARGO_MANIFEST_DIR"));
+    let folder = option_env!("RATTLE_STATICLIB").unwrap_or(&usual);
     let archive = std::fs::read(format!("{folder}/libsdp.a")).unwrap();
     let (mut defined, mut wanted) = (BTreeSet::new(), BTreeSet::new());
     for member in members(&archive) {

@@ -2,6 +2,7 @@
 //! area is either judged or, past a count or in an absent field, not looked at.
 use crate::area::{Part, PARTS, SIZE};
 use std::collections::BTreeSet;
+use std::sync::OnceLock;
 
 /// A reason for 23. "A number is out of its Rust type" is none here: every pattern of bytes in a number's cell is a
 /// number of that type.
@@ -103,59 +104,70 @@ fn kind(name: &str, width: usize) -> Kind {
     }
 }
 
-/// All cells of the area, one after another.
-pub fn cells(area: &[u8]) -> Vec<Cell> {
-    let mut cells = Vec::with_capacity(4_000);
-    for part in &PARTS {
-        let (count, rows, first) = if part.rows == 0 {
-            (1, 1, part.at)
-        } else {
-            (two(area, part.at), part.rows, part.at + 2)
-        };
-        if part.rows > 0 {
-            cells.push(Cell {
-                part,
-                row: 0,
-                name: "count",
-                kind: Kind::Count,
-                at: part.at,
-                width: 2,
-                judged: true,
-            });
+/// The cells of each part, one after another, with none judged; and of a mark the place behind the last field that it
+/// speaks for. Made once: they are the same in every area.
+fn layout() -> &'static [Vec<(Cell, usize)>] {
+    static LAYOUT: OnceLock<Vec<Vec<(Cell, usize)>>> = OnceLock::new();
+    LAYOUT.get_or_init(|| {
+        let parts: Vec<_> = PARTS.iter().map(laid).collect();
+        let end = parts.iter().flatten().fold(0, |at, (cell, _)| {
+            assert_eq!(cell.at, at, "{} {}: no byte lies between two cells", cell.part.name, cell.name);
+            at + cell.width
+        });
+        assert_eq!(end, SIZE);
+        parts
+    })
+}
+
+fn laid(part: &'static Part) -> Vec<(Cell, usize)> {
+    let cell = |row, name, kind, at, width| Cell { part, row, name, kind, at, width, judged: false };
+    let (mut cells, mut at) = (Vec::new(), part.at);
+    if part.rows > 0 {
+        cells.push((cell(0, "count", Kind::Count, at, 2), 0));
+        at += 2;
+    }
+    for row in 0..part.rows.max(1) {
+        for (offset, width, name) in part.fields {
+            cells.push((cell(row, name, kind(name, *width), at + offset, *width), at + behind(part, name)));
         }
-        // of each field its kind, and for a mark the field behind the last one that it speaks for
-        let fields = part.fields.iter();
-        let kinds: Vec<_> = fields.map(|(_, width, name)| (kind(name, *width), behind(part, name))).collect();
-        for row in 0..rows {
-            let mut absent_to = 0;
-            for (field, (offset, width, name)) in part.fields.iter().enumerate() {
-                let (kind, behind) = kinds[field];
-                let at = first + row * part.width + offset;
-                let judged = row < count && field >= absent_to;
-                if judged && kind == Kind::Mark && two(area, at) != 1 {
-                    absent_to = behind;
-                }
-                cells.push(Cell {
-                    part,
-                    row,
-                    name,
-                    kind,
-                    at,
-                    width: *width,
-                    judged,
-                });
-            }
-        }
+        at += part.width;
     }
     cells
 }
 
+/// The cells that are judged, in their order.
+fn judged(area: &[u8]) -> impl Iterator<Item = &'static Cell> + '_ {
+    let parts = layout().iter().zip(&PARTS).flat_map(move |(cells, part)| {
+        let used = match part.rows {
+            0 => cells.len(),
+            rows => 1 + rows.min(two(area, part.at)) * part.fields.len(),
+        };
+        let mut absent_to = 0;
+        cells[..used].iter().filter(move |(cell, behind)| {
+            let judged = cell.at >= absent_to;
+            if judged && cell.kind == Kind::Mark && two(area, cell.at) != 1 {
+                absent_to = *behind;
+            }
+            judged
+        })
+    });
+    parts.map(|(cell, _)| cell)
+}
+
+/// All cells of the area, one after another.
+pub fn cells(area: &[u8]) -> Vec<Cell> {
+    let mut judged = judged(area).map(|cell| cell.at).peekable();
+    let marked = |(cell, _): &(Cell, usize)| Cell { judged: judged.next_if_eq(&cell.at).is_some(), ..*cell };
+    layout().iter().flatten().map(marked).collect()
+}
+
+/// Where in a row the fields end that a mark speaks for; 0 for another field.
 fn behind(part: &Part, name: &str) -> usize {
     let of = MARKS.iter().find(|(of, mark, _)| *of == part.name && *mark == name);
     assert_eq!(of.is_some(), name.ends_with("mark"), "{} {name}: each mark is in the list", part.name);
     of.map_or(0, |(_, _, last)| {
-        let at = part.fields.iter().position(|(.., name)| name == last);
-        at.expect("a field of the part") + 1
+        let field = part.fields.iter().find(|(.., name)| name == last);
+        field.map(|(offset, width, _)| offset + width).expect("a field of the part")
     })
 }
 
@@ -163,7 +175,7 @@ fn behind(part: &Part, name: &str) -> usize {
 pub fn faults(text: &[u8], area: &[u8]) -> BTreeSet<Fault> {
     let mut faults = BTreeSet::new();
     let mut before = (None, 0);
-    for cell in cells(area).iter().filter(|cell| cell.judged) {
+    for cell in judged(area) {
         match cell.kind {
             Kind::Number => {}
             Kind::Count => {
@@ -210,9 +222,10 @@ pub fn judge(text: &[u8], area: &[u8]) -> bool {
 
 /// The area as a reader would have left it: zero in every cell that isn't judged, and nothing beyond.
 pub fn cleaned(area: &[u8]) -> Vec<u8> {
-    let mut clean = area[..SIZE].to_vec();
-    for cell in cells(area).iter().filter(|cell| !cell.judged) {
-        clean[cell.at..cell.at + cell.width].fill(0);
+    let mut clean = vec![0; SIZE];
+    for cell in judged(area) {
+        let at = cell.at..cell.at + cell.width;
+        clean[at.clone()].copy_from_slice(&area[at]);
     }
     clean
 }

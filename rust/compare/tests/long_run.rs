@@ -3,7 +3,7 @@ use generate as _; // without it the emulator dies when this program starts
 use std::io::{BufRead, BufReader, Read};
 use std::process::{Child, Command, Output, Stdio};
 
-/// As cargo runs the tests: on x86-64 directly, else under the kit's emulator.
+/// As cargo runs the tests: under the kit's emulator where the program is x86-64 and the machine is not.
 fn start(words: &[&str]) -> Child {
     let runner = concat!(env!("CARGO_MANIFEST_DIR"), "/../../gate/run-x86");
     let mut command = Command::new(runner);

@@ -1,7 +1,7 @@
 //! The letter order beside a matcher of our own: document 01's sentence as a pattern, made into a table of states by
 //! derivatives (what may follow once a letter was read). No part of it goes down the lines as a recogniser would.
 use compare::{letter_order, Order};
-use generate::random::count;
+use generate::random::{count, from_env};
 use generate::sessions::{self, LONGEST};
 use generate::{every_string, texts, Random};
 use std::collections::BTreeMap;
@@ -388,10 +388,10 @@ fn bad_forms() {
 #[test]
 fn other_texts() {
     let table = Table::new();
-    let mut random = Random::of_test("order, other texts");
+    let (seed, mut random) = (from_env("SEED", 8866), Random::of_test("order, other texts"));
     let (mut counts, rounds) = (Counts::of(&table), count(20_000));
     for number in 0..rounds {
-        counts.add(&sessions::nth(8866, 2_000_000_000 + number));
+        counts.add(&sessions::nth(seed, 2_000_000_000 + number));
         counts.add(&texts::text(&mut random));
         counts.add(&texts::lines(&mut random));
     }

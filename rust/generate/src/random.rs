@@ -56,9 +56,22 @@ impl Random {
     }
 }
 
-/// How many random inputs a test runs: `COUNT` in the environment, or the usual number.
+/// How many random inputs a test runs: `COUNT` in the environment, or the usual number. `SHARE` makes that fewer: with 10 it
+/// is a tenth of them, but never below eight, or below the usual number where that is less.
 pub fn count(usual: u64) -> u64 {
-    from_env("COUNT", usual)
+    from_env("COUNT", shared(usual, from_env("SHARE", 1)))
+}
+
+fn shared(usual: u64, share: u64) -> u64 {
+    assert_ne!(share, 0, "SHARE is 0");
+    (usual / share).max(usual.min(8))
+}
+
+#[test]
+fn a_share_has_a_floor() {
+    let tenth = |usual| shared(usual, 10);
+    assert_eq!([40_000, 85, 80, 79, 8, 7, 1].map(tenth), [4_000, 8, 8, 8, 8, 7, 1]);
+    assert_eq!((shared(60, 1), shared(60, 1_000_000)), (60, 8));
 }
 
 /// A value that is there and isn't a number is an error, never the usual number in silence.

@@ -1,5 +1,5 @@
-//! C programs, compiled with the archive and run as cargo runs the tests: under the kit's emulator where the machine is
-//! no x86-64.
+//! C programs, compiled with the archive and run as cargo runs the tests: under the kit's emulator where they are x86-64 and
+//! the machine is not.
 #![allow(dead_code)] // each test file takes what it needs
 use crate::page::path;
 use std::fs::OpenOptions;
@@ -10,9 +10,13 @@ use std::thread;
 
 /// A C file of the repository, compiled strictly; the program has this name.
 pub fn compiled(source: &str, name: &str) -> PathBuf {
-    let archive = std::env::var("RATTLE_STATICLIB").unwrap_or(path("target/staticlib")) + "/libsdp.a";
+    let (compiler, folder) = match cfg!(target_arch = "x86_64") {
+        true => (path("gate/link-x86"), path("target/staticlib")),
+        false => ("cc".to_string(), path("target/arm")),
+    };
+    let archive = std::env::var("RATTLE_STATICLIB").unwrap_or(folder) + "/libsdp.a";
     let program = PathBuf::from(env!("CARGO_TARGET_TMPDIR")).join(name);
-    let made = Command::new(path("gate/link-x86"))
+    let made = Command::new(compiler)
         .args(["-std=c11", "-O2", "-Wall", "-Wextra", "-Werror", "-pedantic", "-I", &path("c"), "-o"])
         .arg(&program)
         .args([&path(source), &archive])
