@@ -79,6 +79,8 @@ use Rattle.sdp_area.proofs.medias.Reads as sdpAreaMedias
 use Rattle.sdp_roles.proofs.role_at.Reads as sdpRolesRoleAt
 use Rattle.sdp_strings.proofs.span_of.Reads as sdpStringsSpanOf
 use Rattle.sdp_strings.proofs.maybe_of.Reads as sdpStringsMaybeOf
+use Rattle.sdp_step.proofs.refused.Reads as sdpStepRefused
+use Rattle.sdp_step.proofs.stored.Reads as sdpStepStored
 use Rattle.sdp_read.proofs.read.Reads as sdpReadRead
 use Rattle.sdp_put.proofs.put_byte.Reads as sdpPutPutByte
 use Rattle.sdp_put.proofs.put_two.Reads as sdpPutPutTwo
@@ -355,6 +357,13 @@ sdp-strings-span-of κs a z z′ e e′ p q = same p q
 
 pub sdp-strings-maybe-of : OneAnswer sdpStringsMaybeOf.Learnt
 sdp-strings-maybe-of κs a z z′ e e′ p q = same p q
+
+-- ---- sdp_step
+pub sdp-step-refused : OneAnswer sdpStepRefused.Learnt
+sdp-step-refused κs a z z′ e e′ p q = same p q
+
+pub sdp-step-stored : OneAnswer sdpStepStored.Learnt
+sdp-step-stored κs a z z′ e e′ p q = same p q
 
 -- ---- sdp_read
 pub sdp-read-read : OneState (λ κs e. now (e .1 .0)) sdpReadRead.Learnt

@@ -23,7 +23,7 @@ use sdp_lines::Place;
 use sdp_lines::fault_number;
 use sdp_step::Marks;
 use sdp_step::Taken;
-use sdp_step::take_line;
+use sdp_take::take_line;
 
 // How the lines ended.
 pub enum Ended {
