@@ -5,6 +5,8 @@ ghost use Rattle.sdp_area.specs.Area.{size};
 ghost use Rattle.sdp_step.specs.Step.{step};
 ghost use Rattle.sdp_strings.specs.Strings.{spanAt};
 ghost use Rattle.sdp_step.specs.Hold.{Takes, Reads};
+use sdp_area::Contact;
+use sdp_area::Text;
 use sdp_area::medias;
 use sdp_lines::Place;
 use sdp_roles::Role;
@@ -26,10 +28,10 @@ fn take_role(area: &mut [u8], v: &[u8], at: usize, marks: Marks, role: Role) -> 
     match role {
         Role::Origin => take_once(area, v, at, marks, Once::Origin),
         Role::Name => take_once(area, v, at, marks, Once::Name),
-        Role::Description => take_once(area, v, at, marks, Once::Description),
-        Role::Uri => take_once(area, v, at, marks, Once::Uri),
-        Role::Email => take_row(area, v, at, marks, Row::Email),
-        Role::Phone => take_row(area, v, at, marks, Row::Phone),
+        Role::Description => take_once(area, v, at, marks, Once::Text(Text::Description)),
+        Role::Uri => take_once(area, v, at, marks, Once::Text(Text::Uri)),
+        Role::Email => take_row(area, v, at, marks, Row::Contact(Contact::Email)),
+        Role::Phone => take_row(area, v, at, marks, Row::Contact(Contact::Phone)),
         Role::Connection => take_once(area, v, at, marks, Once::Connection),
         Role::Bandwidth => take_row(area, v, at, marks, Row::Bandwidth),
         Role::Time => take_row(area, v, at, marks, Row::Time),
@@ -38,7 +40,7 @@ fn take_role(area: &mut [u8], v: &[u8], at: usize, marks: Marks, role: Role) -> 
         Role::Key => take_once(area, v, at, marks, Once::Key),
         Role::Attribute => take_row(area, v, at, marks, Row::Attribute),
         Role::Media => take_row(area, v, at, marks, Row::Media),
-        Role::MediaTitle => take_once(area, v, at, marks, Once::MediaTitle),
+        Role::MediaTitle => take_once(area, v, at, marks, Once::Text(Text::Title)),
         Role::MediaConnection => take_row(area, v, at, marks, Row::MediaConnection),
         Role::MediaKey => take_once(area, v, at, marks, Once::MediaKey),
         Role::Nothing => Taken::Kept(marks),

@@ -1,24 +1,22 @@
 // Document 01, module 4: a line that a session or a media has at most once.
+ghost use mathlib.Core.Path.{_≡_};
 ghost use Prim.Native.Nat.{_+_, _≤_};
 ghost use lib.ListN.{length};
 ghost use Rattle.sdp_area.specs.Area.{size};
 ghost use Rattle.sdp_step.specs.Hold.{Reads};
-ghost use Rattle.sdp_take_once.specs.Onces.{onceRole};
+ghost use Rattle.sdp_take_once.specs.Onces.{textRole, textNumber, textField, onceRole};
+use sdp_area::Text;
 use sdp_area::has_connection;
-use sdp_area::has_description;
 use sdp_area::has_key;
 use sdp_area::has_media_key;
-use sdp_area::has_media_title;
 use sdp_area::has_origin;
-use sdp_area::has_uri;
+use sdp_area::has_text;
 use sdp_area::set_connection;
-use sdp_area::set_description;
 use sdp_area::set_key;
 use sdp_area::set_media_key;
-use sdp_area::set_media_title;
 use sdp_area::set_name;
 use sdp_area::set_origin;
-use sdp_area::set_uri;
+use sdp_area::set_text;
 use sdp_fields::Connection;
 use sdp_fields::ConnectionRead;
 use sdp_fields::Origin;
@@ -96,43 +94,44 @@ fn take_name(area: &mut [u8], v: &[u8], at: usize, marks: Marks) -> Taken
     }
 }
 
-// An i line before the first m.
-fn take_description(area: &mut [u8], v: &[u8], at: usize, marks: Marks) -> Taken
-    requires { ⌜ (size ≤ length (now area)) × (at + length (now v) ≤ 32768) ⌝ }
-    ensures { λ r. ⌜ Reads Role.Description at (now (v .entry)) marks r (now (area .entry)) (now (area .exit)) ⌝ }
+// The refusal of a second such line.
+fn text_number(which: Text) -> u64
+    ensures { λ r. ⌜ r ≡ textNumber which ⌝ }
 {
-    if has_description(area) {
-        return Taken::Refused {
-            number: 14,
-            field: 0,
-        };
-    }
-    match whole(v, 35) {
-        WholeRead::Refused(w) => refused(w),
-        WholeRead::Got(p) => {
-            let x = span_of(at, p);
-            set_description(area, x);
-            Taken::Kept(marks)
-        }
+    match which {
+        Text::Description => 14,
+        Text::Uri => 15,
+        Text::Title => 18,
     }
 }
 
-// A u line.
-fn take_uri(area: &mut [u8], v: &[u8], at: usize, marks: Marks) -> Taken
-    requires { ⌜ (size ≤ length (now area)) × (at + length (now v) ≤ 32768) ⌝ }
-    ensures { λ r. ⌜ Reads Role.Uri at (now (v .entry)) marks r (now (area .entry)) (now (area .exit)) ⌝ }
+// The field that its value is.
+fn text_field(which: Text) -> u64
+    ensures { λ r. ⌜ r ≡ textField which ⌝ }
 {
-    if has_uri(area) {
+    match which {
+        Text::Description => 35,
+        Text::Uri => 36,
+        Text::Title => 33,
+    }
+}
+
+// An i or a u line before the first m, or an i line of a media.
+fn take_text(area: &mut [u8], v: &[u8], at: usize, marks: Marks, which: Text) -> Taken
+    requires { ⌜ (size ≤ length (now area)) × (at + length (now v) ≤ 32768) ⌝ }
+    ensures { λ r. ⌜ Reads (textRole which) at (now (v .entry)) marks r (now (area .entry)) (now (area .exit)) ⌝ }
+{
+    if has_text(area, which) {
         return Taken::Refused {
-            number: 15,
+            number: text_number(which),
             field: 0,
         };
     }
-    match whole(v, 36) {
+    match whole(v, text_field(which)) {
         WholeRead::Refused(w) => refused(w),
         WholeRead::Got(p) => {
             let x = span_of(at, p);
-            set_uri(area, x);
+            set_text(area, which, x);
             Taken::Kept(marks)
         }
     }
@@ -188,27 +187,6 @@ fn take_key(area: &mut [u8], v: &[u8], at: usize, marks: Marks) -> Taken
     }
 }
 
-// An i line of a media.
-fn take_media_title(area: &mut [u8], v: &[u8], at: usize, marks: Marks) -> Taken
-    requires { ⌜ (size ≤ length (now area)) × (at + length (now v) ≤ 32768) ⌝ }
-    ensures { λ r. ⌜ Reads Role.MediaTitle at (now (v .entry)) marks r (now (area .entry)) (now (area .exit)) ⌝ }
-{
-    if has_media_title(area) {
-        return Taken::Refused {
-            number: 18,
-            field: 0,
-        };
-    }
-    match whole(v, 33) {
-        WholeRead::Refused(w) => refused(w),
-        WholeRead::Got(p) => {
-            let x = span_of(at, p);
-            set_media_title(area, x);
-            Taken::Kept(marks)
-        }
-    }
-}
-
 // A k line of a media.
 fn take_media_key(area: &mut [u8], v: &[u8], at: usize, marks: Marks) -> Taken
     requires { ⌜ (size ≤ length (now area)) × (at + length (now v) ≤ 32768) ⌝ }
@@ -237,11 +215,9 @@ fn take_media_key(area: &mut [u8], v: &[u8], at: usize, marks: Marks) -> Taken
 pub enum Once {
     Origin,
     Name,
-    Description,
-    Uri,
+    Text(Text),
     Connection,
     Key,
-    MediaTitle,
     MediaKey,
 }
 
@@ -253,11 +229,9 @@ pub fn take_once(area: &mut [u8], v: &[u8], at: usize, marks: Marks, what: Once)
     match what {
         Once::Origin => take_origin(area, v, at, marks),
         Once::Name => take_name(area, v, at, marks),
-        Once::Description => take_description(area, v, at, marks),
-        Once::Uri => take_uri(area, v, at, marks),
+        Once::Text(which) => take_text(area, v, at, marks, which),
         Once::Connection => take_connection(area, v, at, marks),
         Once::Key => take_key(area, v, at, marks),
-        Once::MediaTitle => take_media_title(area, v, at, marks),
         Once::MediaKey => take_media_key(area, v, at, marks),
     }
 }

@@ -4,15 +4,15 @@ ghost use Prim.Native.Nat.{_+_, _≤_};
 ghost use lib.ListN.{length};
 ghost use Rattle.sdp_area.specs.Area.{size};
 ghost use Rattle.sdp_step.specs.Hold.{Reads};
-ghost use Rattle.sdp_take_row.specs.Rows.{rowRole};
+ghost use Rattle.sdp_take_row.specs.Rows.{contactRole, contactField, contactTable, rowRole};
+use sdp_area::Contact;
 use sdp_area::MaybePorts;
 use sdp_area::medias;
 use sdp_area::push_attribute;
 use sdp_area::push_bandwidth;
 use sdp_area::push_connection;
-use sdp_area::push_email;
+use sdp_area::push_contact;
 use sdp_area::push_media;
-use sdp_area::push_phone;
 use sdp_area::push_time;
 use sdp_fields::Bandwidth;
 use sdp_fields::BandwidthRead;
@@ -35,32 +35,37 @@ use sdp_step::stored;
 use sdp_strings::maybe_of;
 use sdp_strings::span_of;
 
-// An e line.
-fn take_email(area: &mut [u8], v: &[u8], at: usize, marks: Marks) -> Taken
-    requires { ⌜ (size ≤ length (now area)) × (at + length (now v) ≤ 32768) ⌝ }
-    ensures { λ r. ⌜ Reads Role.Email at (now (v .entry)) marks r (now (area .entry)) (now (area .exit)) ⌝ }
+// The field that its value is.
+fn contact_field(which: Contact) -> u64
+    ensures { λ r. ⌜ r ≡ contactField which ⌝ }
 {
-    match whole(v, 37) {
-        WholeRead::Refused(w) => refused(w),
-        WholeRead::Got(p) => {
-            let x = span_of(at, p);
-            let p = push_email(area, x);
-            stored(p, 1, marks)
-        }
+    match which {
+        Contact::Email => 37,
+        Contact::Phone => 38,
     }
 }
 
-// A p line.
-fn take_phone(area: &mut [u8], v: &[u8], at: usize, marks: Marks) -> Taken
-    requires { ⌜ (size ≤ length (now area)) × (at + length (now v) ≤ 32768) ⌝ }
-    ensures { λ r. ⌜ Reads Role.Phone at (now (v .entry)) marks r (now (area .entry)) (now (area .exit)) ⌝ }
+// The number of its table.
+fn contact_table(which: Contact) -> u64
+    ensures { λ r. ⌜ r ≡ contactTable which ⌝ }
 {
-    match whole(v, 38) {
+    match which {
+        Contact::Email => 1,
+        Contact::Phone => 2,
+    }
+}
+
+// An e or a p line.
+fn take_contact(area: &mut [u8], v: &[u8], at: usize, marks: Marks, which: Contact) -> Taken
+    requires { ⌜ (size ≤ length (now area)) × (at + length (now v) ≤ 32768) ⌝ }
+    ensures { λ r. ⌜ Reads (contactRole which) at (now (v .entry)) marks r (now (area .entry)) (now (area .exit)) ⌝ }
+{
+    match whole(v, contact_field(which)) {
         WholeRead::Refused(w) => refused(w),
         WholeRead::Got(p) => {
             let x = span_of(at, p);
-            let p = push_phone(area, x);
-            stored(p, 2, marks)
+            let p = push_contact(area, which, x);
+            stored(p, contact_table(which), marks)
         }
     }
 }
@@ -170,8 +175,7 @@ fn ports_of(n: MaybeNumber) -> MaybePorts
 
 // What is a row of a table.
 pub enum Row {
-    Email,
-    Phone,
+    Contact(Contact),
     MediaConnection,
     Bandwidth,
     Time,
@@ -185,8 +189,7 @@ pub fn take_row(area: &mut [u8], v: &[u8], at: usize, marks: Marks, what: Row) -
     ensures { λ r. ⌜ Reads (rowRole what) at (now (v .entry)) marks r (now (area .entry)) (now (area .exit)) ⌝ }
 {
     match what {
-        Row::Email => take_email(area, v, at, marks),
-        Row::Phone => take_phone(area, v, at, marks),
+        Row::Contact(which) => take_contact(area, v, at, marks, which),
         Row::MediaConnection => take_media_connection(area, v, at, marks),
         Row::Bandwidth => take_bandwidth(area, v, at, marks),
         Row::Time => take_time(area, v, at, marks),
