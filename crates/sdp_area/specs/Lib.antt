@@ -3,3 +3,4 @@ pub mod With
 pub mod Area
 pub mod Maybe
 pub mod Latest
+pub mod Which

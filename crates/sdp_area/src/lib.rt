@@ -8,9 +8,10 @@ ghost use lib.ListN.{length, drop};
 ghost use lib.Dec.{eqb};
 ghost use Rattle.sdp_cells.specs.Bytes.{le, num, over, zeros};
 ghost use Rattle.sdp_cells.specs.Tables.{pairs, grown, told};
-ghost use Rattle.sdp_area.specs.Area.{size, span, originBytes, connectionBytes, keyBytes, mediaConnectionRow, bandwidthRow, timeRow, repeatRow, offsetRow, zoneRow, attributeRow, mediaRow, originAt, nameAt, descriptionAt, uriAt, connectionAt, keyAt, emailsAt, phonesAt, connectionsAt, bandwidthsAt, timesAt, repeatsAt, offsetsAt, zonesAt, attributesAt, mediasAt};
+ghost use Rattle.sdp_area.specs.Area.{size, span, originBytes, connectionBytes, keyBytes, mediaConnectionRow, bandwidthRow, timeRow, repeatRow, offsetRow, zoneRow, attributeRow, mediaRow, originAt, nameAt, connectionAt, keyAt, phonesAt, connectionsAt, bandwidthsAt, timesAt, repeatsAt, offsetsAt, zonesAt, attributesAt, mediasAt};
 ghost use Rattle.sdp_area.specs.Latest.{overLast, markLast};
 ghost use Rattle.sdp_area.specs.Maybe.{maybe, maybePorts};
+ghost use Rattle.sdp_area.specs.Which.{markText, overText, contactsAt};
 use sdp_cells::Pushed;
 use sdp_cells::get2;
 use sdp_cells::marked;
@@ -63,6 +64,19 @@ pub struct MaybeSpan {
 pub struct MaybePorts {
     pub there: bool,
     pub value: usize,
+}
+
+// The strings that stand behind a mark: the i line of the session, the u line, and the i line of the latest media.
+pub enum Text {
+    Description,
+    Uri,
+    Title,
+}
+
+// The tables whose rows are strings: e lines and p lines.
+pub enum Contact {
+    Email,
+    Phone,
 }
 
 // All of the area zero; what stands behind it stays.
@@ -137,24 +151,25 @@ fn ports_of(m: MaybePorts) -> usize
     if m.there { m.value } else { 0 }
 }
 
-// An e line.
-pub fn push_email(area: &mut [u8], x: Span) -> Pushed
-    requires { ⌜ size ≤ length (now area) ⌝ }
-    ensures { λ r. ⌜ r ≡ told (now (area .entry)) emailsAt 16 ⌝ }
-    ensures { λ r. ⌜ now (area .exit) ≡ grown (now (area .entry)) emailsAt 16 (span (x)) ⌝ }
+// Where the table of such lines begins.
+fn contacts_at(which: Contact) -> usize
+    ensures { λ r. ⌜ r ≡ contactsAt which ⌝ }
+    ensures { λ r. ⌜ r ≤ phonesAt ⌝ }
 {
-    let row = [x.at.0, x.len];
-    push_words(area, EMAILS, 16, &row)
+    match which {
+        Contact::Email => EMAILS,
+        Contact::Phone => PHONES,
+    }
 }
 
-// A p line.
-pub fn push_phone(area: &mut [u8], x: Span) -> Pushed
+// An e or a p line.
+pub fn push_contact(area: &mut [u8], which: Contact, x: Span) -> Pushed
     requires { ⌜ size ≤ length (now area) ⌝ }
-    ensures { λ r. ⌜ r ≡ told (now (area .entry)) phonesAt 16 ⌝ }
-    ensures { λ r. ⌜ now (area .exit) ≡ grown (now (area .entry)) phonesAt 16 (span (x)) ⌝ }
+    ensures { λ r. ⌜ r ≡ told (now (area .entry)) (contactsAt which) 16 ⌝ }
+    ensures { λ r. ⌜ now (area .exit) ≡ grown (now (area .entry)) (contactsAt which) 16 (span x) ⌝ }
 {
     let row = [x.at.0, x.len];
-    push_words(area, PHONES, 16, &row)
+    push_words(area, contacts_at(which), 16, &row)
 }
 
 // A c line of a media.
@@ -369,22 +384,17 @@ pub fn set_name(area: &mut [u8], x: Span)
     put_words(area, NAME, &row);
 }
 
-// The i line of the session.
-pub fn set_description(area: &mut [u8], x: Span)
+// A string behind its mark.
+pub fn set_text(area: &mut [u8], which: Text, x: Span)
     requires { ⌜ size ≤ length (now area) ⌝ }
-    ensures { λ _. ⌜ now (area .exit) ≡ over (now (area .entry)) descriptionAt (le 2 1 ++ span x) ⌝ }
+    ensures { λ _. ⌜ now (area .exit) ≡ overText which (now (area .entry)) (le 2 1 ++ span x) ⌝ }
 {
     let row = [1, x.at.0, x.len];
-    put_words(area, DESCRIPTION, &row);
-}
-
-// The u line.
-pub fn set_uri(area: &mut [u8], x: Span)
-    requires { ⌜ size ≤ length (now area) ⌝ }
-    ensures { λ _. ⌜ now (area .exit) ≡ over (now (area .entry)) uriAt (le 2 1 ++ span x) ⌝ }
-{
-    let row = [1, x.at.0, x.len];
-    put_words(area, URI, &row);
+    match which {
+        Text::Description => put_words(area, DESCRIPTION, &row),
+        Text::Uri => put_words(area, URI, &row),
+        Text::Title => put_last(area, 18, &row),
+    }
 }
 
 // The c line of the session.
@@ -420,15 +430,6 @@ pub fn set_key(area: &mut [u8], method: Span, key: MaybeSpan)
     put_words(area, KEY, &row);
 }
 
-// The i line of the latest media.
-pub fn set_media_title(area: &mut [u8], x: Span)
-    requires { ⌜ size ≤ length (now area) ⌝ }
-    ensures { λ _. ⌜ now (area .exit) ≡ overLast (now (area .entry)) 18 (le 2 1 ++ span x) ⌝ }
-{
-    let row = [1, x.at.0, x.len];
-    put_last(area, 18, &row);
-}
-
 // The k line of the latest media.
 pub fn set_media_key(area: &mut [u8], method: Span, key: MaybeSpan)
     requires { ⌜ size ≤ length (now area) ⌝ }
@@ -453,20 +454,16 @@ pub fn has_origin(area: &[u8]) -> bool
     marked(area, ORIGIN)
 }
 
-// Whether there was an i line of the session.
-pub fn has_description(area: &[u8]) -> bool
+// Whether there was such a line.
+pub fn has_text(area: &[u8], which: Text) -> bool
     requires { ⌜ size ≤ length (now area) ⌝ }
-    ensures { λ r. ⌜ r ≡ eqb (num 2 (now (area .entry)) descriptionAt) 1 ⌝ }
+    ensures { λ r. ⌜ r ≡ markText which (now (area .entry)) ⌝ }
 {
-    marked(area, DESCRIPTION)
-}
-
-// Whether there was a u line.
-pub fn has_uri(area: &[u8]) -> bool
-    requires { ⌜ size ≤ length (now area) ⌝ }
-    ensures { λ r. ⌜ r ≡ eqb (num 2 (now (area .entry)) uriAt) 1 ⌝ }
-{
-    marked(area, URI)
+    match which {
+        Text::Description => marked(area, DESCRIPTION),
+        Text::Uri => marked(area, URI),
+        Text::Title => marked_last(area, 18),
+    }
 }
 
 // Whether there was a c line of the session.
@@ -483,14 +480,6 @@ pub fn has_key(area: &[u8]) -> bool
     ensures { λ r. ⌜ r ≡ eqb (num 2 (now (area .entry)) keyAt) 1 ⌝ }
 {
     marked(area, KEY)
-}
-
-// Whether the latest media has a title.
-pub fn has_media_title(area: &[u8]) -> bool
-    requires { ⌜ size ≤ length (now area) ⌝ }
-    ensures { λ r. ⌜ r ≡ markLast (now (area .entry)) 18 ⌝ }
-{
-    marked_last(area, 18)
 }
 
 // Whether the latest media has a key.

@@ -14,7 +14,7 @@ use sdp_lines::LineNumber;
 use sdp_lines::Place;
 use sdp_step::Marks;
 use sdp_step::Taken;
-use sdp_step::take_line;
+use sdp_take::take_line;
 
 // What the first line that is not empty says.
 pub enum Opening {

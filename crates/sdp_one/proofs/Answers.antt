@@ -49,8 +49,7 @@ use Rattle.sdp_cells.proofs.put_words.Reads as sdpCellsPutWords
 use Rattle.sdp_cells.proofs.push_words.Reads as sdpCellsPushWords
 use Rattle.sdp_cells.proofs.marked.Reads as sdpCellsMarked
 use Rattle.sdp_area.proofs.clear.Reads as sdpAreaClear
-use Rattle.sdp_area.proofs.push_email.Reads as sdpAreaPushEmail
-use Rattle.sdp_area.proofs.push_phone.Reads as sdpAreaPushPhone
+use Rattle.sdp_area.proofs.push_contact.Reads as sdpAreaPushContact
 use Rattle.sdp_area.proofs.push_connection.Reads as sdpAreaPushConnection
 use Rattle.sdp_area.proofs.push_bandwidth.Reads as sdpAreaPushBandwidth
 use Rattle.sdp_area.proofs.push_time.Reads as sdpAreaPushTime
@@ -61,18 +60,14 @@ use Rattle.sdp_area.proofs.push_attribute.Reads as sdpAreaPushAttribute
 use Rattle.sdp_area.proofs.push_media.Reads as sdpAreaPushMedia
 use Rattle.sdp_area.proofs.set_origin.Reads as sdpAreaSetOrigin
 use Rattle.sdp_area.proofs.set_name.Reads as sdpAreaSetName
-use Rattle.sdp_area.proofs.set_description.Reads as sdpAreaSetDescription
-use Rattle.sdp_area.proofs.set_uri.Reads as sdpAreaSetUri
+use Rattle.sdp_area.proofs.set_text.Reads as sdpAreaSetText
 use Rattle.sdp_area.proofs.set_connection.Reads as sdpAreaSetConnection
 use Rattle.sdp_area.proofs.set_key.Reads as sdpAreaSetKey
-use Rattle.sdp_area.proofs.set_media_title.Reads as sdpAreaSetMediaTitle
 use Rattle.sdp_area.proofs.set_media_key.Reads as sdpAreaSetMediaKey
 use Rattle.sdp_area.proofs.has_origin.Reads as sdpAreaHasOrigin
-use Rattle.sdp_area.proofs.has_description.Reads as sdpAreaHasDescription
-use Rattle.sdp_area.proofs.has_uri.Reads as sdpAreaHasUri
+use Rattle.sdp_area.proofs.has_text.Reads as sdpAreaHasText
 use Rattle.sdp_area.proofs.has_connection.Reads as sdpAreaHasConnection
 use Rattle.sdp_area.proofs.has_key.Reads as sdpAreaHasKey
-use Rattle.sdp_area.proofs.has_media_title.Reads as sdpAreaHasMediaTitle
 use Rattle.sdp_area.proofs.has_media_key.Reads as sdpAreaHasMediaKey
 use Rattle.sdp_area.proofs.times.Reads as sdpAreaTimes
 use Rattle.sdp_area.proofs.repeats.Reads as sdpAreaRepeats
@@ -80,6 +75,8 @@ use Rattle.sdp_area.proofs.medias.Reads as sdpAreaMedias
 use Rattle.sdp_roles.proofs.role_at.Reads as sdpRolesRoleAt
 use Rattle.sdp_strings.proofs.span_of.Reads as sdpStringsSpanOf
 use Rattle.sdp_strings.proofs.maybe_of.Reads as sdpStringsMaybeOf
+use Rattle.sdp_step.proofs.refused.Reads as sdpStepRefused
+use Rattle.sdp_step.proofs.stored.Reads as sdpStepStored
 use Rattle.sdp_line.proofs.opening_line.Reads as sdpLineOpeningLine
 use Rattle.sdp_read.proofs.read.Reads as sdpReadRead
 use Rattle.sdp_put.proofs.put_byte.Reads as sdpPutPutByte
@@ -274,11 +271,8 @@ sdp-cells-marked κs a z z′ e e′ p q = same p q
 pub sdp-area-clear : OneState (λ κs e. now (e .0)) sdpAreaClear.Learnt
 sdp-area-clear κs a z z′ e e′ p q = (refl, same p q)
 
-pub sdp-area-push-email : OneState (λ κs e. now (e .0)) sdpAreaPushEmail.Learnt
-sdp-area-push-email κs a z z′ e e′ p q = (same (p .0) (q .0), same (p .1) (q .1))
-
-pub sdp-area-push-phone : OneState (λ κs e. now (e .0)) sdpAreaPushPhone.Learnt
-sdp-area-push-phone κs a z z′ e e′ p q = (same (p .0) (q .0), same (p .1) (q .1))
+pub sdp-area-push-contact : OneState (λ κs e. now (e .0)) sdpAreaPushContact.Learnt
+sdp-area-push-contact κs a z z′ e e′ p q = (same (p .0) (q .0), same (p .1) (q .1))
 
 pub sdp-area-push-connection : OneState (λ κs e. now (e .0)) sdpAreaPushConnection.Learnt
 sdp-area-push-connection κs a z z′ e e′ p q = (same (p .0) (q .0), same (p .1) (q .1))
@@ -310,11 +304,8 @@ sdp-area-set-origin κs a z z′ e e′ p q = (refl, same p q)
 pub sdp-area-set-name : OneState (λ κs e. now (e .0)) sdpAreaSetName.Learnt
 sdp-area-set-name κs a z z′ e e′ p q = (refl, same p q)
 
-pub sdp-area-set-description : OneState (λ κs e. now (e .0)) sdpAreaSetDescription.Learnt
-sdp-area-set-description κs a z z′ e e′ p q = (refl, same p q)
-
-pub sdp-area-set-uri : OneState (λ κs e. now (e .0)) sdpAreaSetUri.Learnt
-sdp-area-set-uri κs a z z′ e e′ p q = (refl, same p q)
+pub sdp-area-set-text : OneState (λ κs e. now (e .0)) sdpAreaSetText.Learnt
+sdp-area-set-text κs a z z′ e e′ p q = (refl, same p q)
 
 pub sdp-area-set-connection : OneState (λ κs e. now (e .0)) sdpAreaSetConnection.Learnt
 sdp-area-set-connection κs a z z′ e e′ p q = (refl, same p q)
@@ -322,29 +313,20 @@ sdp-area-set-connection κs a z z′ e e′ p q = (refl, same p q)
 pub sdp-area-set-key : OneState (λ κs e. now (e .0)) sdpAreaSetKey.Learnt
 sdp-area-set-key κs a z z′ e e′ p q = (refl, same p q)
 
-pub sdp-area-set-media-title : OneState (λ κs e. now (e .0)) sdpAreaSetMediaTitle.Learnt
-sdp-area-set-media-title κs a z z′ e e′ p q = (refl, same p q)
-
 pub sdp-area-set-media-key : OneState (λ κs e. now (e .0)) sdpAreaSetMediaKey.Learnt
 sdp-area-set-media-key κs a z z′ e e′ p q = (refl, same p q)
 
 pub sdp-area-has-origin : OneAnswer sdpAreaHasOrigin.Learnt
 sdp-area-has-origin κs a z z′ e e′ p q = same p q
 
-pub sdp-area-has-description : OneAnswer sdpAreaHasDescription.Learnt
-sdp-area-has-description κs a z z′ e e′ p q = same p q
-
-pub sdp-area-has-uri : OneAnswer sdpAreaHasUri.Learnt
-sdp-area-has-uri κs a z z′ e e′ p q = same p q
+pub sdp-area-has-text : OneAnswer sdpAreaHasText.Learnt
+sdp-area-has-text κs a z z′ e e′ p q = same p q
 
 pub sdp-area-has-connection : OneAnswer sdpAreaHasConnection.Learnt
 sdp-area-has-connection κs a z z′ e e′ p q = same p q
 
 pub sdp-area-has-key : OneAnswer sdpAreaHasKey.Learnt
 sdp-area-has-key κs a z z′ e e′ p q = same p q
-
-pub sdp-area-has-media-title : OneAnswer sdpAreaHasMediaTitle.Learnt
-sdp-area-has-media-title κs a z z′ e e′ p q = same p q
 
 pub sdp-area-has-media-key : OneAnswer sdpAreaHasMediaKey.Learnt
 sdp-area-has-media-key κs a z z′ e e′ p q = same p q
@@ -368,6 +350,13 @@ sdp-strings-span-of κs a z z′ e e′ p q = same p q
 
 pub sdp-strings-maybe-of : OneAnswer sdpStringsMaybeOf.Learnt
 sdp-strings-maybe-of κs a z z′ e e′ p q = same p q
+
+-- ---- sdp_step
+pub sdp-step-refused : OneAnswer sdpStepRefused.Learnt
+sdp-step-refused κs a z z′ e e′ p q = same p q
+
+pub sdp-step-stored : OneAnswer sdpStepStored.Learnt
+sdp-step-stored κs a z z′ e e′ p q = same p q
 
 -- ---- sdp_line
 pub sdp-line-opening-line : OneAnswer sdpLineOpeningLine.Learnt

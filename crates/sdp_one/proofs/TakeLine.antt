@@ -1,4 +1,4 @@
--- The exception of docs/ONE-ANSWER.md: where the area holds a session, `take_line` and `take` have one answer too. Assumes nothing.
+-- The exceptions of docs/ONE-ANSWER.md that take a line: where the area holds a session, each has one answer too. Assumes nothing.
 use mathlib.Core.Path.{_≡_, ap}
 use mathlib.Core.List.{List}
 use Prim.Native.Nat.{ℕ}
@@ -7,11 +7,19 @@ use denote.Ref.{now}
 use Rattle.sdp_lines.specs.declared.Span.{Span}
 use Rattle.sdp_area.specs.Area.{size}
 use Rattle.sdp_strings.specs.Strings.{spanAt}
-use Rattle.sdp_step.specs.Step.{Reading, Stepped, goes, stops, step}
-use Rattle.sdp_step.specs.Hold.{Holds, Handled}
+use Rattle.sdp_roles.specs.declared.Role.the-variants as role
+use Rattle.sdp_step.specs.Step.{Reading, Stepped, goes, stops, stepRole, step}
+use Rattle.sdp_step.specs.Hold.{Holds, Handled, Takes}
+use Rattle.sdp_step.specs.declared.Marks.{Marks}
 use Rattle.sdp_step.specs.declared.Taken.{Taken}
 use Rattle.sdp_step.specs.declared.Taken.the-variants.{Kept, Refused}
-use Rattle.sdp_step.proofs.take_line.Reads as takeLine
+use Rattle.sdp_take_once.specs.Onces.{onceRole}
+use Rattle.sdp_take_row.specs.Rows.{rowRole}
+use Rattle.sdp_take_once.proofs.take_once.Reads as takeOnce
+use Rattle.sdp_take_row.proofs.take_row.Reads as takeRow
+use Rattle.sdp_take_list.proofs.take_repeat.Reads as takeRepeat
+use Rattle.sdp_take_list.proofs.take_zone.Reads as takeZone
+use Rattle.sdp_take.proofs.take_line.Reads as takeLine
 use Rattle.sdp_line.proofs.take.Reads as lineTake
 use Rattle.sdp_one.specs.One.{OneWhere}
 use Rattle.sdp_one.proofs.OneLaws.{same}
@@ -29,12 +37,38 @@ handled-once (stops n f) (Kept m) r′ a a′ t h k = absurd h
 handled-once (stops n f) (Refused i g) (Kept m) a a′ t h k = absurd k
 handled-once (stops n f) (Refused i g) (Refused j g′) a a′ t h k = (cc, same (h .2) (k .2))
 
-pub sdp-step-take-line : (ρ : Reading Span) (t : List ℕ) → OneWhere (λ κs a. Holds ρ (a .1 .1 .0) (now (a .0)) t) (λ κs r e. seen r (now (e .0))) takeLine.Learnt
-sdp-step-take-line ρ t κs a r r′ e e′ h p q =
-    let v = now (a .1 .1 .1 .1 .0) in
-    handled-once (step (spanAt (a .1 .0 .0) v) ρ v (a .1 .1 .1 .0)) r r′ (now (e .0)) (now (e′ .0)) t (p ρ t h) (q ρ t h)
+module _ (ρ : Reading Span) (t : List ℕ) where
+  -- what takes a line by any step f
+  taken-once : (f : Reading Span → Stepped Span) {m : Marks} {a : List ℕ} (r r′ : Taken) (z z′ : List ℕ) → Holds ρ m a t
+      → Takes f m r a z → Takes f m r′ a z′ → (r ≡ r′) × (seen r z ≡ seen r′ z′)
+  taken-once f r r′ z z′ h p q = handled-once (f ρ) r r′ z z′ t (p ρ t h) (q ρ t h)
 
-pub sdp-line-take : (ρ : Reading Span) (t : List ℕ) → OneWhere (λ κs a. Holds ρ (a .1 .1 .0) (now (a .0)) t) (λ κs r e. seen r (now (e .0))) lineTake.Learnt
-sdp-line-take ρ t κs a r r′ e e′ h p q =
-    let v = now (a .1 .1 .1 .1 .1 .0) in
-    handled-once (step (spanAt (a .1 .0 .0) v) ρ v (a .1 .1 .1 .1 .0)) r r′ (now (e .0)) (now (e′ .0)) t (p ρ t h) (q ρ t h)
+  pub sdp-take-once-take-once : OneWhere (λ κs a. Holds ρ (a .1 .1 .1 .0) (now (a .0)) t) (λ κs r e. seen r (now (e .0))) takeOnce.Learnt
+  sdp-take-once-take-once κs a r r′ e e′ =
+      let v = now (a .1 .0) in
+      taken-once (λ ρ. stepRole (spanAt (a .1 .1 .0) v) ρ v (onceRole (a .1 .1 .1 .1 .0))) r r′ (now (e .0)) (now (e′ .0))
+
+  pub sdp-take-row-take-row : OneWhere (λ κs a. Holds ρ (a .1 .1 .1 .0) (now (a .0)) t) (λ κs r e. seen r (now (e .0))) takeRow.Learnt
+  sdp-take-row-take-row κs a r r′ e e′ =
+      let v = now (a .1 .0) in
+      taken-once (λ ρ. stepRole (spanAt (a .1 .1 .0) v) ρ v (rowRole (a .1 .1 .1 .1 .0))) r r′ (now (e .0)) (now (e′ .0))
+
+  pub sdp-take-list-take-repeat : OneWhere (λ κs a. Holds ρ (a .1 .1 .1 .0) (now (a .0)) t) (λ κs r e. seen r (now (e .0))) takeRepeat.Learnt
+  sdp-take-list-take-repeat κs a r r′ e e′ =
+      let v = now (a .1 .0) in
+      taken-once (λ ρ. stepRole (spanAt (a .1 .1 .0) v) ρ v role.Repeat) r r′ (now (e .0)) (now (e′ .0))
+
+  pub sdp-take-list-take-zone : OneWhere (λ κs a. Holds ρ (a .1 .1 .1 .0) (now (a .0)) t) (λ κs r e. seen r (now (e .0))) takeZone.Learnt
+  sdp-take-list-take-zone κs a r r′ e e′ =
+      let v = now (a .1 .0) in
+      taken-once (λ ρ. stepRole (spanAt (a .1 .1 .0) v) ρ v role.Zone) r r′ (now (e .0)) (now (e′ .0))
+
+  pub sdp-take-take-line : OneWhere (λ κs a. Holds ρ (a .1 .1 .0) (now (a .0)) t) (λ κs r e. seen r (now (e .0))) takeLine.Learnt
+  sdp-take-take-line κs a r r′ e e′ =
+      let v = now (a .1 .1 .1 .1 .0) in
+      taken-once (λ ρ. step (spanAt (a .1 .0 .0) v) ρ v (a .1 .1 .1 .0)) r r′ (now (e .0)) (now (e′ .0))
+
+  pub sdp-line-take : OneWhere (λ κs a. Holds ρ (a .1 .1 .0) (now (a .0)) t) (λ κs r e. seen r (now (e .0))) lineTake.Learnt
+  sdp-line-take κs a r r′ e e′ =
+      let v = now (a .1 .1 .1 .1 .1 .0) in
+      taken-once (λ ρ. step (spanAt (a .1 .0 .0) v) ρ v (a .1 .1 .1 .1 .0)) r r′ (now (e .0)) (now (e′ .0))

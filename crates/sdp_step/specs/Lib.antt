@@ -1,3 +1,2 @@
 pub mod Step
 pub mod Hold
-pub mod Repeats

@@ -58,10 +58,10 @@ use Rattle.sdp_step.proofs.Taken as R
 use Rattle.sdp_step.proofs.Taken.Laws as R′
 use Rattle.sdp_cutter.proofs.Line as T
 use Rattle.sdp_cutter.proofs.Line.Laws as T′
-use Rattle.sdp_step.proofs.take_line as callee
-use Rattle.sdp_step.proofs.take_line.Symbol as callee-def
-use Rattle.sdp_step.proofs.take_line.Symbol.{name as #take-line}
-use Rattle.sdp_step.proofs.take_line.Met as callee-thm
+use Rattle.sdp_take.proofs.take_line as callee
+use Rattle.sdp_take.proofs.take_line.Symbol as callee-def
+use Rattle.sdp_take.proofs.take_line.Symbol.{name as #take-line}
+use Rattle.sdp_take.proofs.take_line.Met as callee-thm
 use Rattle.sdp_line.proofs.take_of.Key.{name as #take-of}
 use Rattle.sdp_line.proofs.take_of as self
 use Rattle.sdp_line.proofs.take_of.Statement as stated
@@ -196,4 +196,4 @@ take-of-spec 𝓤 H 𝓜 𝓖 𝓡 =
     entered 𝓤 H (tripleOf 𝓤 H (𝓖 .A) self.signature (self.spec 𝓤 H (𝓖 .A) (𝓜 .mem) (𝓡 .run)))
     (tables 𝓤 H 𝓜 𝓡 code.env .C) (tables 𝓤 H 𝓜 𝓡 code.env .Λ) #take-of code.function (code.unfolded 𝓤 H 𝓜 𝓡)
     (take-of-meets 𝓤 H (𝓖 .A) (givenOf 𝓤 H 𝓜 𝓖) (𝓜 .mem) (𝓡 .run) (tablesOf 𝓤 H 𝓜 (tables 𝓤 H 𝓜 𝓡 code.env))
-    (cited 𝓤 H (TakeLine 𝓤 H (𝓖 .A) (𝓜 .mem) (𝓡 .run)) 𝓜 𝓡 code.env #take-line callee-def.routine code.calls-sdp-step·take-line (callee-thm.met 𝓤 H 𝓜 𝓖 𝓡)))
+    (cited 𝓤 H (TakeLine 𝓤 H (𝓖 .A) (𝓜 .mem) (𝓡 .run)) 𝓜 𝓡 code.env #take-line callee-def.routine code.calls-sdp-take·take-line (callee-thm.met 𝓤 H 𝓜 𝓖 𝓡)))

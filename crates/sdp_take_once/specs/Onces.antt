@@ -1,0 +1,34 @@
+-- The lines that a session or a media has at most once.
+use Prim.Native.Nat.{ℕ}
+use Rattle.sdp_area.specs.declared.Text.{Text}
+use Rattle.sdp_area.specs.declared.Text.the-variants.{Description, Uri, Title}
+use Rattle.sdp_roles.specs.declared.Role.{Role}
+use Rattle.sdp_roles.specs.declared.Role.the-variants as role
+use Rattle.sdp_take_once.specs.declared.Once.{Once}
+use Rattle.sdp_take_once.specs.declared.Once.the-variants as once
+
+-- a line whose value is one string
+abbrev pub textRole : Text → Role
+textRole Description = role.Description
+textRole Uri = role.Uri
+textRole Title = role.MediaTitle
+
+-- the refusal of a second
+abbrev pub textNumber : Text → ℕ
+textNumber Description = 14
+textNumber Uri = 15
+textNumber Title = 18
+
+-- its field
+abbrev pub textField : Text → ℕ
+textField Description = 35
+textField Uri = 36
+textField Title = 33
+
+abbrev pub onceRole : Once → Role
+onceRole once.Origin = role.Origin
+onceRole once.Name = role.Name
+onceRole (once.Text x) = textRole x
+onceRole once.Connection = role.Connection
+onceRole once.Key = role.Key
+onceRole once.MediaKey = role.MediaKey
