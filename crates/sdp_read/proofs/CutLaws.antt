@@ -21,7 +21,6 @@ use Rattle.sdp_lines.specs.declared.Form.the-variants.{Blank, Good, Bad}
 use Rattle.sdp_lines.specs.declared.Cut.{Cut}
 use Rattle.sdp_lines.specs.declared.Cut.the-variants.{Line, Empty, Refused, End}
 use Rattle.sdp_lines.proofs.LineLaws.{split-at-place, content-front, content-le, width-le, width-pos, good-form}
-use Rattle.sdp_read.specs.From.{Reached}
 use Rattle.sdp_line.specs.Version.{openingOf}
 use Rattle.sdp_line.specs.declared.Opening.{Opening}
 use Rattle.sdp_line.specs.declared.Opening.the-variants as opening

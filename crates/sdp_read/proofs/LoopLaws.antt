@@ -2,18 +2,17 @@
 -- Assumes nothing.
 use Prim.Native.Nat.{ℕ, _≤_}
 use native.Mathlib.Omega.{arith}
-use mathlib.Core.Path.{_≡_, refl, sym, ap, _∙_, subst}
+use mathlib.Core.Path.{_≡_, refl, sym, ap, _∙_}
 use mathlib.Core.Bool.{false}
 use mathlib.Core.List.{List, _++_}
 use lib.ListN.{length}
-use Rattle.sdp_lines.specs.Lines.{start, cutAt}
+use Rattle.sdp_lines.specs.Lines.{start}
 use Rattle.sdp_lines.specs.declared.Span.{Span}
 use Rattle.sdp_lines.specs.declared.Cursor.{Cursor}
 use Rattle.sdp_area.specs.Session.{Within, empty}
 use Rattle.sdp_area.specs.Area.{encode}
 use Rattle.sdp_step.specs.Step.{Reading, fresh}
 use Rattle.sdp_step.specs.Hold.{Holds}
-use Rattle.sdp_read.specs.Run.{Verdict}
 use Rattle.sdp_read.specs.From.{Reached, runAt, beginAt, Begun, Left}
 use Rattle.sdp_read.specs.OneLine.{Lined, on, over, lineAt, Turned, Further, versionAt}
 use Rattle.sdp_read.specs.declared.Stand.{Stand}

@@ -17,7 +17,7 @@ use Rattle.sdp_cutter.specs.declared.Moved.{Moved}
 use Rattle.sdp_cutter.specs.declared.Next.the-variants.{Found, Empty, Refused, End}
 use Rattle.sdp_cutter.proofs.MoveLaws.{moved-told}
 use Rattle.sdp_step.specs.Step.{Reading, Stepped, goes, stops}
-use Rattle.sdp_step.specs.Hold.{Holds, Handled, Takes}
+use Rattle.sdp_step.specs.Hold.{Handled, Takes}
 use Rattle.sdp_step.specs.declared.Marks.{Marks}
 use Rattle.sdp_step.specs.declared.Taken.the-variants as taken
 use Rattle.sdp_step.proofs.TailLaws.{tail-of}

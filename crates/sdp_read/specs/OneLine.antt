@@ -1,4 +1,4 @@
--- What one line does to a run, at a cursor: what the bodies of the loops promise. The loops over them have what From.antt says.
+-- What one line does to a run, at a cursor: what the bodies of the loops promise.
 use Prim.Native.Nat.{ℕ, _<_}
 use mathlib.Core.Path.{_≡_}
 use mathlib.Core.List.{List}
@@ -67,10 +67,12 @@ pub record Further (s : List ℕ) (c d : Cursor) : Type 0 where
   pub forward : c .at .0 < d .at .0
   pub reached : Reached s c → Reached s d
 
+-- a turn that goes on stands at d
 abbrev pub Due : Cursor → Turn → Type 0
 Due d (Goes n) = n .due ≡ d
 Due d (Over e) = Unit {0}
 
+-- a turn that goes on stands further on than c
 abbrev pub Onward : List ℕ → Cursor → Turn → Type 0
 Onward s c (Goes n) = Further s c (n .due)
 Onward s c (Over e) = Unit {0}
