@@ -1,5 +1,5 @@
-//! Links the archive libsdp.a: for x86-64 Linux target/staticlib (`./archive`, or `rt staticlib sdp`), for Arm Linux target/arm
-//! (`./archive --arm`), or the folder that RATTLE_STATICLIB names.
+//! Links the archive libsdp.a: for x86-64 Linux that of target/staticlib (`./archive`), for Arm Linux that of target/arm
+//! (`./archive --arm`), or that of the folder that RATTLE_STATICLIB names.
 fn main() {
     let here = std::env::var("CARGO_MANIFEST_DIR").unwrap();
     let target = std::env::var("TARGET").unwrap();
