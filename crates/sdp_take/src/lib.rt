@@ -1,10 +1,12 @@
 // Document 01, module 4: what one line does to the session in the area.
+ghost use mathlib.Core.Path.{_≡_};
 ghost use Prim.Native.Nat.{_+_, _≤_};
 ghost use lib.ListN.{length};
 ghost use Rattle.sdp_area.specs.Area.{size};
 ghost use Rattle.sdp_step.specs.Step.{step};
 ghost use Rattle.sdp_strings.specs.Strings.{spanAt};
 ghost use Rattle.sdp_step.specs.Hold.{Takes, Reads};
+ghost use Rattle.sdp_take.specs.Shapes.{shapeRole};
 use sdp_area::Contact;
 use sdp_area::Text;
 use sdp_area::medias;
@@ -20,30 +22,52 @@ use sdp_take_once::take_once;
 use sdp_take_row::Row;
 use sdp_take_row::take_row;
 
+// How a line is taken.
+enum Shape {
+    Once(Once),
+    Row(Row),
+    Repeat,
+    Zone,
+    Nothing,
+}
+
+// How a line of a role is taken.
+fn shape_of(role: Role) -> Shape
+    ensures { λ r. ⌜ role ≡ shapeRole r ⌝ }
+{
+    match role {
+        Role::Origin => Shape::Once(Once::Origin),
+        Role::Name => Shape::Once(Once::Name),
+        Role::Description => Shape::Once(Once::Text(Text::Description)),
+        Role::Uri => Shape::Once(Once::Text(Text::Uri)),
+        Role::Email => Shape::Row(Row::Contact(Contact::Email)),
+        Role::Phone => Shape::Row(Row::Contact(Contact::Phone)),
+        Role::Connection => Shape::Once(Once::Connection),
+        Role::Bandwidth => Shape::Row(Row::Bandwidth),
+        Role::Time => Shape::Row(Row::Time),
+        Role::Repeat => Shape::Repeat,
+        Role::Zone => Shape::Zone,
+        Role::Key => Shape::Once(Once::Key),
+        Role::Attribute => Shape::Row(Row::Attribute),
+        Role::Media => Shape::Row(Row::Media),
+        Role::MediaTitle => Shape::Once(Once::Text(Text::Title)),
+        Role::MediaConnection => Shape::Row(Row::MediaConnection),
+        Role::MediaKey => Shape::Once(Once::MediaKey),
+        Role::Nothing => Shape::Nothing,
+    }
+}
+
 // A line by its role.
 fn take_role(area: &mut [u8], v: &[u8], at: usize, marks: Marks, role: Role) -> Taken
     requires { ⌜ (size ≤ length (now area)) × (at + length (now v) ≤ 32768) ⌝ }
     ensures { λ r. ⌜ Reads role at (now (v .entry)) marks r (now (area .entry)) (now (area .exit)) ⌝ }
 {
-    match role {
-        Role::Origin => take_once(area, v, at, marks, Once::Origin),
-        Role::Name => take_once(area, v, at, marks, Once::Name),
-        Role::Description => take_once(area, v, at, marks, Once::Text(Text::Description)),
-        Role::Uri => take_once(area, v, at, marks, Once::Text(Text::Uri)),
-        Role::Email => take_row(area, v, at, marks, Row::Contact(Contact::Email)),
-        Role::Phone => take_row(area, v, at, marks, Row::Contact(Contact::Phone)),
-        Role::Connection => take_once(area, v, at, marks, Once::Connection),
-        Role::Bandwidth => take_row(area, v, at, marks, Row::Bandwidth),
-        Role::Time => take_row(area, v, at, marks, Row::Time),
-        Role::Repeat => take_repeat(area, v, at, marks),
-        Role::Zone => take_zone(area, v, at, marks),
-        Role::Key => take_once(area, v, at, marks, Once::Key),
-        Role::Attribute => take_row(area, v, at, marks, Row::Attribute),
-        Role::Media => take_row(area, v, at, marks, Row::Media),
-        Role::MediaTitle => take_once(area, v, at, marks, Once::Text(Text::Title)),
-        Role::MediaConnection => take_row(area, v, at, marks, Row::MediaConnection),
-        Role::MediaKey => take_once(area, v, at, marks, Once::MediaKey),
-        Role::Nothing => Taken::Kept(marks),
+    match shape_of(role) {
+        Shape::Once(what) => take_once(area, v, at, marks, what),
+        Shape::Row(what) => take_row(area, v, at, marks, what),
+        Shape::Repeat => take_repeat(area, v, at, marks),
+        Shape::Zone => take_zone(area, v, at, marks),
+        Shape::Nothing => Taken::Kept(marks),
     }
 }
 

@@ -1,4 +1,4 @@
--- The lines that a session or a media has at most once.
+-- Document 01, "Lines": the lines that a session or a media has at most once, as the code names them.
 use Prim.Native.Nat.{ℕ}
 use Rattle.sdp_area.specs.declared.Text.{Text}
 use Rattle.sdp_area.specs.declared.Text.the-variants.{Description, Uri, Title}
@@ -7,24 +7,25 @@ use Rattle.sdp_roles.specs.declared.Role.the-variants as role
 use Rattle.sdp_take_once.specs.declared.Once.{Once}
 use Rattle.sdp_take_once.specs.declared.Once.the-variants as once
 
--- a line whose value is one string
+-- an i line, a u line, and an i line of a media
 abbrev pub textRole : Text → Role
 textRole Description = role.Description
 textRole Uri = role.Uri
 textRole Title = role.MediaTitle
 
--- the refusal of a second
+-- the refusal number of a second
 abbrev pub textNumber : Text → ℕ
 textNumber Description = 14
 textNumber Uri = 15
 textNumber Title = 18
 
--- its field
+-- the field that a wrong value is refused at
 abbrev pub textField : Text → ℕ
 textField Description = 35
 textField Uri = 36
 textField Title = 33
 
+-- any of them
 abbrev pub onceRole : Once → Role
 onceRole once.Origin = role.Origin
 onceRole once.Name = role.Name

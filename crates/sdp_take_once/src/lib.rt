@@ -94,7 +94,7 @@ fn take_name(area: &mut [u8], v: &[u8], at: usize, marks: Marks) -> Taken
     }
 }
 
-// The refusal of a second such line.
+// The refusal number of a second text.
 fn text_number(which: Text) -> u64
     ensures { λ r. ⌜ r ≡ textNumber which ⌝ }
 {
@@ -105,7 +105,7 @@ fn text_number(which: Text) -> u64
     }
 }
 
-// The field that its value is.
+// The field that a text is refused at.
 fn text_field(which: Text) -> u64
     ensures { λ r. ⌜ r ≡ textField which ⌝ }
 {
@@ -221,7 +221,7 @@ pub enum Once {
     MediaKey,
 }
 
-// Such a line.
+// Its line.
 pub fn take_once(area: &mut [u8], v: &[u8], at: usize, marks: Marks, what: Once) -> Taken
     requires { ⌜ (size ≤ length (now area)) × (at + length (now v) ≤ 32768) ⌝ }
     ensures { λ r. ⌜ Reads (onceRole what) at (now (v .entry)) marks r (now (area .entry)) (now (area .exit)) ⌝ }

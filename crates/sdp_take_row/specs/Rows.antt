@@ -1,4 +1,4 @@
--- The lines that are a row of a table.
+-- Document 01, "Tables": the lines that are each one row of a table, as the code names them.
 use Prim.Native.Nat.{ℕ}
 use Rattle.sdp_area.specs.declared.Contact.{Contact}
 use Rattle.sdp_area.specs.declared.Contact.the-variants.{Email, Phone}
@@ -7,21 +7,22 @@ use Rattle.sdp_roles.specs.declared.Role.the-variants as role
 use Rattle.sdp_take_row.specs.declared.Row.{Row}
 use Rattle.sdp_take_row.specs.declared.Row.the-variants as row
 
--- a line whose value is one string
+-- an e line and a p line
 abbrev pub contactRole : Contact → Role
 contactRole Email = role.Email
 contactRole Phone = role.Phone
 
--- its field
+-- the field that a wrong value is refused at
 abbrev pub contactField : Contact → ℕ
 contactField Email = 37
 contactField Phone = 38
 
--- its table
+-- the number of the table
 abbrev pub contactTable : Contact → ℕ
 contactTable Email = 1
 contactTable Phone = 2
 
+-- any of them
 abbrev pub rowRole : Row → Role
 rowRole (row.Contact x) = contactRole x
 rowRole row.MediaConnection = role.MediaConnection

@@ -35,7 +35,7 @@ use sdp_step::stored;
 use sdp_strings::maybe_of;
 use sdp_strings::span_of;
 
-// The field that its value is.
+// The field that an e or a p line is refused at.
 fn contact_field(which: Contact) -> u64
     ensures { λ r. ⌜ r ≡ contactField which ⌝ }
 {
@@ -45,7 +45,7 @@ fn contact_field(which: Contact) -> u64
     }
 }
 
-// The number of its table.
+// The number of the table of such lines.
 fn contact_table(which: Contact) -> u64
     ensures { λ r. ⌜ r ≡ contactTable which ⌝ }
 {
@@ -173,7 +173,7 @@ fn ports_of(n: MaybeNumber) -> MaybePorts
     }
 }
 
-// What is a row of a table.
+// What is one row of a table.
 pub enum Row {
     Contact(Contact),
     MediaConnection,
@@ -183,7 +183,7 @@ pub enum Row {
     Media,
 }
 
-// Such a line.
+// Its line.
 pub fn take_row(area: &mut [u8], v: &[u8], at: usize, marks: Marks, what: Row) -> Taken
     requires { ⌜ (size ≤ length (now area)) × (at + length (now v) ≤ 32768) ⌝ }
     ensures { λ r. ⌜ Reads (rowRole what) at (now (v .entry)) marks r (now (area .entry)) (now (area .exit)) ⌝ }
