@@ -35,10 +35,10 @@ pub enum Found {
     Not,
 }
 
-// So often times and repeats hand over before they stop: the calls inside each other are few, whatever the text.
+// `times` hands over to `repeats` this often, and then stops: so the calls are never deep, whatever the text.
 const HAND_OVERS: u8 = 16;
 
-// Where times and repeats stopped: after the last of them; or behind a time's line, where its repeats are due.
+// Where `times` or `repeats` stopped: behind the last of them all; or behind a time's line, where its repeats are due.
 pub enum Stop {
     Through(Cursor),
     AtRepeats(Cursor),
@@ -150,7 +150,7 @@ fn session_lines(text: &[u8], from: Cursor) -> Cursor
     many(text, b, b'b')
 }
 
-// Any number of (t r*): a time's line hands over to its repeats, as often as is left.
+// Any number of (t r*): a time's line hands over to its repeats, as long as some hand-overs are left.
 fn times(text: &[u8], c: Cursor, left: u8) -> Stop
     ensures { λ r. ⌜ Halts (now (text .entry)) (timeRun * · fromZone) fromRepeats fromZone c r ⌝ }
 {

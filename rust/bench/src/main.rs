@@ -3,7 +3,10 @@ use bench::cases::{self, Case};
 use bench::cost::{self, Cost};
 use bench::marks::{known, marked};
 use bench::sides::{Ours, Side, Theirs, Work};
-use bench::{stack, table};
+use bench::stack::{self, Lent};
+use bench::table;
+use generate::hostile;
+use std::collections::BTreeMap;
 use std::hint::black_box;
 use std::path::Path;
 use std::process::ExitCode;
@@ -73,21 +76,34 @@ fn times(cases: &[Case]) {
     }
 }
 
-/// The most stack that a call took on any text.
+/// The most stack that a call took on any text: each function of the archive, and beside reading and writing the
+/// crate's. The crate is not given the hostile texts.
 fn stacks(cases: &[Case]) {
-    for mut side in sides() {
-        for work in [Work::Read, Work::Write] {
-            let mut most = (0, "");
-            for case in cases.iter().filter(|case| works(case).contains(&work)) {
-                side.keep(&case.text);
-                side.call(work, &case.text);
-                let used = stack::used(|| {
-                    black_box(side.call(work, &case.text));
-                });
-                most = most.max((used, &case.name));
-            }
-            println!("{:<8} {:<6} {:>6} bytes of stack at most ({})", work.title(), side.name(), most.0, most.1);
+    let hostile = hostile::texts();
+    let own = cases.iter().map(|case| (&case.name, &case.text));
+    let texts: Vec<_> = own.chain(hostile.iter().map(|hostile| (&hostile.name, &hostile.text))).collect();
+    let mut most: BTreeMap<&str, (usize, &str)> = BTreeMap::new();
+    for (name, text) in texts {
+        let mut lent = Lent::new(text);
+        for (function, call) in stack::CALLS {
+            let used = stack::used(|| call(black_box(text), &mut lent));
+            let most = most.entry(function).or_default();
+            *most = (*most).max((used, name));
         }
+    }
+    let mut theirs = Theirs::default();
+    for (title, work) in [("Session::parse", Work::Read), ("Session::write", Work::Write)] {
+        for case in cases.iter().filter(|case| works(case).contains(&work)) {
+            theirs.keep(&case.text);
+            let used = stack::used(|| {
+                black_box(theirs.call(work, &case.text));
+            });
+            let most = most.entry(title).or_default();
+            *most = (*most).max((used, &case.name));
+        }
+    }
+    for (function, (used, text)) in most {
+        println!("{function:<16} {used:>6} bytes of stack at most ({text})");
     }
 }
 

@@ -4,7 +4,7 @@ use sdp_types::Session;
 use std::hint::black_box;
 
 /// Room for the written form of any text that was read (docs/FFI.md).
-const ROOM: usize = 43_727;
+pub const ROOM: usize = 43_727;
 
 #[derive(Clone, Copy, PartialEq, Eq, Debug)]
 pub enum Work {

@@ -1,5 +1,7 @@
 //! How much stack a call takes: the stack below it is painted before, and looked at afterwards.
+use crate::sides::ROOM as OUT;
 use std::arch::asm;
+use std::hint::black_box;
 
 /// So much is painted. What takes more is not seen whole, and an end that was reached is an error.
 const ROOM: usize = 256 * 1024;
@@ -32,3 +34,34 @@ pub fn used(call: impl FnOnce()) -> usize {
     assert!(used < ROOM, "the call takes more stack than is looked at");
     used
 }
+
+/// What a function is lent beside the text. The area holds what was read of it.
+pub struct Lent {
+    area: Vec<u8>,
+    out: Vec<u8>,
+}
+
+impl Lent {
+    pub fn new(text: &[u8]) -> Lent {
+        let mut area = vec![0; compare::area_size()];
+        compare::read(text, &mut area);
+        Lent { area, out: vec![0; OUT] }
+    }
+}
+
+type Call = fn(&[u8], &mut Lent);
+
+/// Every function of the archive. Writing is called twice: with room for all, and with none, where it only counts.
+pub const CALLS: [(&str, Call); 11] = [
+    ("sdp_area_size", |_, _| drop(black_box(compare::area_size()))),
+    ("sdp_cut", |text, _| drop(black_box(compare::cut(text, 0, 1)))),
+    ("sdp_is_token", |text, _| drop(black_box(compare::is_token(text)))),
+    ("sdp_letter_order", |text, _| drop(black_box(compare::letter_order(text)))),
+    ("sdp_number16", |text, _| drop(black_box(compare::number16(text)))),
+    ("sdp_number64", |text, _| drop(black_box(compare::number64(text)))),
+    ("sdp_read", |text, lent| drop(black_box(compare::read(text, &mut lent.area)))),
+    ("sdp_typed_time", |text, _| drop(black_box(compare::typed_time(text)))),
+    ("sdp_utf8_end", |text, _| drop(black_box(compare::utf8_end(text)))),
+    ("sdp_write", |text, lent| drop(black_box(compare::write(text, &lent.area, &mut lent.out)))),
+    ("sdp_write", |text, lent| drop(black_box(compare::write(text, &lent.area, &mut [])))),
+];

@@ -1,5 +1,6 @@
 //! What docs/SPEED.md says of the archive. It uses no heap: it calls nothing of the C library but what sets or copies
 //! memory.
+use bench::stack::CALLS;
 use std::collections::BTreeSet;
 
 /// What a compiler may call by itself. None of these allocates.
@@ -65,9 +66,8 @@ fn no_heap() {
         defined.extend(ours);
         wanted.extend(theirs);
     }
-    for name in ["sdp_read", "sdp_write", "sdp_area_size"] {
-        assert!(defined.contains(name), "the archive doesn't define {name}: {defined:?}");
-    }
+    let measured: BTreeSet<String> = CALLS.iter().map(|(name, _)| name.to_string()).collect();
+    assert_eq!(measured, defined, "the functions whose stack is measured are those of the archive");
     let outside: Vec<&String> = wanted.difference(&defined).collect();
     println!("the archive wants from outside: {outside:?}");
     for name in outside {
