@@ -101,7 +101,6 @@ use Rattle.sdp_row.proofs.put_session_connection.Reads as sdpRowPutSessionConne
 use Rattle.sdp_row.proofs.put_time_line.Reads as sdpRowPutTimeLine
 use Rattle.sdp_row.proofs.put_media_line.Reads as sdpRowPutMediaLine
 use Rattle.sdp_table_row.proofs.put_key.Reads as sdpTableRowPutKey
-use Rattle.sdp_table_row.proofs.put_owned.Reads as sdpTableRowPutOwned
 use Rattle.sdp_table_row.proofs.put_row.Reads as sdpTableRowPutRow
 use Rattle.sdp_tables.proofs.put_contact.Reads as sdpTablesPutContact
 use Rattle.sdp_tables.proofs.put_closing.Reads as sdpTablesPutClosing
@@ -437,9 +436,6 @@ sdp-row-put-media-line κs a z z′ e e′ l k p q = same-put l k p q
 -- ---- sdp_table_row
 pub sdp-table-row-put-key : OnePut (λ κs a. now (a .0)) (λ κs a. a .1 .0) (λ κs e. now (e .0)) sdpTableRowPutKey.Learnt
 sdp-table-row-put-key κs a z z′ e e′ l k p q = same-put l k p q
-
-pub sdp-table-row-put-owned : OnePut (λ κs a. now (a .0)) (λ κs a. a .1 .0) (λ κs e. now (e .0)) sdpTableRowPutOwned.Learnt
-sdp-table-row-put-owned κs a z z′ e e′ l k p q = same-put l k p q
 
 pub sdp-table-row-put-row : OnePut (λ κs a. now (a .0)) (λ κs a. a .1 .0) (λ κs e. now (e .0)) sdpTableRowPutRow.Learnt
 sdp-table-row-put-row κs a z z′ e e′ l k p q = same-put l k p q

@@ -6,19 +6,14 @@ use Rattle.sdp_put.specs.Digits.{timeText}
 use Rattle.sdp_decode.specs.Decode.{spanOf, connectionOf, bandwidthOf, offsetOf, zoneOf, attributeOf}
 use Rattle.sdp_row.specs.Written.{spaced, stringLine, connectionLine, bandwidthLine, pairLine, zoneText}
 use Rattle.sdp_table_row.specs.declared.Table.{Table}
-use Rattle.sdp_table_row.specs.declared.Table.the-variants.{Emails, Phones, Zones}
-use Rattle.sdp_table_row.specs.declared.Owned.{Owned}
-use Rattle.sdp_table_row.specs.declared.Owned.the-variants.{Connections, Bandwidths, Offsets, Attributes}
+use Rattle.sdp_table_row.specs.declared.Table.the-variants.{Emails, Phones, Connections, Bandwidths, Offsets, Zones, Attributes}
 
--- a row of a table whose rows have an owner
-abbrev pub ownedLine : List ℕ → List ℕ → Owned → ℕ → List ℕ
-ownedLine t a Connections p = connectionLine (bytesOf t) (connectionOf a (p + 2))
-ownedLine t a Bandwidths p = bandwidthLine (bytesOf t) (bandwidthOf a p)
-ownedLine t a Offsets p = spaced (timeText (offsetOf a p .offset))
-ownedLine t a Attributes p = pairLine (bytesOf t) 0x61 (attributeOf a p .attribute) (attributeOf a p .value)
-
--- a row of a table whose rows have none, with its number k
+-- row k; its owner, where it has one, is not written
 abbrev pub rowText : List ℕ → List ℕ → Table → ℕ → ℕ → List ℕ
 rowText t a Emails k p = stringLine (bytesOf t) 0x65 (spanOf a p)
 rowText t a Phones k p = stringLine (bytesOf t) 0x70 (spanOf a p)
+rowText t a Connections k p = connectionLine (bytesOf t) (connectionOf a (p + 2))
+rowText t a Bandwidths k p = bandwidthLine (bytesOf t) (bandwidthOf a p)
+rowText t a Offsets k p = spaced (timeText (offsetOf a p .offset))
 rowText t a Zones k p = zoneText k (zoneOf a p)
+rowText t a Attributes k p = pairLine (bytesOf t) 0x61 (attributeOf a p .attribute) (attributeOf a p .value)

@@ -8,7 +8,7 @@ ghost use Rattle.sdp_put.specs.Strings.{clean};
 ghost use Rattle.sdp_decode.specs.Rows.{marked};
 ghost use Rattle.sdp_decode.specs.Decode.{spanOf, keyOf, bandwidthOf, zoneOf};
 ghost use Rattle.sdp_row.specs.Written.{optional, signedText, between, zoneText, bandwidthLine, pairLine, keyLine};
-ghost use Rattle.sdp_table_row.specs.Rows.{ownedLine, rowText};
+ghost use Rattle.sdp_table_row.specs.Rows.{rowText};
 use sdp_decode::num2;
 use sdp_decode::num8;
 use sdp_put::put_byte;
@@ -20,19 +20,15 @@ use sdp_row::put_spaced_time;
 use sdp_row::put_string;
 use sdp_row::put_string_line;
 
-// The tables whose rows have an owner and nothing below them.
-pub enum Owned {
-    Connections,
-    Bandwidths,
-    Offsets,
-    Attributes,
-}
-
-// The tables whose rows have no owner, and nothing below them.
+// The tables whose rows have nothing below them.
 pub enum Table {
     Emails,
     Phones,
+    Connections,
+    Bandwidths,
+    Offsets,
     Zones,
+    Attributes,
 }
 
 fn put_bandwidth(out: &mut [u8], at: usize, text: &[u8], area: &[u8], p: usize) -> usize
@@ -118,27 +114,7 @@ fn put_zone(out: &mut [u8], at: usize, area: &[u8], k: usize, p: usize) -> usize
     put_signed(out, d, num8(area, p + 8))
 }
 
-// A row that has an owner.
-pub fn put_owned(
-    out: &mut [u8],
-    at: usize,
-    text: &[u8],
-    area: &[u8],
-    table: Owned,
-    p: usize,
-) -> usize
-    requires { ⌜ p < 3700000 ⌝ }
-    ensures { λ r. ⌜ Put (now (out .entry)) at (ownedLine (now (text .entry)) (now (area .entry)) table p) (now (out .exit)) r ⌝ }
-{
-    match table {
-        Owned::Connections => put_connection(out, at, text, area, p + 2),
-        Owned::Bandwidths => put_bandwidth(out, at, text, area, p),
-        Owned::Offsets => put_spaced_time(out, at, num8(area, p + 2)),
-        Owned::Attributes => put_pair(out, at, b'a', text, area, p + 2, p + 6),
-    }
-}
-
-// A row that has none, with number k.
+// Row k of a table.
 pub fn put_row(
     out: &mut [u8],
     at: usize,
@@ -154,6 +130,10 @@ pub fn put_row(
     match table {
         Table::Emails => put_string_line(out, at, b'e', text, area, p),
         Table::Phones => put_string_line(out, at, b'p', text, area, p),
+        Table::Connections => put_connection(out, at, text, area, p + 2),
+        Table::Bandwidths => put_bandwidth(out, at, text, area, p),
+        Table::Offsets => put_spaced_time(out, at, num8(area, p + 2)),
         Table::Zones => put_zone(out, at, area, k, p),
+        Table::Attributes => put_pair(out, at, b'a', text, area, p + 2, p + 6),
     }
 }

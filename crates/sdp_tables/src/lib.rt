@@ -2,8 +2,8 @@
 // is only counted.
 ghost use mathlib.Core.Path.{_≡_};
 ghost use Prim.Native.Nat.{_+_, _≤_, _<_};
-ghost use Rattle.sdp_lines.specs.Strings.{bytesOf};
 ghost use mathlib.Core.Bool.{true};
+ghost use Rattle.sdp_lines.specs.Strings.{bytesOf};
 ghost use Rattle.sdp_cells.specs.Bytes.{num};
 ghost use Rattle.sdp_valid.specs.Judge.{owners};
 ghost use Rattle.sdp_area.specs.Area.{timesAt, repeatsAt, zonesAt};
@@ -11,7 +11,7 @@ ghost use Rattle.sdp_put.specs.Out.{Put};
 ghost use Rattle.sdp_decode.specs.Rows.{table};
 ghost use Rattle.sdp_decode.specs.Decode.{timeOf, repeatOf, zoneOf, mediaOf, decode};
 ghost use Rattle.sdp_row.specs.Written.{each, repeatLine, timeLines, timesLines, zonesLine, mediaLines, contactLines, closingLines};
-ghost use Rattle.sdp_table_row.specs.Rows.{ownedLine, rowText};
+ghost use Rattle.sdp_table_row.specs.Rows.{rowText};
 ghost use Rattle.sdp_tables.specs.Tables.{eachAt, own, offsetsIn, NeverFall, Parted};
 use sdp_area::ATTRIBUTES;
 use sdp_area::BANDWIDTHS;
@@ -34,10 +34,8 @@ use sdp_row::put_media_line;
 use sdp_row::put_session_connection;
 use sdp_row::put_spaced_time;
 use sdp_row::put_time_line;
-use sdp_table_row::Owned;
 use sdp_table_row::Table;
 use sdp_table_row::put_key;
-use sdp_table_row::put_owned;
 use sdp_table_row::put_row;
 
 // The rows of the table at base, of w bytes each.
@@ -87,14 +85,14 @@ fn put_mine_of(
     at: usize,
     text: &[u8],
     area: &[u8],
-    table: Owned,
+    table: Table,
     base: usize,
     w: usize,
     n: usize,
 ) -> usize
     requires { ⌜ (base < 20000) × (w < 40) ⌝ }
     requires { ⌜ NeverFall (now area) base w ⌝ }
-    ensures { λ r. ⌜ Put (now (out .entry)) at (eachAt (own (now (area .entry)) n (λ k. ownedLine (now (text .entry)) (now (area .entry)) table)) w (num 2 (now (area .entry)) base) 1 (base + 2)) (now (out .exit)) r ⌝ }
+    ensures { λ r. ⌜ Put (now (out .entry)) at (eachAt (own (now (area .entry)) n (rowText (now (text .entry)) (now (area .entry)) table)) w (num 2 (now (area .entry)) base) 1 (base + 2)) (now (out .exit)) r ⌝ }
 {
     let count = num2(area, base);
     if count == 0 {
@@ -107,7 +105,7 @@ fn put_mine_of(
         if num2(area, p) != n {
             return q;
         }
-        q = put_owned(out, q, text, area, table, p);
+        q = put_row(out, q, text, area, table, i + 1, p);
         p += w;
         i += 1;
     }
@@ -123,7 +121,7 @@ fn put_repeat(out: &mut [u8], at: usize, text: &[u8], area: &[u8], k: usize, p: 
     let b = put_two(out, at, b'r', b'=');
     let c = put_time(out, b, num8(area, p + 2));
     let d = put_spaced_time(out, c, num8(area, p + 10));
-    let e = put_mine_of(out, d, text, area, Owned::Offsets, OFFSETS, 10, k);
+    let e = put_mine_of(out, d, text, area, Table::Offsets, OFFSETS, 10, k);
     put_two(out, e, 13, 10)
 }
 
@@ -194,7 +192,7 @@ pub fn put_contact(out: &mut [u8], at: usize, text: &[u8], area: &[u8]) -> usize
     let b = put_rows(out, at, text, area, Table::Emails, EMAILS, 4);
     let c = put_rows(out, b, text, area, Table::Phones, PHONES, 4);
     let d = put_session_connection(out, c, text, area);
-    let e = put_mine_of(out, d, text, area, Owned::Bandwidths, BANDWIDTHS, 14, 0);
+    let e = put_mine_of(out, d, text, area, Table::Bandwidths, BANDWIDTHS, 14, 0);
     put_times(out, e, text, area)
 }
 
@@ -216,7 +214,7 @@ pub fn put_closing(out: &mut [u8], at: usize, text: &[u8], area: &[u8]) -> usize
 {
     let b = put_zone_line(out, at, text, area);
     let c = put_key(out, b, text, area, KEY);
-    put_mine_of(out, c, text, area, Owned::Attributes, ATTRIBUTES, 12, 0)
+    put_mine_of(out, c, text, area, Table::Attributes, ATTRIBUTES, 12, 0)
 }
 
 // The m line with number k, and i, c, b, k and a of this media.
@@ -227,10 +225,10 @@ fn put_media(out: &mut [u8], at: usize, text: &[u8], area: &[u8], k: usize, p: u
 {
     let b = put_media_line(out, at, text, area, p);
     let c = put_maybe_line(out, b, b'i', text, area, p + 18);
-    let d = put_mine_of(out, c, text, area, Owned::Connections, CONNECTIONS, 14, k);
-    let e = put_mine_of(out, d, text, area, Owned::Bandwidths, BANDWIDTHS, 14, k);
+    let d = put_mine_of(out, c, text, area, Table::Connections, CONNECTIONS, 14, k);
+    let e = put_mine_of(out, d, text, area, Table::Bandwidths, BANDWIDTHS, 14, k);
     let f = put_key(out, e, text, area, p + 24);
-    put_mine_of(out, f, text, area, Owned::Attributes, ATTRIBUTES, 12, k)
+    put_mine_of(out, f, text, area, Table::Attributes, ATTRIBUTES, 12, k)
 }
 
 pub fn put_medias(out: &mut [u8], at: usize, text: &[u8], area: &[u8]) -> usize
