@@ -8,7 +8,7 @@ use lib.Dec.{eqb}
 use Rattle.sdp_lines.specs.declared.Answer.{Answer}
 use Rattle.sdp_put.specs.Digits.{digits}
 use Rattle.sdp_read.specs.Run.{readText}
-use Rattle.sdp_write.specs.Write.{Outcome, wrote, writeText}
+use Rattle.sdp_write.specs.Write.{textOf}
 
 -- "refused N line L field F with the three numbers and LF"
 abbrev pub refusedLine : Answer → List ℕ
@@ -18,15 +18,11 @@ refusedLine a =
     ++ ((0x20 ∷ 0x66 ∷ 0x69 ∷ 0x65 ∷ 0x6c ∷ 0x64 ∷ 0x20 ∷ []) ++ (digits (a .field)
     ++ (0x0a ∷ []))))))
 
--- what writing left: the text or its refusal
-abbrev pub shown : Outcome → List ℕ
-shown x = cond (eqb (x .answer .number) 0) (wrote x) (refusedLine (x .answer))
-
--- the text t is read into the area a and written into the output o
-abbrev pub printed : List ℕ → List ℕ → List ℕ → List ℕ
-printed t a o =
+-- "prints the written text", or the refusal: the text t is read into the area a
+abbrev pub printed : List ℕ → List ℕ → List ℕ
+printed t a =
     cond (eqb (readText t a .answer .number) 0)
-    (shown (writeText t (readText t a .area) o))
+    (textOf t (readText t a .area))
     (refusedLine (readText t a .answer))
 
 -- the first r bytes of o are bs

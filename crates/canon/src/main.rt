@@ -1,6 +1,8 @@
 // Document 01, module 8: reads a text from standard input and prints its written form, or how it is refused.
 ghost use Prim.Native.Nat.{_≤_};
 ghost use lib.ListN.{length};
+ghost use Rattle.sdp_area.specs.Area.{size};
+ghost use Rattle.sdp_bound.specs.Bound.{roomOfAny};
 ghost use Rattle.canon.specs.Canon.{Holds, refusedLine, printed};
 use libc::EINTR;
 use libc::STDIN_FILENO;
@@ -117,25 +119,22 @@ fn refusal(out: &mut [u8], a: Answer) -> usize
     put_byte(out, g, 10)
 }
 
-// Puts what is to be printed for a text into out, and answers its length.
+// Puts what is to be printed for a text into out, and answers its length. In an area of full size and so much room every
+// text that is read is written.
 fn canon(text: &[u8], area: &mut [u8], out: &mut [u8]) -> usize
-    requires { ⌜ 100 ≤ length (now out) ⌝ }
-    ensures { λ r. ⌜ Holds (printed (now (text .entry)) (now (area .entry)) (now (out .entry))) (now (out .exit)) r ⌝ }
+    requires { ⌜ (size ≤ length (now area)) × (roomOfAny ≤ length (now out)) ⌝ }
+    ensures { λ r. ⌜ Holds (printed (now (text .entry)) (now (area .entry))) (now (out .exit)) r ⌝ }
 {
     let a = read(text, area);
     if a.number != 0 {
         return refusal(out, a);
     }
     let w = write(text, area, out);
-    if w.number != 0 {
-        return refusal(out, w);
-    }
     w.len as usize
 }
 
-// One byte more than a text may have tells that it is too long. The area has sdp_area's SIZE. A written form has at most the
-// text's length, a byte for each kept line and 36 bytes (crates/sdp_bound). A kept line takes 3 bytes, the last one perhaps 2.
-// So 32768 + (32768 / 3 + 1) + 36 = 43727 bytes are enough for out.
+// One byte more than a text may have tells that it is too long. The area has sdp_area's SIZE, and out the room that canon
+// asks for.
 fn main() {
     let mut text = [0u8; 32769];
     let input = read_text(&mut text);

@@ -7,14 +7,11 @@ use native.Mathlib.Omega.{arith}
 use lib.ListN.{length, drop, length-map}
 use lib.Seq.{take-at}
 use lib.Dec.{ltb}
-use borrow.Author.Tests.{ltb-false}
 use Rattle.sdp_lines.specs.Strings.{bytesOf}
 use Rattle.sdp_lines.specs.declared.Span.{Span}
 use Rattle.sdp_area.specs.Session.{MediaConnection, Bandwidth, Attribute, Session}
-use Rattle.sdp_area.specs.Area.{size}
 use Rattle.sdp_strings.specs.Strings.{spanAt}
-use Rattle.sdp_read.specs.Run as reader
-use Rattle.sdp_read.specs.Run.{Verdict, accepted, refused, answer, outcomeOf, lines, readText}
+use Rattle.sdp_read.specs.Run.{Verdict, accepted, refused, lines, readText}
 use Rattle.sdp_row.specs.Written.{written}
 use Rattle.sdp_write.specs.Write as writer
 use Rattle.sdp_write.specs.Write.{wrote, fill, writeText}
@@ -23,7 +20,7 @@ use Rattle.sdp_same.specs.Said.{saidMediaConnection, saidBandwidth, saidAttribu
 use Rattle.sdp_same.specs.Sound.{FineIn, Rising, Sound}
 use Rattle.sdp_same.proofs.LinesLaws.{accepted-said, refused-said}
 use Rattle.sdp_same.proofs.SoundLaws.{read-sound}
-use Rattle.sdp_same.proofs.SameLaws.{read-is, read-then-write}
+use Rattle.sdp_same.proofs.SameLaws.{read-is, read-fits, read-then-write}
 use Rattle.sdp_same.proofs.WrittenLaws.{written-said}
 use Rattle.sdp_back.specs.Again.{again}
 use Rattle.sdp_back.specs.Back.{SaidAgain, ReadBack}
@@ -89,17 +86,6 @@ text-back t s e =
     rw (← z) (ap (lines bytesAt) (sym (written-said (bytesOf t) r)) ∙ back t r q))
 
 -- ---- over the promises of read and write
--- what reading accepted had room and was within the limit
-read-fits : (t a : List ℕ) → readText t a .answer .number ≡ 0 → (size ≤ length a) × (length t ≤ 32768)
-unfolding reader.readText
-read-fits t a = go (ltb (length a) size) (ltb 32768 (length t)) refl refl
-  where
-    go : (b c : Bool) → ltb (length a) size ≡ b → ltb 32768 (length t) ≡ c
-        → (let r : reader.Outcome = cond b (record { answer = answer 2 0 0; area = a }) (cond c (record { answer = answer 1 0 0; area = a }) (outcomeOf a (lines spanAt t))) in r .answer .number ≡ 0) → (size ≤ length a) × (length t ≤ 32768)
-    go true c p q n = absurd (let z : _≡_ {A = ℕ} 2 0 = n in omega arith)
-    go false true p q n = absurd (let z : _≡_ {A = ℕ} 1 0 = n in omega arith)
-    go false false p q n = (ltb-false (length a) size p, ltb-false 32768 (length t) q)
-
 wrote-fill : (w o : List ℕ) → fill w o .answer .number ≡ 0 → wrote (fill w o) ≡ w
 wrote-fill w o = go (ltb (length o) (length w))
   where
@@ -120,7 +106,7 @@ read-back t a o b h k l m =
       second = second;
       says = r .read;
       saysAgain = x;
-      read = read-is t (f .1) (r .session) (r .read) a (f .0);
-      readAgain = read-is w l second x b m;
+      read = read-is t a (f .0) (f .1) _ (r .read);
+      readAgain = read-is w b l m _ x;
       same = y;
     })

@@ -1,5 +1,5 @@
 -- The written form of an accepted text against the text: line by line, and the whole. Assumes nothing.
-use mathlib.Core.Path.{_≡_, refl, ap, _∙_}
+use mathlib.Core.Path.{_≡_, refl, sym, ap, _∙_}
 use mathlib.Core.Bool.{Bool, true, false, cond}
 use mathlib.Core.List.{List, [], _∷_}
 use Prim.Native.Nat.{ℕ, suc, _+_, _-_, _≤_}
@@ -22,12 +22,14 @@ use Rattle.sdp_read.specs.Run.{Verdict, accepted, refused, after, stepForm, run
 use Rattle.sdp_row.specs.Written
 use Rattle.sdp_row.specs.Written.{written}
 use Rattle.sdp_lines.specs.Strings.{bytesOf}
-use Rattle.sdp_write.specs.Write.{textOf}
+use Rattle.sdp_write.specs.Write.{textOf, fill, writeText}
 use Rattle.sdp_same.specs.Said.{said, bytesAt}
+use Rattle.sdp_same.specs.Same.{filled}
 use Rattle.sdp_same.proofs.WrittenLaws.{written-said}
 use Rattle.sdp_same.proofs.LinesLaws.{accepted-said}
-use Rattle.sdp_same.proofs.SameLaws.{read-then-write}
+use Rattle.sdp_same.proofs.SameLaws.{fills, read-then-write}
 use Rattle.sdp_bound.specs.Kept.{roleOf, uses, opens, usedFrom, fromVersion, keptLines, kept, id}
+use Rattle.sdp_bound.specs.Bound.{bound, Enough}
 use Rattle.sdp_room.proofs.SumLaws
 use Rattle.sdp_room.proofs.SumLaws.{sum}
 use Rattle.sdp_room.proofs.CostLaws
@@ -120,13 +122,26 @@ begin-cost (r ∷ rs) s n p e = form (formOf (content r)) (begin-cost rs s (n + 
     form (Good c) ih e = zero (eqb c 0x76) (isZero (drop 2 (content r))) refl e
 
 -- "An accepted text's written form is at most its length plus its kept lines (v= and all with a use) plus 36 bytes."
-pub written-bound : (t : List ℕ) (s : Session (List ℕ)) → lines bytesAt t ≡ accepted s → length (written id s) ≤ length t + kept t + 36
+pub written-bound : (t : List ℕ) (s : Session (List ℕ)) → lines bytesAt t ≡ accepted s → length (written id s) ≤ bound t
 unfolding Run.lines kept
 written-bound t s e = omega (arith, written-cost id s, begin-cost (split t) s 1 0 e, bodies-short t)
 
 -- ---- over the promises of read and write: what is written of an area that read has just left
-pub write-bound : (t a : List ℕ) → readText t a .answer .number ≡ 0 → length (textOf t (readText t a .area)) ≤ length t + kept t + 36
-write-bound t a h =
-    let r = read-then-write t a [] h in
-    let e = r .text ∙ written-said (bytesOf t) (r .session) in
-    omega (arith, ap length e, written-bound t (said (bytesOf t) (r .session)) (accepted-said t (r .session) (r .read)))
+module _ (t a : List ℕ) (h : readText t a .answer .number ≡ 0) where
+  text-bound : length (textOf t (readText t a .area)) ≤ bound t
+  text-bound =
+      let r = read-then-write t a [] h in
+      let e = r .text ∙ written-said (bytesOf t) (r .session) in
+      omega (arith, ap length e, written-bound t (said (bytesOf t) (r .session)) (accepted-said t (r .session) (r .read)))
+
+  -- n bytes are enough where the bound is no more than n
+  pub enough : (n : ℕ) → bound t ≤ n → Enough n t a
+  enough n l = record { short = omega (arith, text-bound); written = writes }
+    where
+      writes : (o : List ℕ) → n ≤ length o → writeText t (readText t a .area) o ≡ filled (textOf t (readText t a .area)) o
+      writes o m =
+          let r = read-then-write t a o h in
+          r .outcome ∙ (ap (λ (w : List ℕ). fill w o) (sym (r .text)) ∙ fills (textOf t (readText t a .area)) o (omega (arith, text-bound)))
+
+  pub write-bound : Enough (bound t) t a
+  write-bound = enough (bound t) (omega arith)

@@ -1,7 +1,7 @@
 -- The kept lines of samples; at `v=0` alone the bound is reached. Assumes nothing.
 use mathlib.Core.Path.{_≡_, refl}
 use mathlib.Core.List.{List, [], _∷_}
-use Prim.Native.Nat.{ℕ, _+_}
+use Prim.Native.Nat.{ℕ}
 use lib.ListN.{length}
 use Rattle.sdp_bytes.specs.Runs
 use Rattle.sdp_lines.specs.Lines
@@ -13,12 +13,13 @@ use Rattle.sdp_row.specs.Written
 use Rattle.sdp_row.specs.Written.{written}
 use Rattle.sdp_same.specs.Said.{bytesAt}
 use Rattle.sdp_bound.specs.Kept.{usedFrom, keptLines, kept, id}
+use Rattle.sdp_bound.specs.Bound.{bound}
 
 -- v=0
 abbrev version : List ℕ
 version = 0x76 ∷ 0x3d ∷ 0x30 ∷ []
 
-pub version-bound : (lines bytesAt version ≡ accepted empty) × (length (written id empty) ≡ length version + kept version + 36)
+pub version-bound : (lines bytesAt version ≡ accepted empty) × (length (written id empty) ≡ bound version)
 unfolding kept keptLines usedFrom Run.lines Run.begin Run.run Lines.split Lines.content Lines.chop Lines.formOf Lines.hasNulOrCr Lines.plainForm Runs.indexOf Written.written Written.headLines Written.contactLines Written.closingLines Written.originLine Written.line Written.each Written.timesLines Written.zonesLine
 version-bound = (refl, refl)
 

@@ -12,11 +12,12 @@ use Rattle.sdp_roles.specs.Roles.{roleAt}
 use Rattle.sdp_roles.specs.declared.Role.{Role}
 use Rattle.sdp_roles.specs.declared.Role.the-variants as role
 use Rattle.sdp_read.specs.Run.{readText}
-use Rattle.sdp_write.specs.Write.{textOf}
+use Rattle.sdp_same.proofs.SameLaws.{read-fits}
 use Rattle.sdp_bound.specs.Kept.{roleOf, uses, opens, usedFrom, fromVersion, keptLines, kept}
+use Rattle.sdp_bound.specs.Bound.{roomOfAny, Enough}
 use Rattle.sdp_room.proofs.SumLaws
 use Rattle.sdp_room.proofs.SumLaws.{sum}
-use Rattle.sdp_bound.proofs.BoundLaws.{content-short, bodies, bodies-short, write-bound}
+use Rattle.sdp_bound.proofs.BoundLaws.{content-short, bodies, bodies-short, enough}
 
 uses-once : (x : Role) → uses x ≤ 1
 uses-once role.Nothing = omega arith
@@ -64,7 +65,7 @@ kept-few (r ∷ rs) = go (formOf (content r)) (kept-few rs)
     go (Good l) ih = omega (arith, used-few rs 0)
     go (Bad f) ih = omega (arith, used-few rs 0)
 
--- 43,727 bytes are enough for what is written of any accepted text
-pub room : (t a : List ℕ) → length t ≤ 32768 → readText t a .answer .number ≡ 0 → length (textOf t (readText t a .area)) ≤ 43727
+-- of any accepted text
+pub room : (t a : List ℕ) → readText t a .answer .number ≡ 0 → Enough roomOfAny t a
 unfolding kept
-room t a short h = omega (arith, write-bound t a h, kept-few (split t), bodies-short t)
+room t a h = enough t a h roomOfAny (omega (arith, read-fits t a h .0, kept-few (split t), bodies-short t))

@@ -1,43 +1,13 @@
 -- Lines without use may be put in behind any whole lines from the version on: texts x ++ y and x ++ (lines ++ y). Assumes nothing.
 use mathlib.Core.Path.{_≡_, refl, ap, _∙_}
-use mathlib.Core.Bool.{false}
 use mathlib.Core.List.{List, [], _∷_, _++_, append-assoc}
 use Prim.Native.Nat.{ℕ, zero, suc, _+_, _≤_, _<_}
 use native.Mathlib.Omega.{arith}
 use lib.ListN.{length}
 use Rattle.sdp_lines.specs.Lines.{content}
 use Rattle.sdp_bound.specs.Kept.{roleOf, opens}
-use Rattle.sdp_insert.specs.Insert.{hasLf, ended, endedForm, Idle, InsertedFrom, same, keep, put, version, Inserted, blank, begun, aboveFrom, above}
-
--- lines, each with its LF
-abbrev pub whole : List (List ℕ) → List ℕ
-whole [] = []
-whole (l ∷ ls) = l ++ (10 ∷ whole ls)
-
--- each is one line: none of them has another LF
-abbrev pub NoneHasLf : List (List ℕ) → Type 0
-NoneHasLf [] = Unit
-NoneHasLf (l ∷ ls) = (hasLf l ≡ false) × NoneHasLf ls
-
--- each is empty
-abbrev pub AllBlank : List (List ℕ) → Type 0
-AllBlank [] = Unit
-AllBlank (l ∷ ls) = (content (ended l) ≡ []) × AllBlank ls
-
--- the medias after them
-abbrev pub mediasAfter : ℕ → List (List ℕ) → ℕ
-mediasAfter medias [] = medias
-mediasAfter medias (l ∷ ls) = mediasAfter (medias + opens (roleOf medias (endedForm l))) ls
-
--- each is empty or well-formed with a letter without use
-abbrev pub AllIdle : ℕ → List (List ℕ) → Type 0
-AllIdle medias [] = Unit
-AllIdle medias (l ∷ ls) = Idle medias (endedForm l) × AllIdle medias ls
-
--- m lines were put in behind the first n
-pub record Below (n m : ℕ) (above : ℕ → ℕ) : Type 0 where
-  pub before : (k : ℕ) → k < n → above k ≡ 0
-  pub behind : (k : ℕ) → n ≤ k → above k ≡ m
+use Rattle.sdp_insert.specs.Insert.{ended, endedForm, InsertedFrom, same, keep, put, version, Inserted, blank, begun, aboveFrom, above}
+use Rattle.sdp_insert.specs.Between.{whole, NoneHasLf, AllBlank, mediasAfter, AllIdle, Below}
 
 -- past one line more
 below-next : (n m : ℕ) (f g : ℕ → ℕ) → g 0 ≡ 0 → ((k : ℕ) → g (suc k) ≡ f k) → Below n m f → Below (suc n) m g

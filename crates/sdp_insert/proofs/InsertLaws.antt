@@ -2,9 +2,9 @@
 use mathlib.Core.Path.{_≡_, refl, sym, ap, _∙_}
 use mathlib.Core.Logic.{_⊎_, inl, inr}
 use mathlib.Core.List.{List}
-use Prim.Native.Nat.{ℕ, _+_, _≤_}
+use Prim.Native.Nat.{ℕ, _+_, _≤_, _<_}
 use native.Mathlib.Omega.{arith}
-use borrow.Author.Tests.{le-ltb}
+use borrow.Author.Tests.{lt-ltb}
 use lib.ListN.{length}
 use Rattle.sdp_bytes.specs.Runs
 use Rattle.sdp_lines.specs.Lines
@@ -17,11 +17,12 @@ use Rattle.sdp_area.specs.Area.{size}
 use Rattle.sdp_strings.specs.Strings.{spanAt}
 use Rattle.sdp_step.specs.Step.{fresh}
 use Rattle.sdp_read.specs.Run
-use Rattle.sdp_read.specs.Run.{Verdict, accepted, refused, outcomeOf, begin, lines, readText}
+use Rattle.sdp_read.specs.Run.{Verdict, accepted, refused, answer, begin, lines, readText}
 use Rattle.sdp_same.specs.Said.{bytesAt, said, saidVerdict}
 use Rattle.sdp_same.proofs.LinesLaws.{lines-said}
 use Rattle.sdp_same.proofs.SoundLaws.{refusal-number}
-use Rattle.sdp_insert.specs.Insert.{ended, Inserted, blank, begun, alone, aboveFrom, above, SameSession, SameRefusal}
+use Rattle.sdp_same.proofs.SameLaws.{read-is}
+use Rattle.sdp_insert.specs.Insert.{ended, Inserted, blank, begun, alone, aboveFrom, above, SameSession, SameRefusal, SameAnswer}
 use Rattle.sdp_insert.proofs.SplitLaws.{split-line}
 use Rattle.sdp_insert.proofs.RunLaws.{Follows, follows-past, run-follows}
 
@@ -58,28 +59,31 @@ module _ (t : List ℕ) where
       go (accepted x) q = absurd (let z : _≡_ {A = ℕ} 0 1 = cc in omega arith)
       go (refused x) q = let z : x ≡ y = cc in ap refused z
 
-  -- what read promises of a text within the limit
-  read-is : (a : List ℕ) → length t ≤ 32768 → size ≤ length a → (r : Verdict Span) → lines spanAt t ≡ r → readText t a ≡ outcomeOf a r
+  read-short : (a : List ℕ) → length a < size → readText t a ≡ record { answer = answer 2 0 0; area = a }
   unfolding Run.readText
-  read-is a short room r e = rw (le-ltb (length a) size room, le-ltb 32768 (length t) short, e)
+  read-short a few = rw (lt-ltb (length a) size few)
 
 -- ---- over the promise of read: "the same session, or the same refusal with its line moved down by the insertions above it"
-pub insertion : {t t′ : List ℕ} (i : Inserted t t′) → length t ≤ 32768 → length t′ ≤ 32768 → (a a′ : List ℕ) → size ≤ length a → size ≤ length a′
-    → SameSession t t′ a a′ ⊎ SameRefusal i a a′
-insertion {t} {t′} i short short′ a a′ room room′ = go (lines-follow i)
+pub insertion : {t t′ : List ℕ} (i : Inserted t t′) → length t ≤ 32768 → length t′ ≤ 32768 → (a a′ : List ℕ) → SameAnswer i a a′
+insertion {t} {t′} i short short′ a a′ = record {
+  full = go (lines-follow i);
+  short = λ few few′. record { read = read-short t a few; read′ = read-short t′ a′ few′ };
+}
   where
-    go : Follows 1 (above i) (lines bytesAt t) (lines bytesAt t′) → SameSession t t′ a a′ ⊎ SameRefusal i a a′
-    go (inl h) =
+    go : Follows 1 (above i) (lines bytesAt t) (lines bytesAt t′) → size ≤ length a → size ≤ length a′ → SameSession t t′ a a′ ⊎ SameRefusal i a a′
+    go (inl h) room room′ =
         let x = accepted-from t (h .session) (h .first) in
         let x′ = accepted-from t′ (h .session) (h .second) in
         inl (record {
           session = x .0;
           session′ = x′ .0;
+          says = x .1;
+          says′ = x′ .1;
           read = read-is t a short room _ (x .1);
           read′ = read-is t′ a′ short′ room′ _ (x′ .1);
           said = x .2 ∙ sym (x′ .2);
         })
-    go (inr h) =
+    go (inr h) room room′ =
         let x = refused-from t _ (h .first) in
         let x′ = refused-from t′ _ (h .second) in
         inr (record {

@@ -1,10 +1,12 @@
--- Document 01, demand 3, first half: "Take a text whose first non-empty line is `v=0`. Insert, after that line and between whole lines, empty
+-- Demand 3, first half: "Take a text whose first non-empty line is `v=0`. Insert, after that line and between whole lines, empty
 -- lines or well-formed lines whose letter has no use at that place. If both texts are within 32,768 bytes, the answer is demand 2's answer for
 -- the first text: the same session, or the same refusal with its line moved down by the insertions above it."
 use mathlib.Core.Path.{_≡_}
+use mathlib.Core.Logic.{_⊎_}
 use mathlib.Core.Bool.{Bool, true, false, _||_}
 use mathlib.Core.List.{List, [], _∷_, _++_}
-use Prim.Native.Nat.{ℕ, zero, suc, _+_, _<_}
+use Prim.Native.Nat.{ℕ, zero, suc, _+_, _≤_, _<_}
+use lib.ListN.{length}
 use lib.Dec.{eqb}
 use Rattle.sdp_lines.specs.Lines.{Raw, content, formOf}
 use Rattle.sdp_lines.specs.Strings.{bytesOf}
@@ -12,9 +14,11 @@ use Rattle.sdp_lines.specs.declared.Span.{Span}
 use Rattle.sdp_lines.specs.declared.Form.{Form}
 use Rattle.sdp_lines.specs.declared.Form.the-variants.{Blank, Good, Bad}
 use Rattle.sdp_area.specs.Session.{Session}
+use Rattle.sdp_area.specs.Area.{size}
 use Rattle.sdp_roles.specs.Roles.{roleAt}
 use Rattle.sdp_roles.specs.declared.Role.the-variants.{Nothing}
-use Rattle.sdp_read.specs.Run.{accepted, onLine, outcomeOf, readText}
+use Rattle.sdp_strings.specs.Strings.{spanAt}
+use Rattle.sdp_read.specs.Run.{accepted, answer, onLine, outcomeOf, lines, readText}
 use Rattle.sdp_same.specs.Said.{said}
 use Rattle.sdp_bound.specs.Kept.{roleOf, opens}
 
@@ -80,10 +84,13 @@ above (begun l h e i) (suc k) = aboveFrom i k
 above alone k = 0
 
 -- ---- the answers: t is read into the area a, t′ into the area a′
--- "the same session": counts, numbers, presence, owners and string bytes agree
+-- "the same session": counts, numbers, presence, owners and string bytes agree. The two sessions are what the texts say, which the bytes of
+-- the areas alone would not tell: these hold a place's last two bytes
 pub record SameSession (t t′ a a′ : List ℕ) : Type 0 where
   pub session : Session Span
   pub session′ : Session Span
+  pub says : lines spanAt t ≡ accepted session
+  pub says′ : lines spanAt t′ ≡ accepted session′
   pub read : readText t a ≡ outcomeOf a (accepted session)
   pub read′ : readText t′ a′ ≡ outcomeOf a′ (accepted session′)
   pub said : said (bytesOf t) session ≡ said (bytesOf t′) session′
@@ -96,3 +103,13 @@ pub record SameRefusal {t t′ : List ℕ} (i : Inserted t t′) (a a′ : List 
   pub refusal : 0 < number
   pub read : readText t a ≡ outcomeOf a (onLine number (1 + k) field)
   pub read′ : readText t′ a′ ≡ outcomeOf a′ (onLine number (1 + k + above i k) field)
+
+-- "Area too short": 2 for both, "area unchanged"
+pub record TooShort (t t′ a a′ : List ℕ) : Type 0 where
+  pub read : readText t a ≡ record { answer = answer 2 0 0; area = a }
+  pub read′ : readText t′ a′ ≡ record { answer = answer 2 0 0; area = a′ }
+
+-- "the answer is demand 2's answer for the first text". Two areas of one length have both the stated size or are both too short
+pub record SameAnswer {t t′ : List ℕ} (i : Inserted t t′) (a a′ : List ℕ) : Type 0 where
+  pub full : size ≤ length a → size ≤ length a′ → SameSession t t′ a a′ ⊎ SameRefusal i a a′
+  pub short : length a < size → length a′ < size → TooShort t t′ a a′

@@ -1,5 +1,5 @@
--- The exceptions of docs/ONE-ANSWER.md whose proofs are walks by hand: the toolchain makes no `Learnt` of them, so their promises stand here,
--- and `..-said` ties each to the source: it is what the clause of the contract says. Assumes nothing.
+-- The exceptions of docs/ONE-ANSWER.md whose proofs are walks by hand: their promises stand in specs/Walked.antt, and `..-said` ties each to the
+-- source: it is what the clause of the contract says. Assumes nothing.
 use mathlib.Core.Path.{_≡_, refl}
 use mathlib.Core.List.{List, [], _∷_}
 use Prim.Native.Nat.{ℕ}
@@ -18,19 +18,16 @@ use denote.Signature.{typeAt, plain}
 use denote.Triple.Both.{Both}
 use Rattle.sdp_lines.specs.declared.LineNumber.{LineNumber}
 use Rattle.sdp_lines.proofs.LineNumber as N
-use Rattle.sdp_cutter.specs.Cutter.{moveAt, standing}
 use Rattle.sdp_cutter.specs.declared.Cutter.{Cutter}
 use Rattle.sdp_cutter.specs.declared.Line.{Line}
 use Rattle.sdp_cutter.specs.declared.Next.{Next}
 use Rattle.sdp_cutter.proofs.Cutter as T
 use Rattle.sdp_cutter.proofs.next_line as next
 use Rattle.sdp_cutter.proofs.made as make
+use Rattle.sdp_one.specs.Walked.{NextLine, Made}
 use Rattle.sdp_one.proofs.OneLaws.{same}
 
--- ---- next_line: the answer, and the cutter that was lent
-abbrev pub NextLine : Cutter → List ℕ → Next → Cutter → Type 0
-NextLine c s r z = (r ≡ moveAt s (c .at) (c .line) .next) × (z ≡ standing (moveAt s (c .at) (c .line)))
-
+-- ---- next_line
 module _ {M : Type 1} (𝓤 : URA M) (H : Heap 𝓤) (κs : Lfts 2) (A : Atoms 𝓤) (mem : Memory → SProp 𝓤) (run : Routine → Fun 𝓤) where
   abbrev Lent : Type 0
   Lent = typeAt {n = 2} (RefMutOf (0 ∷ []) tt (plain (λ κs. T.the-row)) (λ κs. tt)) κs .Denot
@@ -47,9 +44,6 @@ pub sdp-cutter-next-line : (c : Cutter) (s : List ℕ) (r r′ : Next) (z z′ :
 sdp-cutter-next-line c s r r′ z z′ p q = (same (p .0) (q .0), same (p .1) (q .1))
 
 -- ---- made
-abbrev pub Made : LineNumber → ℕ → RefT (List ℕ) → Line → Type 0
-Made n l v r = (r .number ≡ n) × ((r .letter ≡ l) × (r .value ≡ v))
-
 module _ {M : Type 1} (𝓤 : URA M) (H : Heap 𝓤) (κs : Lfts 1) (A : Atoms 𝓤) (mem : Memory → SProp 𝓤) (run : Routine → Fun 𝓤) where
   abbrev Number : Type 0
   Number = typeAt {n = 1} (plain (λ κs. N.the-row)) κs .Denot

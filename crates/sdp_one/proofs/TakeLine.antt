@@ -2,10 +2,8 @@
 use mathlib.Core.Path.{_≡_, ap}
 use mathlib.Core.List.{List}
 use Prim.Native.Nat.{ℕ}
-use lib.ListN.{drop}
 use denote.Ref.{now}
 use Rattle.sdp_lines.specs.declared.Span.{Span}
-use Rattle.sdp_area.specs.Area.{size}
 use Rattle.sdp_strings.specs.Strings.{spanAt}
 use Rattle.sdp_roles.specs.declared.Role.the-variants as role
 use Rattle.sdp_step.specs.Step.{Reading, Stepped, goes, stops, stepRole, step}
@@ -22,12 +20,8 @@ use Rattle.sdp_take_list.proofs.take_zone.Reads as takeZone
 use Rattle.sdp_take.proofs.take_line.Reads as takeLine
 use Rattle.sdp_line.proofs.take.Reads as lineTake
 use Rattle.sdp_one.specs.One.{OneWhere}
+use Rattle.sdp_one.specs.Seen.{seen}
 use Rattle.sdp_one.proofs.OneLaws.{same}
-
--- a line that is kept leaves all of the area, a refusal the bytes behind the session
-abbrev pub seen : Taken → List ℕ → List ℕ
-seen (Kept m) a = a
-seen (Refused n f) a = drop size a
 
 handled-once : (x : Stepped Span) (r r′ : Taken) (a a′ t : List ℕ) → Handled x r a t → Handled x r′ a′ t → (r ≡ r′) × (seen r a ≡ seen r′ a′)
 handled-once (goes ρ) (Kept m) (Kept m′) a a′ t h k = (ap Kept (same (h .marks) (k .marks)), same (h .bytes) (k .bytes))

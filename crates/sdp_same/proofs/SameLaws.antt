@@ -1,7 +1,7 @@
 -- The area that reading leaves is written, and says the session that was read. Assumes nothing.
 use Prim.Native.Nat.{ℕ, _≤_}
 use native.Mathlib.Omega.{arith}
-use mathlib.Core.Path.{_≡_, refl, ap, _∙_}
+use mathlib.Core.Path.{_≡_, refl, sym, ap, _∙_}
 use mathlib.Core.Logic.{_⊎_, inl, inr}
 use mathlib.Core.Bool.{Bool, true, false, cond}
 use mathlib.Core.List.{List, [], _∷_, _++_}
@@ -24,7 +24,7 @@ use Rattle.sdp_write.specs.Write as writer
 use Rattle.sdp_write.specs.Write.{Outcome, textOf, fill, writeText}
 use Rattle.sdp_same.specs.Fits.{nameOf, named}
 use Rattle.sdp_same.specs.Sound.{FineIn}
-use Rattle.sdp_same.specs.Same.{ReadThenWritten}
+use Rattle.sdp_same.specs.Same.{ReadThenWritten, filled}
 use Rattle.sdp_same.proofs.DecodeLaws.{decode-encode}
 use Rattle.sdp_same.proofs.SoundLaws.{read-sound, refusal-number}
 use Rattle.sdp_same.proofs.JudgeLaws.{fine-room, well-formed}
@@ -55,13 +55,31 @@ fill-answer w o = go (ltb (length o) (length w))
     go true = inr refl
     go false = inl refl
 
-module _ (t : List ℕ) (short : length t ≤ 32768) (s : Session Span) (read : lines spanAt t ≡ accepted s) where
-  -- ---- what reading leaves
-  pub read-is : (a : List ℕ) → size ≤ length a → readText t a ≡ record { answer = answer 0 0 0; area = encode s ++ drop size a }
-  unfolding reader.readText
-  read-is a h = rw (le-ltb (length a) size h, le-ltb 32768 (length t) short, read)
+-- ---- where the output has room
+pub fills : (w o : List ℕ) → length w ≤ length o → fill w o ≡ filled w o
+fills w o h = rw (le-ltb (length o) (length w) h)
 
-  -- ---- and what writing makes of it
+-- ---- what reading leaves, by what the lines of the text say
+module _ (t a : List ℕ) where
+  pub read-is : length t ≤ 32768 → size ≤ length a → (r : Verdict Span) → lines spanAt t ≡ r → readText t a ≡ outcomeOf a r
+  unfolding reader.readText
+  read-is short room r e = rw (le-ltb (length a) size room, le-ltb 32768 (length t) short, e)
+
+  -- an accepted text is within the limit, and its area had room
+  pub read-fits : readText t a .answer .number ≡ 0 → (length t ≤ 32768) × (size ≤ length a)
+  unfolding reader.readText
+  read-fits = go (ltb (length a) size) (ltb 32768 (length t)) refl refl
+    where
+      result : Bool → Bool → reader.Outcome
+      result b c = cond b (record { answer = answer 2 0 0; area = a }) (cond c (record { answer = answer 1 0 0; area = a }) (outcomeOf a (lines spanAt t)))
+
+      go : (b c : Bool) → ltb (length a) size ≡ b → ltb 32768 (length t) ≡ c → result b c .answer .number ≡ 0 → (length t ≤ 32768) × (size ≤ length a)
+      go true c p q n = absurd (let z : _≡_ {A = ℕ} 2 0 = n in omega arith)
+      go false true p q n = absurd (let z : _≡_ {A = ℕ} 1 0 = n in omega arith)
+      go false false p q n = (ltb-false 32768 (length t) q, ltb-false (length a) size p)
+
+-- ---- and what writing makes of it
+module _ (t : List ℕ) (short : length t ≤ 32768) (s : Session Span) (read : lines spanAt t ≡ accepted s) where
   text-is : (x : List ℕ) → textOf t (encode s ++ x) ≡ written (bytesOf t) s
   text-is x = ap (written (bytesOf t)) (decode-encode (FineIn t) (fine-room t short) s (read-sound t s read .fits) x) ∙ written-same t s
 
@@ -73,25 +91,22 @@ module _ (t : List ℕ) (short : length t ≤ 32768) (s : Session Span) (read : 
 
   accepted-written : (a o : List ℕ) → size ≤ length a → ReadThenWritten t a o
   accepted-written a o h =
-      let e : writeText t (readText t a .area) o ≡ fill (written (bytesOf t) s) o = ap (λ r. writeText t (r .area) o) (read-is a h) ∙ write-is (drop size a) o in
+      let left = read-is t a short h (accepted s) read in
+      let e : writeText t (readText t a .area) o ≡ fill (written (bytesOf t) s) o = ap (λ r. writeText t (r .area) o) left ∙ write-is (drop size a) o in
       record {
         session = s;
         read = read;
-        text = ap (λ r. textOf t (r .area)) (read-is a h) ∙ text-is (drop size a);
+        text = ap (λ r. textOf t (r .area)) left ∙ text-is (drop size a);
         outcome = e;
         answer = rw e (fill-answer (written (bytesOf t) s) o);
       }
 
 -- ---- over the promises of read and write
 pub read-then-write : (t a o : List ℕ) → readText t a .answer .number ≡ 0 → ReadThenWritten t a o
-unfolding reader.readText
-read-then-write t a o = go (ltb (length a) size) (ltb 32768 (length t)) (lines spanAt t) refl refl refl
+read-then-write t a o h = go (lines spanAt t) refl (read-fits t a h)
   where
-    result : Bool → Bool → Verdict Span → reader.Outcome
-    result b c r = cond b (record { answer = answer 2 0 0; area = a }) (cond c (record { answer = answer 1 0 0; area = a }) (outcomeOf a r))
-
-    go : (b c : Bool) (r : Verdict Span) → ltb (length a) size ≡ b → ltb 32768 (length t) ≡ c → lines spanAt t ≡ r → result b c r .answer .number ≡ 0 → ReadThenWritten t a o
-    go true c r p q e n = absurd (let z : _≡_ {A = ℕ} 2 0 = n in omega arith)
-    go false true r p q e n = absurd (let z : _≡_ {A = ℕ} 1 0 = n in omega arith)
-    go false false (accepted s) p q e n = accepted-written t (ltb-false 32768 (length t) q) s e a o (ltb-false (length a) size p)
-    go false false (refused x) p q e n = absurd (let z = refusal-number t x e in let y : x .number ≡ 0 = n in omega arith)
+    go : (r : Verdict Span) → lines spanAt t ≡ r → (length t ≤ 32768) × (size ≤ length a) → ReadThenWritten t a o
+    go (accepted s) e f = accepted-written t (f .0) s e a o (f .1)
+    go (refused x) e f =
+        let z : x .number ≡ 0 = sym (ap (λ y. y .answer .number) (read-is t a (f .0) (f .1) (refused x) e)) ∙ h in
+        absurd (omega (arith, refusal-number t x e))

@@ -1,15 +1,20 @@
 -- What reading a text and writing the area that it leaves come to.
 use mathlib.Core.Path.{_≡_}
 use mathlib.Core.Logic.{_⊎_}
-use mathlib.Core.List.{List}
+use mathlib.Core.List.{List, _++_}
 use Prim.Native.Nat.{ℕ}
+use lib.ListN.{length, drop}
 use Rattle.sdp_lines.specs.Strings.{bytesOf}
 use Rattle.sdp_lines.specs.declared.Span.{Span}
 use Rattle.sdp_area.specs.Session.{Session}
 use Rattle.sdp_strings.specs.Strings.{spanAt}
 use Rattle.sdp_read.specs.Run.{accepted, lines, readText}
 use Rattle.sdp_row.specs.Written.{written}
-use Rattle.sdp_write.specs.Write.{textOf, fill, writeText}
+use Rattle.sdp_write.specs.Write.{Outcome, answer, textOf, fill, writeText}
+
+-- the output o after the text w was written into it: 0 with its length, and "success changes only the bytes written"
+abbrev pub filled : List ℕ → List ℕ → Outcome
+filled w o = record { answer = answer 0 (length w); out = w ++ drop (length w) o }
 
 -- the text t is read into the area a, and the area is written to the output o: the session that the text says is written, and the writer
 -- answers 0, or 22 for an output that is too short

@@ -2,10 +2,10 @@
 use Prim.Native.Nat.{ℕ, _≤_}
 use mathlib.Core.Path.{_≡_, refl, sym, ap, _∙_}
 use mathlib.Core.Bool.{false}
-use mathlib.Core.List.{List, [], _++_}
+use mathlib.Core.List.{List, []}
 use borrow.Author.Tests.{le-ltb}
 use lib.Dec.{ltb}
-use lib.ListN.{length, drop}
+use lib.ListN.{length}
 use Rattle.sdp_bytes.specs.Runs
 use Rattle.sdp_bytes.specs.Ranges
 use Rattle.sdp_bytes.specs.Token
@@ -29,7 +29,7 @@ use Rattle.sdp_read.specs.Run.{Verdict, accepted, refused, lines}
 use Rattle.sdp_row.specs.Written
 use Rattle.sdp_row.specs.Written.{written}
 use Rattle.sdp_write.specs.Write.{fill}
-use Rattle.sdp_same.proofs.SameLaws.{read-then-write}
+use Rattle.sdp_same.proofs.SameLaws.{fills, read-then-write}
 use Rattle.sdp_samples.specs.Samples.{Samples, Refuses, Accepts, Writes, «V», T, spaceAfter, crAtEnd, nothingBefore, noEquals, noInterval, lowest, tooHigh, minusPlus, noZones, someOrigin, junkOrigin, emptyValue, noValue, _next_, ofV}
 
 -- ---- from the lines of a text to the promise of read
@@ -45,9 +45,6 @@ accepts t s p e a h = rw (le-ltb (length a) size h, p, e)
 sessionOf : Verdict Span → Session Span
 sessionOf (accepted s) = s
 sessionOf (refused x) = empty
-
-fills : (w o : List ℕ) → length w ≤ length o → fill w o ≡ record { answer = record { number = 0; line = 0; field = 0; place = 0; len = length w }; out = w ++ drop (length w) o }
-fills w o h = rw (le-ltb (length o) (length w) h)
 
 writes : (t : List ℕ) (s : Session Span) (w : List ℕ) → ltb 32768 (length t) ≡ false → lines spanAt t ≡ accepted s → written (bytesOf t) s ≡ w → Writes t w
 unfolding sessionOf
