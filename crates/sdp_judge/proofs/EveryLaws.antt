@@ -5,7 +5,6 @@ use native.Mathlib.Omega.{arith}
 use mathlib.Core.Path.{_≡_, refl}
 use mathlib.Core.Bool.{Bool, true, false, cond}
 use mathlib.Core.List.{List}
-use lib.ListN.{length}
 use Rattle.sdp_utf8.specs.Utf8.{isUtf8}
 use Rattle.sdp_bytes.specs.Token.{isToken}
 use Rattle.sdp_split.specs.Split.{part, Inside}
