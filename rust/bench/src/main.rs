@@ -88,18 +88,23 @@ fn stacks(cases: &[Case]) {
         for (function, call) in stack::CALLS {
             let used = stack::used(|| call(black_box(text), &mut lent));
             let most = most.entry(function).or_default();
-            *most = (*most).max((used, name));
+            if used > most.0 {
+                *most = (used, name);
+            }
         }
     }
     let mut theirs = Theirs::default();
     for (title, work) in [("Session::parse", Work::Read), ("Session::write", Work::Write)] {
         for case in cases.iter().filter(|case| works(case).contains(&work)) {
             theirs.keep(&case.text);
+            theirs.call(work, &case.text); // what is loaded at a first call takes stack too
             let used = stack::used(|| {
                 black_box(theirs.call(work, &case.text));
             });
             let most = most.entry(title).or_default();
-            *most = (*most).max((used, &case.name));
+            if used > most.0 {
+                *most = (used, &case.name);
+            }
         }
     }
     for (function, (used, text)) in most {

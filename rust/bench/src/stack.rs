@@ -4,7 +4,7 @@ use std::arch::asm;
 use std::hint::black_box;
 
 /// So much is painted. What takes more is not seen whole, and an end that was reached is an error.
-const ROOM: usize = 256 * 1024;
+const ROOM: usize = 64 * 1024;
 const PAINT: u8 = 0xa5;
 
 /// The bytes of stack that the call takes, its return address with them.
@@ -51,17 +51,22 @@ impl Lent {
 
 type Call = fn(&[u8], &mut Lent);
 
+/// What is answered must be made, though nothing looks at it.
+fn keep<T>(answer: T) {
+    black_box(answer);
+}
+
 /// Every function of the archive. Writing is called twice: with room for all, and with none, where it only counts.
 pub const CALLS: [(&str, Call); 11] = [
-    ("sdp_area_size", |_, _| drop(black_box(compare::area_size()))),
-    ("sdp_cut", |text, _| drop(black_box(compare::cut(text, 0, 1)))),
-    ("sdp_is_token", |text, _| drop(black_box(compare::is_token(text)))),
-    ("sdp_letter_order", |text, _| drop(black_box(compare::letter_order(text)))),
-    ("sdp_number16", |text, _| drop(black_box(compare::number16(text)))),
-    ("sdp_number64", |text, _| drop(black_box(compare::number64(text)))),
-    ("sdp_read", |text, lent| drop(black_box(compare::read(text, &mut lent.area)))),
-    ("sdp_typed_time", |text, _| drop(black_box(compare::typed_time(text)))),
-    ("sdp_utf8_end", |text, _| drop(black_box(compare::utf8_end(text)))),
-    ("sdp_write", |text, lent| drop(black_box(compare::write(text, &lent.area, &mut lent.out)))),
-    ("sdp_write", |text, lent| drop(black_box(compare::write(text, &lent.area, &mut [])))),
+    ("sdp_area_size", |_, _| keep(compare::area_size())),
+    ("sdp_cut", |text, _| keep(compare::cut(text, 0, 1))),
+    ("sdp_is_token", |text, _| keep(compare::is_token(text))),
+    ("sdp_letter_order", |text, _| keep(compare::letter_order(text))),
+    ("sdp_number16", |text, _| keep(compare::number16(text))),
+    ("sdp_number64", |text, _| keep(compare::number64(text))),
+    ("sdp_read", |text, lent| keep(compare::read(text, &mut lent.area))),
+    ("sdp_typed_time", |text, _| keep(compare::typed_time(text))),
+    ("sdp_utf8_end", |text, _| keep(compare::utf8_end(text))),
+    ("sdp_write", |text, lent| keep(compare::write(text, &lent.area, &mut lent.out))),
+    ("sdp_write", |text, lent| keep(compare::write(text, &lent.area, &mut []))),
 ];

@@ -30,7 +30,9 @@ fn every_function_answers_on_a_small_stack() {
             let (answer, used) = (words[1].parse::<u64>().unwrap(), words[2].parse().unwrap());
             answers.entry(words[0]).or_insert(answer);
             let most = most.entry(words[0].into()).or_default();
-            *most = (*most).max((used, name));
+            if used > most.0 {
+                *most = (used, name);
+            }
         }
         assert_eq!(answers.keys().map(|name| name.to_string()).collect::<BTreeSet<_>>(), exported(), "{name}");
         // these go as deep as they should
