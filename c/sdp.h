@@ -1,6 +1,7 @@
-/* Session descriptions (SDP, RFC 8866): the functions of the archive libsdp.a, for x86-64 Linux.
+/* Session descriptions (SDP, RFC 8866): the functions of the archive libsdp.a, for Linux on x86-64 or Arm (aarch64).
  *
- *     rt staticlib sdp                                   # makes target/staticlib/libsdp.a
+ *     ./archive                                          # makes target/staticlib/libsdp.a, for x86-64
+ *     ./archive --arm                                    # makes target/arm/libsdp.a
  *     cc -Ic program.c target/staticlib/libsdp.a         # a program with it
  *
  * In short:

@@ -1,10 +1,14 @@
-//! Every function answers in a thread with the smallest stack that there is, 16 KB, whatever it is given.
+//! Every function answers in a thread with the smallest stack that the system gives, whatever it is given, and takes at most
+//! 16 KB of it. On x86-64 the stack is no longer than that.
 #[path = "../../sdp/tests/c/mod.rs"]
 mod c;
 #[path = "../../sdp/tests/page/mod.rs"]
 mod page;
 use generate::hostile;
 use std::collections::{BTreeMap, BTreeSet};
+
+/// Bytes of stack that a call may take, with what a thread needs.
+const SMALL: usize = 16_384;
 
 /// The functions that the archive exports, by its source.
 fn exported() -> BTreeSet<String> {
@@ -28,6 +32,7 @@ fn every_function_answers_on_a_small_stack() {
         for line in said.lines() {
             let words: Vec<&str> = line.split(' ').collect();
             let (answer, used) = (words[1].parse::<u64>().unwrap(), words[2].parse().unwrap());
+            assert!(used <= SMALL, "{name}: {} takes {used} bytes of stack", words[0]);
             answers.entry(words[0]).or_insert(answer);
             let most = most.entry(words[0].into()).or_default();
             if used > most.0 {
@@ -43,7 +48,7 @@ fn every_function_answers_on_a_small_stack() {
             _ => (),
         }
     }
-    println!("stack: {} texts; the most that was used of 16,384 bytes, with what a thread needs:", texts.len());
+    println!("stack: {} texts; the most that was used of {SMALL} bytes, with what a thread needs:", texts.len());
     for (function, (used, text)) in most {
         println!("{function} {used} ({text})");
     }

@@ -1,6 +1,7 @@
-/* Calls every function on standard input, each call in a thread of its own with the smallest stack that there is on
-   x86-64 Linux. Prints a line for each: the function, what it answered, and how many bytes of the stack were used, with
-   what the thread itself needs. Below the stack nothing can be touched: a call that needs more ends the program. */
+/* Calls every function on standard input, each call in a thread of its own with the smallest stack that the system gives:
+   16 KB on x86-64, 128 KB on Arm. Prints a line for each: the function, what it answered, and how many bytes of the stack
+   were used, with what the thread itself needs. Below the stack nothing can be touched: a call that needs more ends the
+   program. */
 #define _GNU_SOURCE
 #include "sdp.h"
 #include <inttypes.h>
@@ -9,7 +10,7 @@
 #include <string.h>
 #include <sys/mman.h>
 
-enum { STACK = 16384, BELOW = 1 << 20, PAINT = 0xa5 };
+enum { SMALLEST = 16384, MOST = 1 << 20, BELOW = 1 << 20, PAINT = 0xa5 };
 
 static uint8_t text[2 * SDP_LONGEST], area[SDP_AREA_SIZE], noise[SDP_AREA_SIZE], out[SDP_ROOM];
 static size_t len;
@@ -49,11 +50,15 @@ int main(void) {
         {"sdp_write", write_short, 0},     {"sdp_write", write_noise, 0},         {"sdp_letter_order", letter_order, 0},
         {"sdp_area_size", area_size, 0},
     };
-    uint8_t *room = mmap(NULL, BELOW + STACK, PROT_NONE, MAP_PRIVATE | MAP_ANONYMOUS, -1, 0);
-    uint8_t *stack = room + BELOW;
+    uint8_t *room = mmap(NULL, BELOW + MOST, PROT_NONE, MAP_PRIVATE | MAP_ANONYMOUS, -1, 0);
+    uint8_t *stack = room;
+    size_t size = SMALLEST;
     pthread_attr_t small;
-    if (room == MAP_FAILED || mprotect(stack, STACK, PROT_READ | PROT_WRITE) != 0) return 2;
-    if (pthread_attr_init(&small) != 0 || pthread_attr_setstack(&small, stack, STACK) != 0) return 2;
+    if (room == MAP_FAILED || pthread_attr_init(&small) != 0) return 2;
+    /* its upper end stays where it is */
+    while (pthread_attr_setstack(&small, stack = room + BELOW + MOST - size, size) != 0)
+        if ((size *= 2) > MOST) return 2;
+    if (mprotect(stack, size, PROT_READ | PROT_WRITE) != 0) return 2;
     len = fread(text, 1, sizeof text, stdin);
     memcpy(noise, text, sizeof noise);
     /* the C library's functions are looked up at their first call, which takes stack of its own */
@@ -64,11 +69,11 @@ int main(void) {
         size_t left = 0;
         printf("%s ", calls[i].name);
         fflush(stdout); /* so that after a crash the function is known */
-        memset(stack, PAINT, STACK);
+        memset(stack, PAINT, size);
         if (pthread_create(&thread, &small, make, &calls[i]) != 0 || pthread_join(thread, &made) != 0) return 2;
         if (made != &calls[i]) return 2;
-        while (left < STACK && stack[left] == PAINT) left++;
-        printf("%" PRIu64 " %zu\n", calls[i].answer, STACK - left);
+        while (left < size && stack[left] == PAINT) left++;
+        printf("%" PRIu64 " %zu\n", calls[i].answer, size - left);
     }
     return 0;
 }
