@@ -218,13 +218,14 @@ fn constant(words: &str) -> String {
     format!("SDP_{}", words.to_uppercase().replace([' ', '-'], "_"))
 }
 
-/// The room that is enough is that of the theorem.
+/// The room that is enough is that of the theorem `room`.
 #[test]
 fn the_theorem_s_room() {
+    let definitions = file("crates/sdp_bound/specs/Bound.antt");
+    assert!(definitions.lines().any(|line| line == format!("roomOfAny = {ROOM}")), "{definitions}");
     let laws = file("crates/sdp_bound/proofs/RoomLaws.antt");
     let theorem = laws.lines().find(|line| line.starts_with("pub room : ")).expect("the theorem room");
-    assert!(theorem.contains(&format!("length t ≤ {LONGEST} ")), "{theorem}");
-    assert!(theorem.ends_with(&format!(" ≤ {ROOM}")), "{theorem}");
+    assert!(theorem.ends_with("readText t a .answer .number ≡ 0 → Enough roomOfAny t a"), "{theorem}");
 }
 
 /// Every function through the header, from C, answers what it answers through ffi.rs.
