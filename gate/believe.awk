@@ -24,11 +24,10 @@ function add_parts(m, name,    w, n, k) {
     for (k = 1; k <= n; k++) if (w[k] != "") part[m, w[k]] = part[m, w[k]] " " name
 }
 # what the name of an import means: K kit, T type of Rattle, V a variant of one, S a name of a file of specs, X unknown
-function target(path, name,    crate, rest, at) {
+function target(path, name,    crate, rest) {
     if (path ~ /^(mathlib|lib|Prim|borrow|native|denote)\./) return "K " path " " name
     if (!sub(/^Rattle·/, "", path)) return "X " path " " name
-    at = match(path, /(·specs)?\.specs\./)
-    if (!at) return "X " path " " name
+    if (!match(path, /(·specs)?\.specs\./)) return "X " path " " name
     crate = substr(path, 1, RSTART - 1)
     rest = substr(path, RSTART + RLENGTH)
     if (sub(/^declared\./, "", rest)) {
@@ -51,7 +50,7 @@ function import(m, text, public,    open, path, w, n, k, name, as) {
     if (!sub(/}$/, "", text)) fail("an import that is not understood in " m ": " text)
     n = split(text, w, ",")
     for (k = 1; k <= n; k++) {
-        name = as = w[k]
+        name = w[k]
         gsub(/^ +| +$/, "", name)
         if (name == "") continue
         as = name
@@ -82,10 +81,10 @@ function define(m, name, kind,    id) {
     order[m, ++count[m]] = id
     return id
 }
-# the names before the colon of a field or of a constructor
-function add_member(m, id, text,    w, n, k) {
+# a line with a field or a constructor
+function add_member(m, id, text,    w) {
     sub(/^ *pub /, "", text)
-    n = cut_words(text, w)
+    cut_words(text, w)
     if (w[2] != ":") fail("a line that is not understood in " m ": " text)
     if (kind_of[id] == "record") { add_chunk(id, "field", text); fields_of[id] = fields_of[id] " " w[1] }
     else { add_chunk(id, "constructor", text); add_name(m, id, w[1]); constructor[m, w[1]] = 1 }
@@ -156,7 +155,7 @@ function load(m,    path, line, got, now, deep, body, headed, w, n, k, name, ope
             depth = deep
             sub(/^[^:]*:/, "", line)
             add_chunk(now, "type", line)
-        } else if (k == 1 && now != "" && kind_of[now] == "name") {
+        } else if (k == 1 && now != "" && deep == depth && kind_of[now] == "name") {
             lines_of[now]++
             add_chunk(now, "clause", line)
         } else fail("a line that is not understood in " path ": " line)
@@ -170,7 +169,7 @@ function load(m,    path, line, got, now, deep, body, headed, w, n, k, name, ope
 }
 
 # ---- reading the types declared in Rattle
-function load_source(file,    crate, line, got, w, n, k, id, before, opened, attributes, m) {
+function load_source(file,    crate, line, got, w, n, id, opened, attributes) {
     crate = file
     sub(/^crates\//, "", crate)
     sub(/\/.*/, "", crate)
@@ -178,6 +177,7 @@ function load_source(file,    crate, line, got, w, n, k, id, before, opened, att
         sub(/ *\/\/.*/, "", line)
         if (line ~ /^ *$/) continue
         if (line ~ /^#\[/) { attributes++; continue }
+        if (line ~ /extern "C" fn / && file != top) fail("an exported function elsewhere than in " top ": " file)
         if (line ~ /^(pub )?use /) {
             sub(/^(pub )?use /, "", line)
             sub(/;$/, "", line)
@@ -259,11 +259,11 @@ function settle(to,    w) {
 function own(m, name) {
     return ((m, name) in constructor ? "C " : "D ") meant[m, name]
 }
-function export(m, name,    w, n) {
+function export(m, name,    w) {
     load(m)
     if ((m, name) in meant) return own(m, name)
     if ((m, name) in exported) {
-        n = split(exported[m, name], w, "\n")
+        split(exported[m, name], w, "\n")
         return settle(w[2])
     }
     fail("there is no " name " in " m)
@@ -440,9 +440,8 @@ function uses_of(what,    w, k) {
 
 # ---- the contracts
 # crates/sdp/src/lib.rt: imports, and for each exported function its parameters, types, and promises
-function load_contracts(file,    line, got, name, text) {
-    load_source(file)
-    while ((got = (getline line < file)) > 0) {
+function load_contracts(    line, got, name, text) {
+    while ((got = (getline line < top)) > 0) {
         sub(/ *\/\/.*/, "", line)
         if (line ~ /^ghost use /) { sub(/^ghost use /, "", line); import("contracts", line, 0) }
         if (line ~ /extern "C" fn /) {
@@ -457,10 +456,10 @@ function load_contracts(file,    line, got, name, text) {
             else text = text " " line
         }
     }
-    if (got < 0) fail("cannot read " file)
-    close(file)
+    if (got < 0 || !functions_n) fail("no exported function in " top)
+    close(top)
 }
-function scan_contract(file, name,    text, head, params, w, n, k, last, at) {
+function scan_contract(name,    text, head, params, k, last, at) {
     split("", found)
     text = contract[name]
     at = index(text, " ensures ")
@@ -469,7 +468,7 @@ function scan_contract(file, name,    text, head, params, w, n, k, last, at) {
     text = substr(text, at)
     sub(/.*extern "C" fn [A-Za-z0-9_]*/, "", head)
     gsub(/->/, " ", head)
-    rattle_types(file, head, "sdp")
+    rattle_types(top, head, "sdp")
     names_n = 0
     split("", bound)
     deepness = 0
@@ -485,10 +484,10 @@ function scan_contract(file, name,    text, head, params, w, n, k, last, at) {
 }
 
 # ---- all that a function rests on: in seen[]
-function close_over(file, name,    todo, n, k, w, i, what, any) {
+function close_over(name,    todo, n, k, w, i, what, any) {
     split("", seen)
     split("", wanted)
-    scan_contract(file, name)
+    scan_contract(name)
     for (k in found) todo[++n] = k
     while (n > 0) {
         what = todo[n--]
@@ -588,16 +587,15 @@ function page_list(name,    k, i, path, out) {
     return out
 }
 BEGIN {
+    top = "crates/sdp/src/lib.rt"
     # words that need no import
     split("Type × ⊎ ⊥ Unit", w, " ")
     for (k in w) language[w[k]] = "language"
     split("now ⌜ ⌝", w, " ")
     for (k in w) language[w[k]] = "contracts"
-    top = "crates/sdp/src/lib.rt"
-    loaded["contracts"] = 1
     n = split(sources, w, " ")
-    for (k = 1; k <= n; k++) if (w[k] != top) load_source(w[k])
-    load_contracts(top)
+    for (k = 1; k <= n; k++) load_source(w[k])
+    load_contracts()
     n = split(asked, w, " ")
     for (k = 1; k <= n; k++) if (!(w[k] in contract)) fail("no exported function " w[k])
     if (page) {
@@ -607,7 +605,7 @@ BEGIN {
     for (f = 1; f <= functions_n; f++) {
         name = functions[f]
         if (asked != "" && index(" " asked " ", " " name " ") == 0) continue
-        close_over(top, name)
+        close_over(name)
         tally()
         if (page) {
             print "| `" name "` | " defs_n + types_n " | " defs_lines + types_lines " | " files_n " |"
