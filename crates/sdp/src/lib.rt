@@ -62,7 +62,7 @@ pub extern "C" fn sdp_typed_time(s: &[u8]) -> Numeral
 // What stands at a place of the text, where the line of that number is due.
 #[no_mangle]
 pub extern "C" fn sdp_cut(text: &[u8], place: usize, line: usize) -> Piece
-    ensures { λ r. ⌜ r ≡ pieceOf line (cutAt (now (text .entry)) (cursorAt place line)) ⌝ }
+    ensures { λ r. ⌜ r ≡ pieceOf line (cutAt (now (text .entry)) (cursorAt line place)) ⌝ }
 {
     let c = Cursor {
         at: Place(place),

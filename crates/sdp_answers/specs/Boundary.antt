@@ -15,7 +15,7 @@ numeralOf n = record { number = refusal n; value = valueOf n }
 
 -- a cursor from its two numbers
 abbrev pub cursorAt : ℕ → ℕ → Cursor
-cursorAt place line = record { at = record { 0 = place }; line = record { 0 = line } }
+cursorAt line place = record { at = record { 0 = place }; line = record { 0 = line } }
 
 -- what was cut where the line of that number was due: kinds 0 to 3
 abbrev pub pieceOf : ℕ → Cut → Piece

@@ -3,6 +3,8 @@
 use mathlib.Core.List.{List, [], _∷_, _++_}
 use mathlib.Core.Option.{Option, none, some}
 use Prim.Native.Nat.{ℕ, _+_}
+use Rattle.sdp_numbers.specs.Tables.{mostEmails, mostPhones, mostMediaConnections, mostBandwidths, mostTimes}
+use Rattle.sdp_numbers.specs.Tables.{mostRepeats, mostOffsets, mostZones, mostAttributes, mostMedias}
 use Rattle.sdp_lines.specs.declared.Span.{Span}
 use Rattle.sdp_cells.specs.Bytes.{le, zeros}
 use Rattle.sdp_cells.specs.Tables.{tab}
@@ -85,16 +87,16 @@ segments s =
     ∷ opt 4 span (s .head .uri)
     ∷ opt 12 connectionBytes (s .head .connection)
     ∷ opt 10 keyBytes (s .head .key)
-    ∷ tab 16 4 span (s .tables .emails)
-    ∷ tab 16 4 span (s .tables .phones)
-    ∷ tab 64 14 mediaConnectionRow (s .tables .connections)
-    ∷ tab 64 14 bandwidthRow (s .tables .bandwidths)
-    ∷ tab 32 16 timeRow (s .tables .times)
-    ∷ tab 64 18 repeatRow (s .tables .repeats)
-    ∷ tab 256 10 offsetRow (s .tables .offsets)
-    ∷ tab 64 16 zoneRow (s .tables .zones)
-    ∷ tab 512 12 attributeRow (s .tables .attributes)
-    ∷ tab 32 36 mediaRow (s .tables .medias)
+    ∷ tab mostEmails 4 span (s .tables .emails)
+    ∷ tab mostPhones 4 span (s .tables .phones)
+    ∷ tab mostMediaConnections 14 mediaConnectionRow (s .tables .connections)
+    ∷ tab mostBandwidths 14 bandwidthRow (s .tables .bandwidths)
+    ∷ tab mostTimes 16 timeRow (s .tables .times)
+    ∷ tab mostRepeats 18 repeatRow (s .tables .repeats)
+    ∷ tab mostOffsets 10 offsetRow (s .tables .offsets)
+    ∷ tab mostZones 16 zoneRow (s .tables .zones)
+    ∷ tab mostAttributes 12 attributeRow (s .tables .attributes)
+    ∷ tab mostMedias 36 mediaRow (s .tables .medias)
     ∷ []
 
 -- the bytes of a session

@@ -4,13 +4,14 @@ use mathlib.Core.List.{List, [], _∷_}
 use mathlib.Core.Option.{Option, none, some}
 use Prim.Native.Nat.{ℕ, _+_, _*_, _-_}
 use lib.Dec.{ltb, leb, eqb}
+use Rattle.sdp_numbers.specs.Tables.{mostMedias}
 use Rattle.sdp_cells.specs.Bytes.{num, over}
 use Rattle.sdp_area.specs.Area.{mediasAt}
 use Rattle.sdp_area.specs.Session.{Media}
 
--- there is a latest media: the count is 1 to 32
+-- there is a latest media: the count is 1 to the most
 abbrev pub anyMedia : List ℕ → Bool
-anyMedia a = ltb 0 (num 2 a mediasAt) && leb (num 2 a mediasAt) 32
+anyMedia a = ltb 0 (num 2 a mediasAt) && leb (num 2 a mediasAt) mostMedias
 
 -- the place of byte off of the latest row
 abbrev pub latestAt : List ℕ → ℕ → ℕ

@@ -4,6 +4,8 @@ use Prim.Native.Nat.{ℕ, _≤_}
 use mathlib.Core.List.{List, []}
 use mathlib.Core.Option.{Option, none}
 use lib.ListN.{length}
+use Rattle.sdp_numbers.specs.Tables.{mostEmails, mostPhones, mostMediaConnections, mostBandwidths, mostTimes}
+use Rattle.sdp_numbers.specs.Tables.{mostRepeats, mostOffsets, mostZones, mostAttributes, mostMedias}
 
 -- an o line
 pub record Origin (S : Type 0) : Type 0 where
@@ -102,19 +104,18 @@ pub record Session (S : Type 0) : Type 0 where
   pub head : Head S
   pub tables : Tables S
 
--- "1 emails 16; 2 phones 16; 3 media connections 64; 4 bandwidths 64; 5 times 32; 6 repeats 64; 7 offsets 256; 8 zones 64; 9 attributes 512;
--- 10 medias 32"
+-- no table has more rows than it has room for
 pub record Within {S : Type 0} (s : Session S) : Type 0 where
-  pub emails : length (s .tables .emails) ≤ 16
-  pub phones : length (s .tables .phones) ≤ 16
-  pub connections : length (s .tables .connections) ≤ 64
-  pub bandwidths : length (s .tables .bandwidths) ≤ 64
-  pub times : length (s .tables .times) ≤ 32
-  pub repeats : length (s .tables .repeats) ≤ 64
-  pub offsets : length (s .tables .offsets) ≤ 256
-  pub zones : length (s .tables .zones) ≤ 64
-  pub attributes : length (s .tables .attributes) ≤ 512
-  pub medias : length (s .tables .medias) ≤ 32
+  pub emails : length (s .tables .emails) ≤ mostEmails
+  pub phones : length (s .tables .phones) ≤ mostPhones
+  pub connections : length (s .tables .connections) ≤ mostMediaConnections
+  pub bandwidths : length (s .tables .bandwidths) ≤ mostBandwidths
+  pub times : length (s .tables .times) ≤ mostTimes
+  pub repeats : length (s .tables .repeats) ≤ mostRepeats
+  pub offsets : length (s .tables .offsets) ≤ mostOffsets
+  pub zones : length (s .tables .zones) ≤ mostZones
+  pub attributes : length (s .tables .attributes) ≤ mostAttributes
+  pub medias : length (s .tables .medias) ≤ mostMedias
 
 -- before the first line
 abbrev pub empty : {S : Type 0} → Session S

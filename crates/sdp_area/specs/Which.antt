@@ -3,6 +3,7 @@ use mathlib.Core.Bool.{Bool}
 use mathlib.Core.List.{List}
 use Prim.Native.Nat.{ℕ}
 use lib.Dec.{eqb}
+use Rattle.sdp_numbers.specs.Tables.{mostEmails, mostPhones}
 use Rattle.sdp_cells.specs.Bytes.{num, over}
 use Rattle.sdp_area.specs.Area.{descriptionAt, uriAt, emailsAt, phonesAt}
 use Rattle.sdp_area.specs.Latest.{overLast, markLast}
@@ -27,3 +28,8 @@ overText Title a bs = overLast a 18 bs
 abbrev pub contactsAt : Contact → ℕ
 contactsAt Email = emailsAt
 contactsAt Phone = phonesAt
+
+-- and how many rows it has room for
+abbrev pub mostContacts : Contact → ℕ
+mostContacts Email = mostEmails
+mostContacts Phone = mostPhones

@@ -6,12 +6,13 @@ ghost use mathlib.Core.List.{_++_};
 ghost use Prim.Native.Nat.{_+_, _*_, _≤_, _<_};
 ghost use lib.ListN.{length, drop};
 ghost use lib.Dec.{eqb};
+ghost use Rattle.sdp_numbers.specs.Tables.{mostMediaConnections, mostBandwidths, mostTimes, mostRepeats, mostOffsets, mostZones, mostAttributes, mostMedias};
 ghost use Rattle.sdp_cells.specs.Bytes.{le, num, over, zeros};
 ghost use Rattle.sdp_cells.specs.Tables.{pairs, grown, told};
 ghost use Rattle.sdp_area.specs.Area.{size, span, originBytes, connectionBytes, keyBytes, mediaConnectionRow, bandwidthRow, timeRow, repeatRow, offsetRow, zoneRow, attributeRow, mediaRow, originAt, nameAt, connectionAt, keyAt, phonesAt, connectionsAt, bandwidthsAt, timesAt, repeatsAt, offsetsAt, zonesAt, attributesAt, mediasAt};
 ghost use Rattle.sdp_area.specs.Latest.{overLast, markLast};
 ghost use Rattle.sdp_area.specs.Maybe.{maybe, maybePorts};
-ghost use Rattle.sdp_area.specs.Which.{markText, overText, contactsAt};
+ghost use Rattle.sdp_area.specs.Which.{markText, overText, contactsAt, mostContacts};
 use sdp_cells::Pushed;
 use sdp_cells::get2;
 use sdp_cells::marked;
@@ -165,8 +166,8 @@ fn contacts_at(which: Contact) -> usize
 // An e or a p line.
 pub fn push_contact(area: &mut [u8], which: Contact, x: Span) -> Pushed
     requires { ⌜ size ≤ length (now area) ⌝ }
-    ensures { λ r. ⌜ r ≡ told (now (area .entry)) (contactsAt which) 16 ⌝ }
-    ensures { λ r. ⌜ now (area .exit) ≡ grown (now (area .entry)) (contactsAt which) 16 (span x) ⌝ }
+    ensures { λ r. ⌜ r ≡ told (now (area .entry)) (contactsAt which) (mostContacts which) ⌝ }
+    ensures { λ r. ⌜ now (area .exit) ≡ grown (now (area .entry)) (contactsAt which) (mostContacts which) (span x) ⌝ }
 {
     let row = [x.at.0, x.len];
     push_words(area, contacts_at(which), 16, &row)
@@ -181,8 +182,8 @@ pub fn push_connection(
     address: Span,
 ) -> Pushed
     requires { ⌜ size ≤ length (now area) ⌝ }
-    ensures { λ r. ⌜ r ≡ told (now (area .entry)) connectionsAt 64 ⌝ }
-    ensures { λ r. ⌜ now (area .exit) ≡ grown (now (area .entry)) connectionsAt 64 (mediaConnectionRow (record { owner = owner; connection = record { nettype = nettype; addrtype = addrtype; connectionAddress = address } })) ⌝ }
+    ensures { λ r. ⌜ r ≡ told (now (area .entry)) connectionsAt mostMediaConnections ⌝ }
+    ensures { λ r. ⌜ now (area .exit) ≡ grown (now (area .entry)) connectionsAt mostMediaConnections (mediaConnectionRow (record { owner = owner; connection = record { nettype = nettype; addrtype = addrtype; connectionAddress = address } })) ⌝ }
 {
     let row = [
         owner,
@@ -199,8 +200,8 @@ pub fn push_connection(
 // A b line.
 pub fn push_bandwidth(area: &mut [u8], owner: usize, bwtype: Span, bandwidth: u64) -> Pushed
     requires { ⌜ size ≤ length (now area) ⌝ }
-    ensures { λ r. ⌜ r ≡ told (now (area .entry)) bandwidthsAt 64 ⌝ }
-    ensures { λ r. ⌜ now (area .exit) ≡ grown (now (area .entry)) bandwidthsAt 64 (bandwidthRow (record { owner = owner; bwtype = bwtype; bandwidth = bandwidth })) ⌝ }
+    ensures { λ r. ⌜ r ≡ told (now (area .entry)) bandwidthsAt mostBandwidths ⌝ }
+    ensures { λ r. ⌜ now (area .exit) ≡ grown (now (area .entry)) bandwidthsAt mostBandwidths (bandwidthRow (record { owner = owner; bwtype = bwtype; bandwidth = bandwidth })) ⌝ }
 {
     let row = [
         owner,
@@ -217,8 +218,8 @@ pub fn push_bandwidth(area: &mut [u8], owner: usize, bwtype: Span, bandwidth: u6
 // A t line.
 pub fn push_time(area: &mut [u8], start: u64, stop: u64) -> Pushed
     requires { ⌜ size ≤ length (now area) ⌝ }
-    ensures { λ r. ⌜ r ≡ told (now (area .entry)) timesAt 32 ⌝ }
-    ensures { λ r. ⌜ now (area .exit) ≡ grown (now (area .entry)) timesAt 32 (timeRow (record { startTime = start; stopTime = stop })) ⌝ }
+    ensures { λ r. ⌜ r ≡ told (now (area .entry)) timesAt mostTimes ⌝ }
+    ensures { λ r. ⌜ now (area .exit) ≡ grown (now (area .entry)) timesAt mostTimes (timeRow (record { startTime = start; stopTime = stop })) ⌝ }
 {
     let row = [
         start as usize,
@@ -236,8 +237,8 @@ pub fn push_time(area: &mut [u8], start: u64, stop: u64) -> Pushed
 // An r line, without its offsets.
 pub fn push_repeat(area: &mut [u8], owner: usize, interval: u64, duration: u64) -> Pushed
     requires { ⌜ size ≤ length (now area) ⌝ }
-    ensures { λ r. ⌜ r ≡ told (now (area .entry)) repeatsAt 64 ⌝ }
-    ensures { λ r. ⌜ now (area .exit) ≡ grown (now (area .entry)) repeatsAt 64 (repeatRow (record { owner = owner; repeatInterval = interval; activeDuration = duration })) ⌝ }
+    ensures { λ r. ⌜ r ≡ told (now (area .entry)) repeatsAt mostRepeats ⌝ }
+    ensures { λ r. ⌜ now (area .exit) ≡ grown (now (area .entry)) repeatsAt mostRepeats (repeatRow (record { owner = owner; repeatInterval = interval; activeDuration = duration })) ⌝ }
 {
     let row = [
         owner,
@@ -256,8 +257,8 @@ pub fn push_repeat(area: &mut [u8], owner: usize, interval: u64, duration: u64) 
 // An offset of an r line.
 pub fn push_offset(area: &mut [u8], owner: usize, offset: u64) -> Pushed
     requires { ⌜ size ≤ length (now area) ⌝ }
-    ensures { λ r. ⌜ r ≡ told (now (area .entry)) offsetsAt 256 ⌝ }
-    ensures { λ r. ⌜ now (area .exit) ≡ grown (now (area .entry)) offsetsAt 256 (offsetRow (record { owner = owner; offset = offset })) ⌝ }
+    ensures { λ r. ⌜ r ≡ told (now (area .entry)) offsetsAt mostOffsets ⌝ }
+    ensures { λ r. ⌜ now (area .exit) ≡ grown (now (area .entry)) offsetsAt mostOffsets (offsetRow (record { owner = owner; offset = offset })) ⌝ }
 {
     let row = [
         owner,
@@ -272,8 +273,8 @@ pub fn push_offset(area: &mut [u8], owner: usize, offset: u64) -> Pushed
 // A pair of the z line.
 pub fn push_zone(area: &mut [u8], adjustment: u64, offset: u64) -> Pushed
     requires { ⌜ size ≤ length (now area) ⌝ }
-    ensures { λ r. ⌜ r ≡ told (now (area .entry)) zonesAt 64 ⌝ }
-    ensures { λ r. ⌜ now (area .exit) ≡ grown (now (area .entry)) zonesAt 64 (zoneRow (record { adjustmentTime = adjustment; offset = offset })) ⌝ }
+    ensures { λ r. ⌜ r ≡ told (now (area .entry)) zonesAt mostZones ⌝ }
+    ensures { λ r. ⌜ now (area .exit) ≡ grown (now (area .entry)) zonesAt mostZones (zoneRow (record { adjustmentTime = adjustment; offset = offset })) ⌝ }
 {
     let row = [
         adjustment as usize,
@@ -291,8 +292,8 @@ pub fn push_zone(area: &mut [u8], adjustment: u64, offset: u64) -> Pushed
 // An a line.
 pub fn push_attribute(area: &mut [u8], owner: usize, name: Span, value: MaybeSpan) -> Pushed
     requires { ⌜ size ≤ length (now area) ⌝ }
-    ensures { λ r. ⌜ r ≡ told (now (area .entry)) attributesAt 512 ⌝ }
-    ensures { λ r. ⌜ now (area .exit) ≡ grown (now (area .entry)) attributesAt 512 (attributeRow (record { owner = owner; attribute = name; value = maybe value })) ⌝ }
+    ensures { λ r. ⌜ r ≡ told (now (area .entry)) attributesAt mostAttributes ⌝ }
+    ensures { λ r. ⌜ now (area .exit) ≡ grown (now (area .entry)) attributesAt mostAttributes (attributeRow (record { owner = owner; attribute = name; value = maybe value })) ⌝ }
 {
     let row = [
         owner,
@@ -315,8 +316,8 @@ pub fn push_media(
     fmt: Span,
 ) -> Pushed
     requires { ⌜ size ≤ length (now area) ⌝ }
-    ensures { λ r. ⌜ r ≡ told (now (area .entry)) mediasAt 32 ⌝ }
-    ensures { λ r. ⌜ now (area .exit) ≡ grown (now (area .entry)) mediasAt 32 (mediaRow (record { media = media; port = port; numPorts = maybePorts ports; proto = proto; fmt = fmt; mediaTitle = none; key = none })) ⌝ }
+    ensures { λ r. ⌜ r ≡ told (now (area .entry)) mediasAt mostMedias ⌝ }
+    ensures { λ r. ⌜ now (area .exit) ≡ grown (now (area .entry)) mediasAt mostMedias (mediaRow (record { media = media; port = port; numPorts = maybePorts ports; proto = proto; fmt = fmt; mediaTitle = none; key = none })) ⌝ }
 {
     let row = [
         media.at.0,

@@ -4,6 +4,7 @@ use mathlib.Core.Path.{_≡_}
 use mathlib.Core.List.{List}
 use Prim.Native.Nat.{ℕ, _≤_}
 use lib.ListN.{length}
+use Rattle.sdp_numbers.specs.Refusals.{longestText}
 use Rattle.sdp_lines.specs.Strings.{bytesOf}
 use Rattle.sdp_lines.specs.declared.Span.{Span}
 use Rattle.sdp_area.specs.Session.{Session}
@@ -29,6 +30,6 @@ abbrev pub ReadBack : List ℕ → List ℕ → List ℕ → List ℕ → Type 0
 ReadBack t a o b =
     readText t a .answer .number ≡ 0
     → writeText t (readText t a .area) o .answer .number ≡ 0
-    → length (wrote (writeText t (readText t a .area) o)) ≤ 32768
+    → length (wrote (writeText t (readText t a .area) o)) ≤ longestText
     → size ≤ length b
     → SaidAgain t a (wrote (writeText t (readText t a .area) o)) b

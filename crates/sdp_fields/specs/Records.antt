@@ -4,6 +4,7 @@ use mathlib.Core.Bool.{true, false, _&&_, cond}
 use mathlib.Core.List.{List}
 use lib.ListN.{getD}
 use lib.Dec.{eqb}
+use Rattle.sdp_numbers.specs.Fields as fields
 use Rattle.sdp_split.specs.Split.{wordAt, firstPiece, pieceAfter, restAfter}
 use Rattle.sdp_judge.specs.Read.{Read, got, textOf, tokenOf, numberOf, choiceOf}
 use Rattle.sdp_judge.specs.Read.{afterText, afterAmount, afterChoice, ending, andThen}
@@ -34,10 +35,10 @@ addressOf w v i =
 -- "o: username, sess-id, version number, nettype, addrtype, address"
 unfoldable pub originOf : List ℕ → Read Origin
 originOf v =
-    afterText (textOf 1 v (wordAt v 0)) (λ user e.
-    afterText (textOf 2 v (wordAt v e)) (λ id e.
-    afterAmount (numberOf 3 v (wordAt v e)) (λ version e.
-    andThen (addressOf 4 v e) (λ place.
+    afterText (textOf fields.username v (wordAt v 0)) (λ user e.
+    afterText (textOf fields.sessId v (wordAt v e)) (λ id e.
+    afterAmount (numberOf fields.sessVersion v (wordAt v e)) (λ version e.
+    andThen (addressOf fields.originNettype v e) (λ place.
     got (record {
       username = usernameOf v user;
       «sess_id» = id;
@@ -49,22 +50,22 @@ originOf v =
 
 -- c: nettype, addrtype, connection-address
 unfoldable pub connectionOf : List ℕ → Read Connection
-connectionOf v = addressOf 8 v 0
+connectionOf v = addressOf fields.connectionNettype v 0
 
 -- b: bwtype and bandwidth, "split at every colon"
 unfoldable pub bandwidthOf : List ℕ → Read Bandwidth
 bandwidthOf v =
-    afterText (textOf 12 v (firstPiece 0x3a v)) (λ kind e.
-    afterAmount (numberOf 13 v (pieceAfter 0x3a v e)) (λ n e.
-    ending 14 (pieceAfter 0x3a v e)
+    afterText (textOf fields.bwtype v (firstPiece 0x3a v)) (λ kind e.
+    afterAmount (numberOf fields.bandwidth v (pieceAfter 0x3a v e)) (λ n e.
+    ending fields.bandwidthTrailing (pieceAfter 0x3a v e)
     (got (record { bwtype = kind; bandwidth = n }))))
 
 -- t: start-time and stop-time
 unfoldable pub timesOf : List ℕ → Read Time
 timesOf v =
-    afterAmount (numberOf 15 v (wordAt v 0)) (λ start e.
-    afterAmount (numberOf 16 v (wordAt v e)) (λ stop e.
-    ending 17 (wordAt v e)
+    afterAmount (numberOf fields.startTime v (wordAt v 0)) (λ start e.
+    afterAmount (numberOf fields.stopTime v (wordAt v e)) (λ stop e.
+    ending fields.timeTrailing (wordAt v e)
     (got (record { «start_time» = start; «stop_time» = stop }))))
 
 -- a and k, "at the first colon": a name of field w, and perhaps a value of field x

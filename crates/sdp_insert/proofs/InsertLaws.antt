@@ -6,6 +6,7 @@ use Prim.Native.Nat.{ℕ, _+_, _≤_, _<_}
 use native.Mathlib.Omega.{arith}
 use borrow.Author.Tests.{lt-ltb}
 use lib.ListN.{length}
+use Rattle.sdp_numbers.specs.Refusals.{longestText}
 use Rattle.sdp_bytes.specs.Runs
 use Rattle.sdp_lines.specs.Lines
 use Rattle.sdp_lines.specs.Lines.{split, width}
@@ -64,7 +65,7 @@ module _ (t : List ℕ) where
   read-short a few = rw (lt-ltb (length a) size few)
 
 -- ---- over the promise of read: "the same session, or the same refusal with its line moved down by the insertions above it"
-pub insertion : {t t′ : List ℕ} (i : Inserted t t′) → length t ≤ 32768 → length t′ ≤ 32768 → (a a′ : List ℕ) → SameAnswer i a a′
+pub insertion : {t t′ : List ℕ} (i : Inserted t t′) → length t ≤ longestText → length t′ ≤ longestText → (a a′ : List ℕ) → SameAnswer i a a′
 insertion {t} {t′} i short short′ a a′ = record {
   full = go (lines-follow i);
   short = λ few few′. record { read = read-short t a few; read′ = read-short t′ a′ few′ };

@@ -8,6 +8,7 @@ use mathlib.Core.List.{List, [], _∷_, _++_}
 use Prim.Native.Nat.{ℕ, zero, suc, _+_, _≤_, _<_}
 use lib.ListN.{length}
 use lib.Dec.{eqb}
+use Rattle.sdp_numbers.specs.Refusals as refusals
 use Rattle.sdp_lines.specs.Lines.{Raw, content, formOf}
 use Rattle.sdp_lines.specs.Strings.{bytesOf}
 use Rattle.sdp_lines.specs.declared.Span.{Span}
@@ -106,8 +107,8 @@ pub record SameRefusal {t t′ : List ℕ} (i : Inserted t t′) (a a′ : List 
 
 -- "Area too short": 2 for both, "area unchanged"
 pub record TooShort (t t′ a a′ : List ℕ) : Type 0 where
-  pub read : readText t a ≡ record { answer = answer 2 0 0; area = a }
-  pub read′ : readText t′ a′ ≡ record { answer = answer 2 0 0; area = a′ }
+  pub read : readText t a ≡ record { answer = answer refusals.areaTooShort 0 0; area = a }
+  pub read′ : readText t′ a′ ≡ record { answer = answer refusals.areaTooShort 0 0; area = a′ }
 
 -- "the answer is demand 2's answer for the first text". Two areas of one length have both the stated size or are both too short
 pub record SameAnswer {t t′ : List ℕ} (i : Inserted t t′) (a a′ : List ℕ) : Type 0 where

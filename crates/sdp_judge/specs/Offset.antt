@@ -4,6 +4,7 @@ use mathlib.Core.Bool.{Bool, true, false, _&&_, cond}
 use mathlib.Core.List.{List}
 use lib.ListN.{length, getD, drop}
 use lib.Dec.{ltb, leb, eqb}
+use Rattle.sdp_numbers.specs.Fields as fields
 use Rattle.sdp_number.specs.Number.{typedTime}
 use Rattle.sdp_number.specs.declared.Number.{Number}
 use Rattle.sdp_number.specs.declared.Number.the-variants.{Value, Encoding, Format}
@@ -17,14 +18,14 @@ negated m = cond (eqb m 0) 0 (2 ^ 64 - m)
 
 -- "the result lies in -2^63 to 2^63-1"
 abbrev pub signed : Bool → ℕ → Read ℕ
-signed true m = cond (leb m (2 ^ 63)) (got (negated m)) (refused (format 22))
-signed false m = cond (ltb m (2 ^ 63)) (got m) (refused (format 22))
+signed true m = cond (leb m (2 ^ 63)) (got (negated m)) (refused (format fields.zoneOffset))
+signed false m = cond (ltb m (2 ^ 63)) (got m) (refused (format fields.zoneOffset))
 
 -- sign and the magnitude that was read
 abbrev pub signedOf : Bool → Number → Read ℕ
 signedOf neg (Value m) = signed neg m
-signedOf neg Encoding = refused (encoding 22)
-signedOf neg Format = refused (format 22)
+signedOf neg Encoding = refused (encoding fields.zoneOffset)
+signedOf neg Format = refused (format fields.zoneOffset)
 
 -- "An offset may start with one `-`; the rest is a typed time"
 unfoldable pub offsetOf : List ℕ → Read ℕ

@@ -3,6 +3,7 @@ use Prim.Native.Nat.{ℕ}
 use mathlib.Core.Bool.{true, false, cond}
 use mathlib.Core.List.{List}
 use lib.ListN.{length}
+use Rattle.sdp_numbers.specs.Refusals as refusals
 use Rattle.sdp_utf8.specs.Utf8.{isUtf8}
 use Rattle.sdp_bytes.specs.Token.{isToken}
 use Rattle.sdp_number.specs.Number.{wholeNumber, typedTime}
@@ -32,19 +33,19 @@ pub data Read (A : Type 0) : Type 0 where
 
 -- 8: not UTF-8, with the field's number
 abbrev pub encoding : ℕ → Wrong
-encoding w = record { number = 8; field = w }
+encoding w = record { number = refusals.encoding; field = w }
 
 -- 9: bad form
 abbrev pub format : ℕ → Wrong
-format w = record { number = 9; field = w }
+format w = record { number = refusals.format; field = w }
 
 -- 10: the field is missing
 abbrev pub missing : ℕ → Wrong
-missing w = record { number = 10; field = w }
+missing w = record { number = refusals.missingField; field = w }
 
 -- 11: something follows the last field
 abbrev pub trailing : ℕ → Wrong
-trailing w = record { number = 11; field = w }
+trailing w = record { number = refusals.trailingData; field = w }
 
 -- the refusal of field w by the name of what is wrong with it
 abbrev pub wrongOf : Fault → ℕ → Wrong

@@ -49,7 +49,7 @@ pub fn take(
 
 // What the first line that is not empty says; it must be v=0. Its value stands at a place of the text.
 fn opening_at(at: Place, number: LineNumber, letter: u8, value: &[u8]) -> Opening
-    ensures { λ r. ⌜ r ≡ openingOf (at .0) (number .0) letter (now (value .entry)) ⌝ }
+    ensures { λ r. ⌜ r ≡ openingOf (number .0) (at .0) letter (now (value .entry)) ⌝ }
 {
     if letter != b'v' {
         return Opening::Refused(Answer {
@@ -76,14 +76,14 @@ fn opening_at(at: Place, number: LineNumber, letter: u8, value: &[u8]) -> Openin
 
 // The same of a line, which is taken apart.
 fn opening_of<'t>(at: Place, line: Line<'t>) -> Opening
-    ensures { λ r. ⌜ r ≡ openingOf (at .0) (line .entry .number .0) (line .entry .letter) (now (line .entry .value)) ⌝ }
+    ensures { λ r. ⌜ r ≡ openingOf (line .entry .number .0) (at .0) (line .entry .letter) (now (line .entry .value)) ⌝ }
 {
     opening_at(at, line.number, line.letter, line.value)
 }
 
 // The same from plain parameters, as `take`.
 pub fn opening_line(at: Place, number: LineNumber, letter: u8, value: &[u8]) -> Opening
-    ensures { λ r. ⌜ r ≡ openingOf (at .0) (number .0) letter (now (value .entry)) ⌝ }
+    ensures { λ r. ⌜ r ≡ openingOf (number .0) (at .0) letter (now (value .entry)) ⌝ }
 {
     opening_of(at, made(number, letter, value))
 }

@@ -1,6 +1,7 @@
 -- The answers of the code as the enums that it hands out: the record, one offset or one pair, or the refusal in the paper's numbers (Wrong).
 use Prim.Native.Nat.{ℕ}
 use mathlib.Core.List.{List}
+use Rattle.sdp_numbers.specs.Fields as fields
 use Rattle.sdp_number.specs.Number.{wholeNumber, typedTime}
 use Rattle.sdp_split.specs.Split.{part, wordAt}
 use Rattle.sdp_judge.specs.Read.{Read, got, refused, missing, amountOf}
@@ -29,7 +30,7 @@ zoneDone n e (refused x) = Refused x
 
 -- its second field: a missing offset is 10 at field 22
 abbrev pub zoneSecond : ℕ → List ℕ → Field → ZoneRead
-zoneSecond n v field.Nothing = Refused (missing 22)
+zoneSecond n v field.Nothing = Refused (missing fields.zoneOffset)
 zoneSecond n v (field.Got p e) = zoneDone n e (offsetOf (part v p))
 
 -- what follows its first field
@@ -40,7 +41,7 @@ zoneFirst v (amount.Refused x) = Refused x
 -- its first field: where none is left the line is done
 abbrev pub zoneField : List ℕ → Field → ZoneRead
 zoneField v field.Nothing = Done
-zoneField v (field.Got p e) = zoneFirst v (amountOf 21 e (wholeNumber 64 (part v p)))
+zoneField v (field.Got p e) = zoneFirst v (amountOf fields.adjustment e (wholeNumber 64 (part v p)))
 
 -- the pair from place i on
 unfoldable pub zoneAt : List ℕ → ℕ → ZoneRead
@@ -54,7 +55,7 @@ offsetTaken (amount.Refused x) = offsets.Refused x
 -- its field: where none is left the line is done
 abbrev pub offsetField : List ℕ → Field → RepeatOffset
 offsetField v field.Nothing = offsets.Done
-offsetField v (field.Got p e) = offsetTaken (amountOf 20 e (typedTime (part v p)))
+offsetField v (field.Got p e) = offsetTaken (amountOf fields.offset e (typedTime (part v p)))
 
 -- the offset from place i on
 unfoldable pub offsetAt : List ℕ → ℕ → RepeatOffset

@@ -2,6 +2,7 @@
 use Prim.Native.Nat.{ℕ}
 use mathlib.Core.List.{List, [], _∷_}
 use lib.ListN.{drop}
+use Rattle.sdp_numbers.specs.Fields as fields
 use Rattle.sdp_number.specs.Number.{wholeNumber, typedTime}
 use Rattle.sdp_number.specs.declared.Number.{Number}
 use Rattle.sdp_number.specs.declared.Number.the-variants.{Value, Encoding, Format}
@@ -20,14 +21,14 @@ numbered w Format = refused (format w)
 -- r, "interval, duration, any count of offsets, none allowed": interval and duration, and where the offsets begin
 unfoldable pub repeatHead : List ℕ → Read RepeatHead
 repeatHead v =
-    afterAmount (timeOf 18 v (wordAt v 0)) (λ interval e.
-    afterAmount (timeOf 19 v (wordAt v e)) (λ duration e.
+    afterAmount (timeOf fields.interval v (wordAt v 0)) (λ interval e.
+    afterAmount (timeOf fields.duration v (wordAt v e)) (λ duration e.
     got (record { «repeat_interval» = interval; «active_duration» = duration; next = e })))
 
 -- its offsets: each word is a typed time of field 20
 unfoldable pub offsetsOf : List (List ℕ) → Read (List ℕ)
 offsetsOf [] = got []
-offsetsOf (x ∷ xs) = andThen (numbered 20 (typedTime x)) (λ n. andThen (offsetsOf xs) (λ ns. got (n ∷ ns)))
+offsetsOf (x ∷ xs) = andThen (numbered fields.offset (typedTime x)) (λ n. andThen (offsetsOf xs) (λ ns. got (n ∷ ns)))
 
 -- a whole r line
 pub record RepeatLine : Type 0 where
@@ -45,9 +46,9 @@ repeatOf v =
 -- "pairs are read until a missing adjustment time ends the list with the pairs so far"; a missing offset is 10 at field 22
 unfoldable pub pairsOf : List (List ℕ) → Read (List Zone)
 pairsOf [] = got []
-pairsOf (a ∷ []) = andThen (numbered 21 (wholeNumber 64 a)) (λ n. refused (missing 22))
+pairsOf (a ∷ []) = andThen (numbered fields.adjustment (wholeNumber 64 a)) (λ n. refused (missing fields.zoneOffset))
 pairsOf (a ∷ o ∷ ws) =
-    andThen (numbered 21 (wholeNumber 64 a)) (λ n.
+    andThen (numbered fields.adjustment (wholeNumber 64 a)) (λ n.
     andThen (offsetOf o) (λ m.
     andThen (pairsOf ws) (λ zs. got (record { «adjustment_time» = n; offset = m } ∷ zs))))
 

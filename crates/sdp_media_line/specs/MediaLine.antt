@@ -4,6 +4,7 @@ use mathlib.Core.Bool.{true, false, cond}
 use mathlib.Core.List.{List}
 use lib.ListN.{length, take, drop}
 use lib.Dec.{ltb}
+use Rattle.sdp_numbers.specs.Fields as fields
 use Rattle.sdp_bytes.specs.Runs.{indexOf}
 use Rattle.sdp_utf8.specs.Utf8.{isUtf8}
 use Rattle.sdp_number.specs.Number.{wholeNumber}
@@ -27,27 +28,27 @@ portNumber w Format k = refused (format w)
 abbrev pub numPorts : List ℕ → ℕ → (MaybeNumber → Read Port) → Read Port
 numPorts s i k =
     cond (ltb i (length s))
-    (portNumber 30 (wholeNumber 16 (drop (i + 1) s)) (λ n. k (record { there = true; value = n })))
+    (portNumber fields.numPorts (wholeNumber 16 (drop (i + 1) s)) (λ n. k (record { there = true; value = n })))
     (k (record { there = false; value = 0 }))
 
 -- "`port` or `port/num`, cut at the first slash; the whole field's UTF-8 (8, field 29) is tested before the cut, then the port is judged, then num"
 unfoldable pub portOf : List ℕ → Read Port
 portOf s =
     cond (isUtf8 s)
-    (portNumber 28 (wholeNumber 16 (take (indexOf 0x2f s) s)) (λ port.
+    (portNumber fields.port (wholeNumber 16 (take (indexOf 0x2f s) s)) (λ port.
     numPorts s (indexOf 0x2f s) (λ num. got (record { port = port; «num_ports» = num }))))
-    (refused (encoding 29))
+    (refused (encoding fields.portEncoding))
 
 -- the port's field; a missing one is 10 at field 28
 abbrev pub afterPort : {A : Type 0} → List ℕ → Field → (Port → ℕ → Read A) → Read A
-afterPort v field.Nothing k = refused (missing 28)
+afterPort v field.Nothing k = refused (missing fields.port)
 afterPort v (field.Got p e) k = andThen (portOf (part v p)) (λ port. k port e)
 
 -- m: media name, port, proto, fmt
 unfoldable pub mediaOf : List ℕ → Read Media
 mediaOf v =
-    afterText (textOf 27 v (firstPiece 0x20 v)) (λ name e.
+    afterText (textOf fields.mediaName v (firstPiece 0x20 v)) (λ name e.
     afterPort v (pieceAfter 0x20 v e) (λ port e.
-    afterText (textOf 31 v (pieceAfter 0x20 v e)) (λ proto e.
-    afterText (textOf 32 v (restAfter v e)) (λ fmt e.
+    afterText (textOf fields.proto v (pieceAfter 0x20 v e)) (λ proto e.
+    afterText (textOf fields.fmt v (restAfter v e)) (λ fmt e.
     got (record { media = name; port = port .port; «num_ports» = port .«num_ports»; proto = proto; fmt = fmt })))))

@@ -4,16 +4,17 @@ use mathlib.Core.Bool.{Bool, true, false, _&&_, cond}
 use mathlib.Core.List.{List, [], _∷_}
 use lib.ListN.{length, getD, take}
 use lib.Dec.{ltb, eqb}
+use Rattle.sdp_numbers.specs.Refusals as refusals
 use Rattle.sdp_bytes.specs.Token.{digit}
 use Rattle.sdp_utf8.specs.Utf8.{isUtf8}
 use Rattle.sdp_number.specs.declared.Number.{Number}
 use Rattle.sdp_number.specs.declared.Number.the-variants.{Value, Encoding, Format}
 
--- the paper's refusal number of each answer, 0 for a value: 8 encoding, 9 format
+-- the paper's refusal number of each answer, 0 for a value
 abbrev pub refusal : Number → ℕ
 refusal (Value v) = 0
-refusal Encoding = 8
-refusal Format = 9
+refusal Encoding = refusals.encoding
+refusal Format = refusals.format
 
 -- the value, 0 where there is none
 abbrev pub valueOf : Number → ℕ

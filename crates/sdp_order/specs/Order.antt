@@ -5,6 +5,8 @@ use mathlib.Core.List.{List, [], _∷_}
 use mathlib.Core.Option.{Option, none, some}
 use lib.ListN.{length}
 use lib.Dec.{ltb}
+use Rattle.sdp_numbers.specs.Refusals as refusals
+use Rattle.sdp_numbers.specs.Refusals.{longestText}
 use Rattle.sdp_lines.specs.Lines.{Raw, split, content, formOf}
 use Rattle.sdp_lines.specs.declared.Form.{Form}
 use Rattle.sdp_lines.specs.declared.Form.the-variants.{Blank, Good, Bad}
@@ -82,10 +84,10 @@ run x (some ls) = matches x ls
 
 -- "Yes exactly when every non-empty line has good form and the letters run .."; "a text over 32,768 bytes is refused with 1"
 unfoldable pub orderOf : List ℕ → Order
-orderOf text = cond (ltb 32768 (length text)) TooLong (cond (run grammar (letters (split text))) InOrder OutOfOrder)
+orderOf text = cond (ltb longestText (length text)) TooLong (cond (run grammar (letters (split text))) InOrder OutOfOrder)
 
 -- the answer in the paper's numbers: "1 text over 32,768 bytes", else 0; and 1 for yes, 0 for no
 abbrev pub verdictOf : Order → Verdict
 verdictOf InOrder = record { number = 0; yes = 1 }
 verdictOf OutOfOrder = record { number = 0; yes = 0 }
-verdictOf TooLong = record { number = 1; yes = 0 }
+verdictOf TooLong = record { number = refusals.textTooLong; yes = 0 }

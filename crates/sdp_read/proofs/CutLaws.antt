@@ -131,4 +131,4 @@ module _ (s : List ℕ) (c : Cursor) where
       go End u = tt
       go (Refused f n) u = tt
       go (Empty d) h = h
-      go (Line l v d) h = opened d (openingOf (v .at .0) (c .line .0) l (bytesOf s v)) (h .0)
+      go (Line l v d) h = opened d (openingOf (c .line .0) (v .at .0) l (bytesOf s v)) (h .0)

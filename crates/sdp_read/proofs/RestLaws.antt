@@ -68,7 +68,7 @@ module _ (s : List ℕ) (short : length s ≤ 32768) (c : Cursor) (w : Reached s
 
   -- ---- before it
   opened-on : (p l : ℕ) (v : List ℕ) (k : Verdict Span) → k ≡ runAt s fresh next
-      → version spanAt (c .line .0) p v l k ≡ searchOn s (openedTo next (openingOf p (c .line .0) l v))
+      → version spanAt (c .line .0) p v l k ≡ searchOn s (openedTo next (openingOf (c .line .0) p l v))
   opened-on p l v k e = go (eqb l 0x76) (isZero v)
     where
       go : (x y : Bool) → cond x (cond y k (refused (badVersion (c .line .0) p (length v)))) (refused noVersion)

@@ -85,7 +85,7 @@ openedTo d (opening.Refused x) = Told (version.Refused x)
 
 -- a line of good form, as goodLine
 abbrev pub openedLine : List ℕ → ℕ → ℕ → Span → Cursor → Search
-openedLine s n l v d = openedTo d (openingOf (v .at .0) n l (bytesOf s v))
+openedLine s n l v d = openedTo d (openingOf n (v .at .0) l (bytesOf s v))
 
 -- the line of number n, by what was cut
 abbrev pub versionBy : List ℕ → ℕ → Cut → Search

@@ -1,9 +1,12 @@
--- Document 01, "Lines", "Refusal numbers": a text, line by line. The runner alone knows a line's number and its place.
+-- Document 01, "Lines", "Refusal numbers": a text, line by line. The runner alone knows a line's number and its place;
+-- where both are plain numbers, the line's stands first.
 use Prim.Native.Nat.{ℕ, _+_}
 use mathlib.Core.Bool.{cond}
 use mathlib.Core.List.{List, [], _∷_, _++_}
 use lib.ListN.{length, drop}
 use lib.Dec.{ltb, eqb}
+use Rattle.sdp_numbers.specs.Refusals as refusals
+use Rattle.sdp_numbers.specs.Refusals.{longestText}
 use Rattle.sdp_lines.specs.Lines.{Raw, split, content, width, formOf}
 use Rattle.sdp_lines.specs.Answers.{faultNumber}
 use Rattle.sdp_lines.specs.declared.Span.{Span}
@@ -79,6 +82,6 @@ outcomeOf a (refused x) = record { answer = x; area = zeros size ++ drop size a 
 -- "Order: 2, 1, then line by line"; "Area too short or text too long: area unchanged"
 unfoldable pub readText : List ℕ → List ℕ → Outcome
 readText s a =
-    cond (ltb (length a) size) (record { answer = answer 2 0 0; area = a })
-    (cond (ltb 32768 (length s)) (record { answer = answer 1 0 0; area = a })
+    cond (ltb (length a) size) (record { answer = answer refusals.areaTooShort 0 0; area = a })
+    (cond (ltb longestText (length s)) (record { answer = answer refusals.textTooLong 0 0; area = a })
     (outcomeOf a (lines spanAt s)))

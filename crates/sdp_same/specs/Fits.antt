@@ -3,6 +3,8 @@ use Prim.Native.Nat.{ℕ, _^_, _<_, _≤_}
 use mathlib.Core.List.{List, [], _∷_}
 use mathlib.Core.Option.{Option, none, some}
 use lib.ListN.{length}
+use Rattle.sdp_numbers.specs.Tables.{mostEmails, mostPhones, mostMediaConnections, mostBandwidths, mostTimes}
+use Rattle.sdp_numbers.specs.Tables.{mostRepeats, mostOffsets, mostZones, mostAttributes, mostMedias}
 use Rattle.sdp_lines.specs.declared.Span.{Span}
 use Rattle.sdp_area.specs.Session.{Origin, Connection, Key, MediaConnection, Bandwidth, Time, Repeat, Offset, Zone, Attribute, Media, Head, Tables, Session}
 use Rattle.sdp_area.specs.With.{withName}
@@ -106,16 +108,16 @@ pub record FitHead (P : Span → Type 0) (h : Head Span) : Type 0 where
 
 -- the ten tables
 pub record FitTables (P : Span → Type 0) (t : Tables Span) : Type 0 where
-  pub emails : Rows 16 P (t .emails)
-  pub phones : Rows 16 P (t .phones)
-  pub connections : Rows 64 (FitMediaConnection P) (t .connections)
-  pub bandwidths : Rows 64 (FitBandwidth P) (t .bandwidths)
-  pub times : Rows 32 FitTime (t .times)
-  pub repeats : Rows 64 FitRepeat (t .repeats)
-  pub offsets : Rows 256 FitOffset (t .offsets)
-  pub zones : Rows 64 FitZone (t .zones)
-  pub attributes : Rows 512 (FitAttribute P) (t .attributes)
-  pub medias : Rows 32 (FitMedia P) (t .medias)
+  pub emails : Rows mostEmails P (t .emails)
+  pub phones : Rows mostPhones P (t .phones)
+  pub connections : Rows mostMediaConnections (FitMediaConnection P) (t .connections)
+  pub bandwidths : Rows mostBandwidths (FitBandwidth P) (t .bandwidths)
+  pub times : Rows mostTimes FitTime (t .times)
+  pub repeats : Rows mostRepeats FitRepeat (t .repeats)
+  pub offsets : Rows mostOffsets FitOffset (t .offsets)
+  pub zones : Rows mostZones FitZone (t .zones)
+  pub attributes : Rows mostAttributes (FitAttribute P) (t .attributes)
+  pub medias : Rows mostMedias (FitMedia P) (t .medias)
 
 -- a session
 pub record Fits (P : Span → Type 0) (s : Session Span) : Type 0 where

@@ -4,6 +4,7 @@ use mathlib.Core.Logic.{_⊎_}
 use mathlib.Core.List.{List, _++_}
 use Prim.Native.Nat.{ℕ}
 use lib.ListN.{length, drop}
+use Rattle.sdp_numbers.specs.Refusals as refusals
 use Rattle.sdp_lines.specs.Strings.{bytesOf}
 use Rattle.sdp_lines.specs.declared.Span.{Span}
 use Rattle.sdp_area.specs.Session.{Session}
@@ -23,4 +24,4 @@ pub record ReadThenWritten (t a o : List ℕ) : Type 0 where
   pub read : lines spanAt t ≡ accepted session
   pub text : textOf t (readText t a .area) ≡ written (bytesOf t) session
   pub outcome : writeText t (readText t a .area) o ≡ fill (written (bytesOf t) session) o
-  pub answer : (writeText t (readText t a .area) o .answer .number ≡ 0) ⊎ (writeText t (readText t a .area) o .answer .number ≡ 22)
+  pub answer : (writeText t (readText t a .area) o .answer .number ≡ 0) ⊎ (writeText t (readText t a .area) o .answer .number ≡ refusals.outputTooShort)

@@ -94,7 +94,7 @@ ofV =
     0x73 ∷ 0x3d ∷ 0x0d ∷ 0x0a ∷ 0x74 ∷ 0x3d ∷ 0x30 ∷ 0x20 ∷ 0x30 ∷ 0x0d ∷ 0x0a ∷ []
 
 -- ---- what a sample says
--- number, line, field, place, length
+-- number, line, field, place, length; the numbers stand here as the paper says them, so the samples hold their names to it too
 abbrev pub five : ℕ → ℕ → ℕ → ℕ → ℕ → Answer
 five number line field place len = record { number = number; line = line; field = field; place = place; len = len }
 

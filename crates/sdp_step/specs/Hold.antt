@@ -4,6 +4,7 @@ use mathlib.Core.Bool.{false}
 use mathlib.Core.List.{List, [], _++_}
 use Prim.Native.Nat.{ℕ}
 use lib.ListN.{drop}
+use Rattle.sdp_numbers.specs.Refusals as refusals
 use Rattle.sdp_lines.specs.declared.Span.{Span}
 use Rattle.sdp_area.specs.Session.{Within}
 use Rattle.sdp_area.specs.Area.{encode, size}
@@ -42,7 +43,7 @@ Takes f m r a a′ = (ρ : Reading Span) (t : List ℕ) → Holds ρ m a t → H
 -- a row that was stored, or did not fit the table
 abbrev pub storedOf : Pushed → ℕ → Marks → Taken
 storedOf Stored table m = Kept m
-storedOf Full table m = Refused 21 table
+storedOf Full table m = Refused refusals.tableFull table
 
 -- a line of the role x, whose value v stands at place p
 abbrev pub Reads : Role → ℕ → List ℕ → Marks → Taken → List ℕ → List ℕ → Type 0

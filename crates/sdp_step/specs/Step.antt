@@ -6,6 +6,11 @@ use mathlib.Core.List.{List, [], _∷_, _++_, map}
 use mathlib.Core.Option.{Option, none, some}
 use lib.ListN.{length}
 use lib.Dec.{ltb, leb, eqb}
+use Rattle.sdp_numbers.specs.Refusals as refusals
+use Rattle.sdp_numbers.specs.Fields as fields
+use Rattle.sdp_numbers.specs.Tables as tables
+use Rattle.sdp_numbers.specs.Tables.{mostEmails, mostPhones, mostMediaConnections, mostBandwidths, mostTimes}
+use Rattle.sdp_numbers.specs.Tables.{mostRepeats, mostOffsets, mostZones, mostAttributes, mostMedias}
 use Rattle.sdp_split.specs.declared.Piece.{Piece}
 use Rattle.sdp_judge.specs.declared.MaybePiece.{MaybePiece}
 use Rattle.sdp_media_line.specs.declared.MaybeNumber.{MaybeNumber}
@@ -52,7 +57,7 @@ once n false (refused w) k = stopped w
 
 -- "21 is given exactly for a line that the Rust accepts there and whose records no longer fit": a table of c rows with room for cap
 unfoldable pub row : {S A : Type 0} → ℕ → ℕ → ℕ → Read A → (A → Reading S) → Stepped S
-row table cap c (got x) k = cond (ltb c cap) (goes (k x)) (stops 21 table)
+row table cap c (got x) k = cond (ltb c cap) (goes (k x)) (stops refusals.tableFull table)
 row table cap c (refused w) k = stopped w
 
 -- ---- a record's pieces as strings
@@ -121,11 +126,11 @@ withRepeat s q ns =
 -- of two full tables the lower number is named
 abbrev pub repeatTaken : {S : Type 0} → Reading S → Repeat → List ℕ → Stepped S
 repeatTaken ρ q ns =
-    cond (ltb (length (ρ .session .tables .repeats)) 64)
-    (cond (leb (length (ρ .session .tables .offsets) + length ns) 256)
+    cond (ltb (length (ρ .session .tables .repeats)) mostRepeats)
+    (cond (leb (length (ρ .session .tables .offsets) + length ns) mostOffsets)
     (goes (record { session = withRepeat (ρ .session) q ns; zoned = ρ .zoned }))
-    (stops 21 7))
-    (stops 21 6)
+    (stops refusals.tableFull tables.offsets))
+    (stops refusals.tableFull tables.repeats)
 
 -- ---- the steps
 module _ {S : Type 0} (mk : Piece → S) (ρ : Reading S) (v : List ℕ) where
@@ -145,41 +150,58 @@ module _ {S : Type 0} (mk : Piece → S) (ρ : Reading S) (v : List ℕ) where
   -- the z line: its being there is kept even where it has no pairs
   abbrev pub zonesTaken : List zone.Zone → Stepped S
   zonesTaken zs =
-      cond (leb (length zs) 64) (goes (record { session = withZones (ρ .session) (map zoneIn zs); zoned = true })) (stops 21 8)
+      cond (leb (length zs) mostZones)
+      (goes (record { session = withZones (ρ .session) (map zoneIn zs); zoned = true }))
+      (stops refusals.tableFull tables.zones)
 
   unfoldable pub stepRole : Role → Stepped S
-  stepRole role.Origin = once 12 (given (ρ .session .head .origin)) (originOf v) (λ o. goes (keep (withOrigin (ρ .session) (originIn mk o))))
-  stepRole role.Name = once 13 (given (ρ .session .head .name)) (wholeOf 34 v) (λ p. goes (keep (withName (ρ .session) (mk p))))
-  stepRole role.Description = once 14 (given (ρ .session .head .description)) (wholeOf 35 v) (λ p. goes (keep (withDescription (ρ .session) (mk p))))
-  stepRole role.Uri = once 15 (given (ρ .session .head .uri)) (wholeOf 36 v) (λ p. goes (keep (withUri (ρ .session) (mk p))))
+  stepRole role.Origin =
+      once refusals.secondOrigin (given (ρ .session .head .origin)) (originOf v)
+      (λ o. goes (keep (withOrigin (ρ .session) (originIn mk o))))
+  stepRole role.Name =
+      once refusals.secondName (given (ρ .session .head .name)) (wholeOf fields.name v)
+      (λ p. goes (keep (withName (ρ .session) (mk p))))
+  stepRole role.Description =
+      once refusals.secondDescription (given (ρ .session .head .description)) (wholeOf fields.description v)
+      (λ p. goes (keep (withDescription (ρ .session) (mk p))))
+  stepRole role.Uri =
+      once refusals.secondUri (given (ρ .session .head .uri)) (wholeOf fields.uri v)
+      (λ p. goes (keep (withUri (ρ .session) (mk p))))
   stepRole role.Connection =
-      once 16 (given (ρ .session .head .connection)) (connectionOf v) (λ c. goes (keep (withConnection (ρ .session) (connectionIn mk c))))
-  stepRole role.Zone = once 17 (ρ .zoned) (zonesOf v) zonesTaken
-  stepRole role.Key = once 19 (given (ρ .session .head .key)) (pairOf 25 26 v) (λ p. goes (keep (withKey (ρ .session) (keyIn mk p))))
+      once refusals.secondConnection (given (ρ .session .head .connection)) (connectionOf v)
+      (λ c. goes (keep (withConnection (ρ .session) (connectionIn mk c))))
+  stepRole role.Zone = once refusals.secondZones (ρ .zoned) (zonesOf v) zonesTaken
+  stepRole role.Key =
+      once refusals.secondKey (given (ρ .session .head .key)) (pairOf fields.keyMethod fields.keyText v)
+      (λ p. goes (keep (withKey (ρ .session) (keyIn mk p))))
   stepRole role.MediaTitle =
-      once 18 (lastTitled (ρ .session .tables .medias)) (wholeOf 33 v)
+      once refusals.secondTitle (lastTitled (ρ .session .tables .medias)) (wholeOf fields.mediaTitle v)
       (λ p. goes (keep (withMedias (ρ .session) (setLast (titled (mk p)) (ρ .session .tables .medias)))))
   stepRole role.MediaKey =
-      once 19 (lastKeyed (ρ .session .tables .medias)) (pairOf 25 26 v)
+      once refusals.secondKey (lastKeyed (ρ .session .tables .medias)) (pairOf fields.keyMethod fields.keyText v)
       (λ p. goes (keep (withMedias (ρ .session) (setLast (keyed (keyIn mk p)) (ρ .session .tables .medias)))))
   stepRole role.Email =
-      row 1 16 (length (ρ .session .tables .emails)) (wholeOf 37 v) (λ p. keep (withEmails (ρ .session) (ρ .session .tables .emails ++ (mk p ∷ []))))
+      row tables.emails mostEmails (length (ρ .session .tables .emails)) (wholeOf fields.email v)
+      (λ p. keep (withEmails (ρ .session) (ρ .session .tables .emails ++ (mk p ∷ []))))
   stepRole role.Phone =
-      row 2 16 (length (ρ .session .tables .phones)) (wholeOf 38 v) (λ p. keep (withPhones (ρ .session) (ρ .session .tables .phones ++ (mk p ∷ []))))
+      row tables.phones mostPhones (length (ρ .session .tables .phones)) (wholeOf fields.phone v)
+      (λ p. keep (withPhones (ρ .session) (ρ .session .tables .phones ++ (mk p ∷ []))))
   stepRole role.MediaConnection =
-      row 3 64 (length (ρ .session .tables .connections)) (connectionOf v)
+      row tables.mediaConnections mostMediaConnections (length (ρ .session .tables .connections)) (connectionOf v)
       (λ c. keep (withConnections (ρ .session) (ρ .session .tables .connections ++ (mediaConnectionIn mk section c ∷ []))))
   stepRole role.Bandwidth =
-      row 4 64 (length (ρ .session .tables .bandwidths)) (bandwidthOf v)
+      row tables.bandwidths mostBandwidths (length (ρ .session .tables .bandwidths)) (bandwidthOf v)
       (λ b. keep (withBandwidths (ρ .session) (ρ .session .tables .bandwidths ++ (bandwidthIn mk section b ∷ []))))
   stepRole role.Time =
-      row 5 32 (length (ρ .session .tables .times)) (timesOf v) (λ t. keep (withTimes (ρ .session) (ρ .session .tables .times ++ (timeIn t ∷ []))))
-  stepRole role.Repeat = cond (eqb (length (ρ .session .tables .times)) 0) (stops 20 0) (repeated (repeatOf v))
+      row tables.times mostTimes (length (ρ .session .tables .times)) (timesOf v)
+      (λ t. keep (withTimes (ρ .session) (ρ .session .tables .times ++ (timeIn t ∷ []))))
+  stepRole role.Repeat = cond (eqb (length (ρ .session .tables .times)) 0) (stops refusals.repeatWithoutTime 0) (repeated (repeatOf v))
   stepRole role.Attribute =
-      row 9 512 (length (ρ .session .tables .attributes)) (pairOf 23 24 v)
+      row tables.attributes mostAttributes (length (ρ .session .tables .attributes)) (pairOf fields.attribute fields.attributeValue v)
       (λ p. keep (withAttributes (ρ .session) (ρ .session .tables .attributes ++ (attributeIn mk section p ∷ []))))
   stepRole role.Media =
-      row 10 32 (length (ρ .session .tables .medias)) (mediaOf v) (λ m. keep (withMedias (ρ .session) (ρ .session .tables .medias ++ (mediaIn mk m ∷ []))))
+      row tables.medias mostMedias (length (ρ .session .tables .medias)) (mediaOf v)
+      (λ m. keep (withMedias (ρ .session) (ρ .session .tables .medias ++ (mediaIn mk m ∷ []))))
   stepRole role.Nothing = goes ρ
 
   -- a line of good form with the letter l; "every other line is ignored, a later `v=` too"

@@ -5,6 +5,7 @@ use mathlib.Core.Bool.{cond}
 use mathlib.Core.List.{List, [], _++_}
 use lib.Dec.{eqb}
 use lib.ListN.{length, drop}
+use Rattle.sdp_numbers.specs.Tables.{mostRepeats, mostOffsets}
 use Rattle.sdp_lines.specs.declared.Span.{Span}
 use Rattle.sdp_split.specs.Split.{words}
 use Rattle.sdp_judge.specs.Read.{Read, got, refused}
@@ -51,10 +52,10 @@ areaAfter NoOffsets a b = a
 -- what the area holds after the offsets ns
 abbrev pub RoomHolds : Session Span → Repeat → List ℕ → Room → List ℕ → List ℕ → Type 0
 RoomHolds s q ns Open a t =
-    (length (s .tables .repeats) < 64) × (length (s .tables .offsets) + length ns ≤ 256) × (a ≡ encode (withRepeat s q ns) ++ t)
-RoomHolds s q ns NoRepeats a t = (64 ≤ length (s .tables .repeats)) × (drop size a ≡ t)
+    (length (s .tables .repeats) < mostRepeats) × (length (s .tables .offsets) + length ns ≤ mostOffsets) × (a ≡ encode (withRepeat s q ns) ++ t)
+RoomHolds s q ns NoRepeats a t = (mostRepeats ≤ length (s .tables .repeats)) × (drop size a ≡ t)
 RoomHolds s q ns NoOffsets a t =
-    (length (s .tables .repeats) < 64) × (256 < length (s .tables .offsets) + length ns) × (drop size a ≡ t)
+    (length (s .tables .repeats) < mostRepeats) × (mostOffsets < length (s .tables .offsets) + length ns) × (drop size a ≡ t)
 
 -- the step of an r line whose repeat is q
 abbrev pub offsetsStep : Reading Span → Repeat → Read (List ℕ) → Stepped Span

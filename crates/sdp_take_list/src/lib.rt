@@ -2,6 +2,7 @@
 ghost use mathlib.Core.Path.{_≡_};
 ghost use Prim.Native.Nat.{_+_, _≤_};
 ghost use lib.ListN.{length};
+ghost use Rattle.sdp_numbers.specs.Tables.{mostOffsets};
 ghost use Rattle.sdp_cells.specs.Bytes.{num};
 ghost use Rattle.sdp_cells.specs.Tables.{told, grown};
 ghost use Rattle.sdp_area.specs.Area.{size, offsetRow, timesAt, offsetsAt};
@@ -69,8 +70,8 @@ fn offset_room(p: Pushed) -> Room
 // One offset more, where all fitted so far.
 fn add_offset(area: &mut [u8], room: Room, owner: usize, value: u64) -> Room
     requires { ⌜ size ≤ length (now area) ⌝ }
-    ensures { λ r. ⌜ r ≡ roomAfter room (told (now (area .entry)) offsetsAt 256) ⌝ }
-    ensures { λ r. ⌜ now (area .exit) ≡ areaAfter room (now (area .entry)) (grown (now (area .entry)) offsetsAt 256 (offsetRow (record { owner = owner; offset = value }))) ⌝ }
+    ensures { λ r. ⌜ r ≡ roomAfter room (told (now (area .entry)) offsetsAt mostOffsets) ⌝ }
+    ensures { λ r. ⌜ now (area .exit) ≡ areaAfter room (now (area .entry)) (grown (now (area .entry)) offsetsAt mostOffsets (offsetRow (record { owner = owner; offset = value }))) ⌝ }
 {
     match room {
         Room::Open => offset_room(push_offset(area, owner, value)),

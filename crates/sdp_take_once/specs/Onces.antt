@@ -1,5 +1,7 @@
 -- Document 01, "Lines": the lines that a session or a media has at most once, as the code names them.
 use Prim.Native.Nat.{ℕ}
+use Rattle.sdp_numbers.specs.Refusals as refusals
+use Rattle.sdp_numbers.specs.Fields as fields
 use Rattle.sdp_area.specs.declared.Text.{Text}
 use Rattle.sdp_area.specs.declared.Text.the-variants.{Description, Uri, Title}
 use Rattle.sdp_roles.specs.declared.Role.{Role}
@@ -15,15 +17,15 @@ textRole Title = role.MediaTitle
 
 -- the refusal number of a second
 abbrev pub textNumber : Text → ℕ
-textNumber Description = 14
-textNumber Uri = 15
-textNumber Title = 18
+textNumber Description = refusals.secondDescription
+textNumber Uri = refusals.secondUri
+textNumber Title = refusals.secondTitle
 
 -- the field that a wrong value is refused at
 abbrev pub textField : Text → ℕ
-textField Description = 35
-textField Uri = 36
-textField Title = 33
+textField Description = fields.description
+textField Uri = fields.uri
+textField Title = fields.mediaTitle
 
 -- any of them
 abbrev pub onceRole : Once → Role

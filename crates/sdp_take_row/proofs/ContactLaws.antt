@@ -11,7 +11,7 @@ use Rattle.sdp_cells.specs.Tables.{told, grown}
 use Rattle.sdp_cells.specs.declared.Pushed.{Pushed}
 use Rattle.sdp_area.specs.With.{withEmails, withPhones}
 use Rattle.sdp_area.specs.Area.{span}
-use Rattle.sdp_area.specs.Which.{contactsAt}
+use Rattle.sdp_area.specs.Which.{contactsAt, mostContacts}
 use Rattle.sdp_area.specs.declared.Contact.{Contact}
 use Rattle.sdp_area.specs.declared.Contact.the-variants.{Email, Phone}
 use Rattle.sdp_area.proofs.GrownLaws.{emails-grown, phones-grown}
@@ -34,7 +34,7 @@ module _ (ρ : Reading Span) (m : Marks) (a t : List ℕ) (h : Holds ρ m a t) (
 
   -- p is what the push answered, and a′ the area then
   pub contact-pushed : (x : Contact) → n ≡ contactField x → (q : Piece) (p : Pushed) (a′ : List ℕ) → wholeOf n v ≡ got q
-      → p ≡ told a (contactsAt x) 16 → a′ ≡ grown a (contactsAt x) 16 (span (mk q)) → Handled (stepRole mk ρ v (contactRole x)) (storedOf p (contactTable x) m) a′ t
+      → p ≡ told a (contactsAt x) (mostContacts x) → a′ ≡ grown a (contactsAt x) (mostContacts x) (span (mk q)) → Handled (stepRole mk ρ v (contactRole x)) (storedOf p (contactTable x) m) a′ t
   unfolding stepRole
   contact-pushed Email is q p a′ f e b =
       let g = emails-grown (ρ .session) t (h .within) a (h .bytes) (mk q) in

@@ -1,5 +1,7 @@
 -- Document 01, "Tables": the lines that are each one row of a table, as the code names them.
 use Prim.Native.Nat.{ℕ}
+use Rattle.sdp_numbers.specs.Fields as fields
+use Rattle.sdp_numbers.specs.Tables as tables
 use Rattle.sdp_area.specs.declared.Contact.{Contact}
 use Rattle.sdp_area.specs.declared.Contact.the-variants.{Email, Phone}
 use Rattle.sdp_roles.specs.declared.Role.{Role}
@@ -14,13 +16,13 @@ contactRole Phone = role.Phone
 
 -- the field that a wrong value is refused at
 abbrev pub contactField : Contact → ℕ
-contactField Email = 37
-contactField Phone = 38
+contactField Email = fields.email
+contactField Phone = fields.phone
 
 -- the number of the table
 abbrev pub contactTable : Contact → ℕ
-contactTable Email = 1
-contactTable Phone = 2
+contactTable Email = tables.emails
+contactTable Phone = tables.phones
 
 -- any of them
 abbrev pub rowRole : Row → Role

@@ -4,6 +4,8 @@ use mathlib.Core.Bool.{Bool, true, false, _&&_, _||_, cond}
 use mathlib.Core.List.{List}
 use lib.ListN.{length, take, drop}
 use lib.Dec.{leb, eqb}
+use Rattle.sdp_numbers.specs.Tables.{mostEmails, mostPhones, mostMediaConnections, mostBandwidths, mostTimes}
+use Rattle.sdp_numbers.specs.Tables.{mostRepeats, mostOffsets, mostZones, mostAttributes, mostMedias}
 use Rattle.sdp_utf8.specs.Utf8.{isUtf8}
 use Rattle.sdp_cells.specs.Bytes.{num}
 use Rattle.sdp_area.specs.Area.{originAt, nameAt, descriptionAt, uriAt, connectionAt, keyAt}
@@ -41,16 +43,16 @@ module _ (a : List ℕ) where
   -- "a count is above its table": the first five tables
   unfoldable pub smallCounts : Bool
   smallCounts =
-      leb (num 2 a emailsAt) 16
-      && (leb (num 2 a phonesAt) 16
-      && (leb (num 2 a connectionsAt) 64 && (leb (num 2 a bandwidthsAt) 64 && leb (num 2 a timesAt) 32)))
+      leb (num 2 a emailsAt) mostEmails
+      && (leb (num 2 a phonesAt) mostPhones
+      && (leb (num 2 a connectionsAt) mostMediaConnections && (leb (num 2 a bandwidthsAt) mostBandwidths && leb (num 2 a timesAt) mostTimes)))
 
   -- and the other five
   unfoldable pub largeCounts : Bool
   largeCounts =
-      leb (num 2 a repeatsAt) 64
-      && (leb (num 2 a offsetsAt) 256
-      && (leb (num 2 a zonesAt) 64 && (leb (num 2 a attributesAt) 512 && leb (num 2 a mediasAt) 32)))
+      leb (num 2 a repeatsAt) mostRepeats
+      && (leb (num 2 a offsetsAt) mostOffsets
+      && (leb (num 2 a zonesAt) mostZones && (leb (num 2 a attributesAt) mostAttributes && leb (num 2 a mediasAt) mostMedias)))
 
   -- "Bandwidths, connections and attributes name their owner (0 the session, else the media; never 0 for connections), repeats their time,
   -- offsets their repeat, counted from 1; owners never fall."

@@ -4,6 +4,8 @@ use mathlib.Core.Bool.{cond}
 use mathlib.Core.List.{List, _++_}
 use lib.ListN.{length, take, drop}
 use lib.Dec.{ltb}
+use Rattle.sdp_numbers.specs.Refusals as refusals
+use Rattle.sdp_numbers.specs.Refusals.{longestText}
 use Rattle.sdp_lines.specs.Strings.{bytesOf}
 use Rattle.sdp_lines.specs.declared.Answer.{Answer}
 use Rattle.sdp_area.specs.Area.{size}
@@ -32,12 +34,12 @@ wrote x = take (x .answer .len) (x .out)
 abbrev pub fill : List ℕ → List ℕ → Outcome
 fill w o =
     cond (ltb (length o) (length w))
-    (record { answer = answer 22 (length w); out = o })
+    (record { answer = answer refusals.outputTooShort (length w); out = o })
     (record { answer = answer 0 (length w); out = w ++ drop (length w) o })
 
 -- "for writing 2, 1, 23, 22"; "a refusal leaves the output as found"
 unfoldable pub writeText : List ℕ → List ℕ → List ℕ → Outcome
 writeText t a o =
-    cond (ltb (length a) size) (record { answer = answer 2 0; out = o })
-    (cond (ltb 32768 (length t)) (record { answer = answer 1 0; out = o })
-    (cond (wellFormed a t) (fill (textOf t a) o) (record { answer = answer 23 0; out = o })))
+    cond (ltb (length a) size) (record { answer = answer refusals.areaTooShort 0; out = o })
+    (cond (ltb longestText (length t)) (record { answer = answer refusals.textTooLong 0; out = o })
+    (cond (wellFormed a t) (fill (textOf t a) o) (record { answer = answer refusals.badSession 0; out = o })))

@@ -82,7 +82,7 @@ module _ {M : Type 1} (𝓤 : URA M) (H : Heap 𝓤) (A : Atoms 𝓤) (W : Given
   v = sliceVal (d .value .ptr) (length (d .value .now))
 
   abbrev found : Opening
-  found = openingOf (p .0) (d .number .0) (d .letter) (now (d .value))
+  found = openingOf (d .number .0) (p .0) (d .letter) (now (d .value))
 
   abbrev Post : Val → SProp 𝓤
   Post = walkOf 𝓤 H A take.ended stayed (take.clauses 𝓤 H A mem run) .post (((κ, tt), (q, tt), tt, (p, (d, tt)), (P′.lowered p ∷ [], (mach ∷ [], tt))), tt)

@@ -5,7 +5,7 @@ use Rattle.sdp_lines.specs.declared.Span.{Span}
 use Rattle.sdp_cells.specs.Tables.{grown}
 use Rattle.sdp_judge.proofs.EveryLaws.{whole-within}
 use Rattle.sdp_area.specs.Area.{span}
-use Rattle.sdp_area.specs.Which.{contactsAt}
+use Rattle.sdp_area.specs.Which.{contactsAt, mostContacts}
 use Rattle.sdp_strings.specs.Strings.{spanAt}
 use Rattle.sdp_step.proofs.AnswerLaws.{whole-got, whole-refused}
 use Rattle.sdp_take_row.proofs.ContactLaws.{contact-wrong, contact-pushed}
@@ -24,7 +24,7 @@ returns c ρ t h =
 returns-2 : tie.Need-returns-2
 returns-2 c ρ t h =
     let b = c .before .before .before .before .before .before .before .before .before .before .before .before .before .before .args in
-    rw (c .stored .ensures, c .before .contact-table .ensures) (contact-pushed ρ (b .marks) (b .area .now) t h (spanAt (b .at) (b .v .now)) (b .v .now) _ (b .which) (c .before .before .before .before .before .before .before .before .before .before .before .contact-field .ensures) _ _ _ (whole-got _ _ (sym (c .before .before .before .before .before .before .before .before .before .before .whole .ensures) ∙ c .before .before .before .before .before .before .before .before .p .given .1)) (c .before .before .before .before .push-contact .ensures .0) (c .before .before .before .before .push-contact .ensures .1 ∙ ap (λ (y : Span). grown (b .area .now) (contactsAt (b .which)) 16 (span y)) (c .before .before .before .before .before .before .span-of .ensures)))
+    rw (c .stored .ensures, c .before .contact-table .ensures) (contact-pushed ρ (b .marks) (b .area .now) t h (spanAt (b .at) (b .v .now)) (b .v .now) _ (b .which) (c .before .before .before .before .before .before .before .before .before .before .before .contact-field .ensures) _ _ _ (whole-got _ _ (sym (c .before .before .before .before .before .before .before .before .before .before .whole .ensures) ∙ c .before .before .before .before .before .before .before .before .p .given .1)) (c .before .before .before .before .push-contact .ensures .0) (c .before .before .before .before .push-contact .ensures .1 ∙ ap (λ (y : Span). grown (b .area .now) (contactsAt (b .which)) (mostContacts (b .which)) (span y)) (c .before .before .before .before .before .before .span-of .ensures)))
 
 pub take-contact-spec : {M : Type 1} → statement M
 take-contact-spec =
