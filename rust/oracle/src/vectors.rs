@@ -435,8 +435,13 @@ fn whole_texts(list: &mut List) {
         list.add("rw", format!("v=0\n{line}\n{}=", &line[..1]).as_bytes());
     }
     // a full table, and one record more
-    for emails in [16, 17] {
-        list.add("rw", &[&b"v=0"[..], &b"\ne=".repeat(emails)].concat());
+    for (kinds, line, most) in [("rw", "e=", 16), ("r", "b=:1", 64), ("r", "t=0 0", 32), ("r", "m= 0  ", 32)] {
+        for times in [most, most + 1] {
+            list.add(kinds, ["v=0", &format!("\n{line}").repeat(times)].concat().as_bytes());
+        }
+    }
+    for pairs in [64, 65] {
+        list.add("r", ["v=0\nz=", &"0 0 ".repeat(pairs)].concat().as_bytes());
     }
     for line in [
         &b"o="[..], b"o=\xff", b"o=-", b"o=- \xff", b"o=- 0", b"o=- 0 \xff", b"o=- 0 x", b"o=- 0 0", b"o=- 0 0 (", b"o=- 0 0 I",
@@ -467,6 +472,8 @@ fn to_be_written(list: &mut List) {
         "v=0\no=- 0 0 N A h",
         "v=0\ni=\nu=\ne=\np=\nz=\nb=:0\na=\na=:\nk=:\nm= 0  \ni=\nk=:",
         "v=0\nk=m:\nm= 0  \nk=",
+        // a username that only begins with -, a number of two digits, a letter that has no use after an m line
+        "v=0\no=-x 10 10 N A h\nt=10 100\nm= 10/10  \nu=x",
         "v=0\nm=\u{e9} 0/0  \u{10ffff}\ns=x",
         // the ends of numbers
         "v=0\no=- 0 18446744073709551615 N A h\nt=18446744073709551615 0\nr=18446744073709551615 0 1 2 3",
