@@ -1,5 +1,6 @@
 //! How bytes are shown: character by character, with every one that can't be seen as an escape, and counted in columns.
 use std::str::from_utf8;
+use unicode_width::UnicodeWidthChar;
 
 /// What is shown at one place and never divided: a character with the marks that combine with it, or an escape.
 #[derive(Debug, Clone, PartialEq, Eq)]
@@ -10,33 +11,13 @@ pub struct Cell {
     pub differs: bool,
 }
 
-/// Characters that are counted as two columns, by blocks: East Asian scripts and full-width forms, and pictures. Some of
-/// these pictures take one in most terminals; a row is then shorter than it was counted, and never longer.
-const WIDE: [(u32, u32); 18] = [
-    (0x1100, 0x115f),
-    (0x231a, 0x232a),
-    (0x23e9, 0x23f3),
-    (0x2600, 0x27bf),
-    (0x2b1b, 0x2b55),
-    (0x2e80, 0x303e),
-    (0x3041, 0xa4cf),
-    (0xa960, 0xa97f),
-    (0xac00, 0xd7a3),
-    (0xf900, 0xfaff),
-    (0xfe10, 0xfe19),
-    (0xfe30, 0xfe6f),
-    (0xff01, 0xff60),
-    (0xffe0, 0xffe6),
-    (0x16fe0, 0x18dff),
-    (0x1aff0, 0x1b2ff),
-    (0x1f000, 0x1faff),
-    (0x20000, 0x3ffff),
-];
+/// After a character that may be a picture: it is shown as one, and may take two columns then.
+const AS_PICTURE: char = '\u{fe0f}';
 
-/// Columns of a character that is shown as it is.
+/// Columns of a character that is shown as it is, by the crate `unicode-width`. Where a terminal joins characters, a row is
+/// shorter than it was counted, and never longer.
 fn width(char: char) -> usize {
-    let wide = !char.is_ascii() && WIDE.iter().any(|(first, last)| (*first..=*last).contains(&u32::from(char)));
-    1 + usize::from(wide)
+    char.width().unwrap_or(1).max(1)
 }
 
 enum Look {
@@ -83,7 +64,10 @@ pub fn cells(line: &[u8]) -> Vec<Cell> {
         for char in text.chars() {
             match (look(char), cells.last_mut()) {
                 (Look::Seen, _) => cells.push(cell(char.into(), width(char))),
-                (Look::Combines, Some(base)) if !base.shown.starts_with('\\') => base.shown.push(char),
+                (Look::Combines, Some(base)) if !base.shown.starts_with('\\') => {
+                    base.shown.push(char);
+                    base.width = base.width.max(1 + usize::from(char == AS_PICTURE));
+                }
                 _ if char.is_ascii() && !matches!(char, '\\' | '\t' | '\r') => cells.push(hex(&(char as u8))),
                 _ => cells.push(escape(char.escape_default().to_string())),
             }

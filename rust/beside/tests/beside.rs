@@ -170,7 +170,15 @@ fn width(row: &str) -> usize {
 
 #[test]
 fn known_widths() {
-    for (text, due) in [("abc", 3), ("\u{e9}", 1), ("e\u{301}", 1), ("\u{6f22}\u{5b57}", 4), ("\u{1f3b5}", 2), ("\u{20ac}", 1)] {
+    for (text, due) in [
+        ("abc", 3),
+        ("\u{e9}", 1),
+        ("e\u{301}", 1),
+        ("\u{6f22}\u{5b57}", 4),
+        ("\u{1f3b5}", 2),
+        ("\u{2600}\u{fe0f}", 2),
+        ("\u{20ac}", 1),
+    ] {
         assert_eq!(columns(&cells(text.as_bytes())), due, "{text}");
     }
     for (bytes, due) in [

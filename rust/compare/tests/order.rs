@@ -1,177 +1,36 @@
-//! The letter order beside a matcher of our own: document 01's sentence as a pattern, made into a table of states by
-//! derivatives (what may follow once a letter was read). No part of it goes down the lines as a recogniser would.
+//! The letter order beside the crate `regex`: document 01's sentence as an expression over a text's bytes.
+#[path = "../../oracle/src/order.rs"]
+mod order;
 use compare::{letter_order, Order};
 use generate::random::{count, from_env};
 use generate::sessions::{self, LONGEST};
 use generate::{every_string, texts, Random};
-use std::collections::BTreeMap;
-use std::rc::Rc;
-
-/// Document 01: "v o s i? u? e* p* c? b*, one or more times (t r*), z? k? a*, then any number of (m i? c* b* k? a*)".
-const PATTERN: &str = "v o s i? u? e* p* c? b* (t r*)+ z? k? a* (m i? c* b* k? a*)*";
+use order::{in_order, BAD, GOOD};
 
 /// Every letter that has a place in the order, and one that has none.
 const LETTERS: &[u8] = b"vosiuepcbtrzkamx";
 
-// ---- patterns
-
-#[derive(Debug, Clone, PartialEq, Eq, PartialOrd, Ord)]
-enum Pattern {
-    Never,
-    Nothing,
-    Letter(u8),
-    Then(Rc<Pattern>, Rc<Pattern>),
-    Either(Rc<Pattern>, Rc<Pattern>),
-    Many(Rc<Pattern>),
-}
-use Pattern::*;
-
-fn then(first: Pattern, second: Pattern) -> Pattern {
-    match (first, second) {
-        (Never, _) | (_, Never) => Never,
-        (Nothing, pattern) | (pattern, Nothing) => pattern,
-        (first, second) => Then(Rc::new(first), Rc::new(second)),
+/// What `sdp_letter_order` must answer.
+fn due(text: &[u8]) -> Order {
+    if text.len() > LONGEST {
+        return Order { number: 1, yes: 0 };
+    }
+    Order {
+        number: 0,
+        yes: u64::from(in_order(text)),
     }
 }
 
-fn either(one: Pattern, other: Pattern) -> Pattern {
-    match (one, other) {
-        (Never, pattern) | (pattern, Never) => pattern,
-        (one, other) if one == other => one,
-        (one, other) => Either(Rc::new(one), Rc::new(other)),
-    }
-}
-
-impl Pattern {
-    /// Reads the notation: letters, groups, and `?`, `*` or `+` behind either.
-    fn read(notation: &mut &[u8]) -> Pattern {
-        let mut all = Nothing;
-        while let Some((first, rest)) = notation.split_first() {
-            *notation = rest;
-            let one = match first {
-                b' ' => continue,
-                b')' => break,
-                b'(' => Pattern::read(notation),
-                letter => Letter(*letter),
-            };
-            let one = match notation.first() {
-                Some(b'?') => either(one, Nothing),
-                Some(b'*') => Many(Rc::new(one)),
-                Some(b'+') => then(one.clone(), Many(Rc::new(one))),
-                _ => {
-                    all = then(all, one);
-                    continue;
-                }
-            };
-            *notation = &notation[1..];
-            all = then(all, one);
-        }
-        all
-    }
-
-    fn may_end(&self) -> bool {
-        match self {
-            Never | Letter(_) => false,
-            Nothing | Many(_) => true,
-            Then(first, second) => first.may_end() && second.may_end(),
-            Either(one, other) => one.may_end() || other.may_end(),
-        }
-    }
-
-    fn after(&self, letter: u8) -> Pattern {
-        match self {
-            Letter(due) if *due == letter => Nothing,
-            Never | Nothing | Letter(_) => Never,
-            Many(one) => then(one.after(letter), self.clone()),
-            Either(one, other) => either(one.after(letter), other.after(letter)),
-            Then(first, second) => {
-                let stays = then(first.after(letter), (**second).clone());
-                if first.may_end() {
-                    either(stays, second.after(letter))
-                } else {
-                    stays
-                }
-            }
-        }
-    }
-}
-
-/// The pattern as a table: for each state whether a text may end there, and the state after each byte.
-struct Table(Vec<(bool, [usize; 256])>);
-
-impl Table {
-    fn new() -> Self {
-        let start = Pattern::read(&mut PATTERN.as_bytes());
-        let mut known = BTreeMap::from([(start.clone(), 0)]);
-        let mut states = vec![start];
-        let mut table = Vec::new();
-        while let Some(state) = states.get(table.len()).cloned() {
-            let mut next = [0; 256];
-            for letter in 0..=255 {
-                let after = state.after(letter);
-                let number = *known.entry(after.clone()).or_insert(states.len());
-                if number == states.len() {
-                    states.push(after);
-                }
-                next[usize::from(letter)] = number;
-            }
-            table.push((state.may_end(), next));
-            assert!(table.len() < 200);
-        }
-        Table(table)
-    }
-
-    fn matches(&self, letters: &[u8]) -> bool {
-        let end = letters.iter().fold(0, |state, letter| self.0[state].1[usize::from(*letter)]);
-        self.0[end].0
-    }
-
-    /// What `sdp_letter_order` must answer.
-    fn due(&self, text: &[u8]) -> Order {
-        if text.len() > LONGEST {
-            return Order { number: 1, yes: 0 };
-        }
-        let yes = letters(text).map_or(false, |letters| self.matches(&letters));
-        Order {
-            number: 0,
-            yes: u64::from(yes),
-        }
-    }
-}
-
-/// The letters of the lines that aren't empty; none if a line's form is bad. Document 01, "Lines".
-fn letters(text: &[u8]) -> Option<Vec<u8>> {
-    let mut letters = Vec::new();
-    for piece in text.split_inclusive(|byte| *byte == b'\n') {
-        let line = match piece {
-            [line @ .., b'\r', b'\n'] | [line @ .., b'\n'] => line,
-            line => line,
-        };
-        match line {
-            [] => {}
-            _ if line.contains(&0) || line.contains(&b'\r') => return None,
-            [b'=', ..] => return None,
-            [letter, b'=', ..] => letters.push(*letter),
-            _ => return None,
-        }
-    }
-    Some(letters)
-}
-
-struct Counts<'a> {
-    table: &'a Table,
+#[derive(Default)]
+struct Counts {
     yes: u64,
     no: u64,
     long: u64,
 }
 
-impl<'a> Counts<'a> {
-    fn of(table: &'a Table) -> Self {
-        Counts { table, yes: 0, no: 0, long: 0 }
-    }
-
+impl Counts {
     fn add(&mut self, text: &[u8]) -> bool {
-        let due = self.table.due(text);
+        let due = due(text);
         let kept = text.to_vec();
         let ours = letter_order(text);
         assert_eq!(ours, due, "{} bytes: {}", text.len(), text[..text.len().min(3_000)].escape_ascii());
@@ -193,44 +52,42 @@ fn lines(letters: &[u8]) -> Vec<u8> {
     letters.iter().flat_map(|letter| [*letter, b'=', b'1', b'\n']).collect()
 }
 
-// ---- the matcher itself
+// ---- the expression itself
 
 #[test]
-fn the_pattern_says_what_document_01_says() {
-    let table = Table::new();
-    let good = "vost vostt vostr vostrtrrt vosit vosut vosiut vosepcbt voseeppbbt vostzka vosta vostaa vostm vostmm \
-        vostmicbka vostmccbbkaam vostamk vosiueepppcbbtrttrrzkaamicccbbkaamm";
-    let bad = "v vos vot vst vosr vosrt ovst vvost voost vosst vosiit vosuit vospet vosbct vosccbt vostb vostzz vostkz \
-        vostak vostzt vosttzr vosm vostmii vostmci vostmbc vostmkb vostmkk vostmak vostmt vostms vostx xvost vostmx \
-        vostme Vost vost=";
-    assert!(good.split(' ').count() == 18 && bad.split(' ').count() == 36);
-    for good in good.split(' ') {
-        assert!(table.matches(good.as_bytes()), "{good}");
+fn the_expression_says_what_document_01_says() {
+    assert!(GOOD.split(' ').count() == 18 && BAD.split(' ').count() == 36);
+    for good in GOOD.split(' ') {
+        assert!(in_order(&lines(good.as_bytes())), "{good}");
     }
-    for bad in bad.split(' ').chain([""]) {
-        assert!(!table.matches(bad.as_bytes()), "{bad}");
+    for bad in BAD.split(' ').chain([""]) {
+        assert!(!in_order(&lines(bad.as_bytes())), "{bad}");
     }
-    println!("order: the pattern has {} states", table.0.len());
 }
 
 #[test]
-fn lines_of_bad_form_have_no_letters() {
+fn lines_of_bad_form_are_out_of_order() {
     for (text, due) in [
-        (&b""[..], Some(&b""[..])),
-        (b"v=0", Some(b"v")),
-        (b"v=0\r\n\r\n\no=\n", Some(b"vo")),
-        (b"v=0\r", None),
-        (b"v=0\r\r\n", None),
-        (b"v=\0\n", None),
-        (b"v\n", None),
-        (b"=v\n", None),
-        (b"vv=0\n", None),
-        (b"\r", None),
-        (b"==\n", None),
-        (b"v==\n", Some(b"v")),
-        (b"\xff=\xff\n", Some(b"\xff")),
+        (&b"v=\no=\ns=\nt="[..], true),
+        (b"v=\r\no=\r\ns=\r\nt=\r\n", true),
+        (b"\n\r\nv=0\r\n\r\n\no=\ns=\nt=\n\r\n\n", true),
+        (b"v==\no=\xff\ns=v=\nt= ", true),
+        (b"v=\no=\ns=\nt=\r", false),
+        (b"v=\no=\ns=\nt=\r\r\n", false),
+        (b"v=\no=\ns=\nt=\n\r", false),
+        (b"v=\no=\ns=\0\nt=\n", false),
+        (b"v=\no=\rs=\ns=\nt=\n", false),
+        (b"v=\no=\ns\nt=\n", false),
+        (b"v=\no=\n=s\nt=\n", false),
+        (b"v=\no=\nss=\nt=\n", false),
+        (b"v=\no=\n s=\nt=\n", false),
+        (b"v=\no=\ns =\nt=\n", false),
+        (b"v=\no=\n==\ns=\nt=\n", false),
+        (b"v=\no=\n\0\ns=\nt=\n", false),
+        (b"v=\no=\ns=\nt=\n\xff=\n", false),
+        (b"\xef\xbb\xbfv=\no=\ns=\nt=\n", false),
     ] {
-        assert_eq!(letters(text).as_deref(), due, "{}", text.escape_ascii());
+        assert_eq!(in_order(text), due, "{}", text.escape_ascii());
     }
 }
 
@@ -238,8 +95,7 @@ fn lines_of_bad_form_have_no_letters() {
 
 #[test]
 fn every_short_order() {
-    let table = Table::new();
-    let mut counts = Counts::of(&table);
+    let mut counts = Counts::default();
     every_string(LETTERS, 5, |letters| {
         counts.add(&lines(letters));
     });
@@ -314,8 +170,7 @@ fn dressed(random: &mut Random, letters: &[u8]) -> Vec<u8> {
 /// Good orders, and copies with one or two letters changed, moved, doubled or left out.
 #[test]
 fn nearly_good_orders() {
-    let table = Table::new();
-    let (mut good, mut counts) = (Counts::of(&table), Counts::of(&table));
+    let (mut good, mut counts) = (Counts::default(), Counts::default());
     let mut random = Random::of_test("orders");
     for _ in 0..count(60_000) {
         let mut letters = ordered(&mut random);
@@ -348,9 +203,8 @@ fn nearly_good_orders() {
 /// One line of bad form, or one byte that is damaged, in a text whose order is good.
 #[test]
 fn bad_forms() {
-    let table = Table::new();
     let mut random = Random::of_test("bad forms");
-    let (mut counts, rounds) = (Counts::of(&table), count(4_000));
+    let (mut counts, rounds) = (Counts::default(), count(4_000));
     #[rustfmt::skip] // a row for each kind
     const FORMS: [&[u8]; 16] = [
         b"a", b"abc",
@@ -387,9 +241,8 @@ fn bad_forms() {
 /// Texts of the other generators: their order is often right, since values aren't judged.
 #[test]
 fn other_texts() {
-    let table = Table::new();
     let (seed, mut random) = (from_env("SEED", 8866), Random::of_test("order, other texts"));
-    let (mut counts, rounds) = (Counts::of(&table), count(20_000));
+    let (mut counts, rounds) = (Counts::default(), count(20_000));
     for number in 0..rounds {
         counts.add(&sessions::nth(seed, 2_000_000_000 + number));
         counts.add(&texts::text(&mut random));
@@ -406,9 +259,8 @@ fn other_texts() {
 /// The longest text, and one byte more: 1, whatever stands in it.
 #[test]
 fn at_the_limit() {
-    let table = Table::new();
     let mut random = Random::of_test("order limit");
-    let (mut counts, rounds) = (Counts::of(&table), count(40));
+    let (mut counts, rounds) = (Counts::default(), count(40));
     for _ in 0..rounds {
         for due in [LONGEST - 1, LONGEST, LONGEST + 1, LONGEST + 2, 3 * LONGEST] {
             let letters = ordered(&mut random);

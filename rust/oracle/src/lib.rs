@@ -3,6 +3,7 @@
 pub mod fold;
 pub mod leaf;
 pub mod limits;
+pub mod order;
 pub mod refusal;
 pub mod texts;
 pub mod vectors;

@@ -1,21 +1,32 @@
-//! The fixed list of stored answers: inputs of the leaf functions and what std and the crate say to them. The program
-//! crates/vectors reads the list and must print the same.
+//! The fixed list of stored answers: inputs and what std, the crate and, for the letter order, `regex` say to them. The
+//! program crates/vectors reads the list and must print the same.
 //!
 //! An input line is `K=HEX`, an answer line `K` and decimal numbers:
 //! - `u` end of the longest UTF-8 beginning; `t` 1 for a token, else 0;
 //! - `p`, `n`, `d` a number of 16 bits, of 64 bits, a typed time: 0 and the value, or 8 or 9, and 0;
 //! - `c` the cuts of a text, a line for each: kind, number, line, letter, place and length;
-//! - `r` reading a text: number, line, field, place and length, and then the counts of the ten tables, 0 when refused.
+//! - `l` the letter order: 0, and 1 for yes or 0 for no;
+//! - `r` reading a text: number, line, field, place and length, and then the counts of the ten tables, 0 when refused;
+//! - `w` writing what was read: the answers to an output without room and to one with room, and behind that line what was
+//!   written; or the answer of the reader when it refuses;
+//! - `o` the value of an o line, whose address is set as its username: 1 for present, and the fields;
+//! - `m` the value of an m line, whose first format is set as its number of ports, or 0 if it is no number: the fields,
+//!   with 1 for present before the number of ports.
 use crate::leaf::{self, Numeral};
-use crate::limits;
+use crate::{limits, order, texts, written, Refusal, Session};
 use generate::{fields, Random};
+use sdp_types::{Media, Origin};
 use std::collections::BTreeSet;
 use std::fmt::Write;
+use std::fs;
 
 /// The longest input, so that the program can have a fixed room for it.
 pub const LONGEST: usize = 2_000;
 
-/// The inputs, each with its kind, in their order and without repeats; those of kind `r` come last.
+/// The program's room for all inputs: `io::large_buffer`.
+pub const ROOM: usize = 65_536;
+
+/// The inputs, each with its kind, in their order and without repeats.
 pub fn inputs() -> Vec<(u8, Vec<u8>)> {
     let mut list = List::default();
     utf8(&mut list);
@@ -24,7 +35,11 @@ pub fn inputs() -> Vec<(u8, Vec<u8>)> {
     typed_times(&mut list);
     cuts(&mut list);
     random(&mut list);
-    texts(&mut list);
+    whole_texts(&mut list);
+    to_be_written(&mut list);
+    orders(&mut list);
+    published(&mut list);
+    builders(&mut list);
     list.inputs
 }
 
@@ -56,7 +71,19 @@ fn answer(out: &mut String, kind: u8, bytes: &[u8]) {
         b'c' => leaf::cuts(bytes)
             .iter()
             .for_each(|cut| line('c', &[cut.kind, cut.number, cut.line, cut.letter, cut.place, cut.len])),
+        b'l' => line('l', &[0, u64::from(order::in_order(bytes))]),
         b'r' => line('r', &reading(bytes)),
+        b'w' => match crate::read(bytes) {
+            Ok(session) => {
+                let text = String::from_utf8(written(&session)).unwrap();
+                let len = text.len() as u64;
+                line('w', &[22, 0, 0, 0, len, 0, 0, 0, 0, len]);
+                out.push_str(&text);
+            }
+            Err(refusal) => line('w', &refused(refusal)),
+        },
+        b'o' => writeln!(out, "o {}", with_username(bytes)).unwrap(),
+        b'm' => writeln!(out, "m {}", with_num_ports(bytes)).unwrap(),
         _ => panic!("no kind {}", kind as char),
     }
 }
@@ -68,12 +95,52 @@ fn reading(text: &[u8]) -> [u64; 15] {
             let counts = limits::counts(&session).map(|count| count as u64);
             numbers[5..].copy_from_slice(&counts);
         }
-        Err(refusal) => {
-            let answer = [refusal.number, refusal.line, refusal.field, refusal.place, refusal.len];
-            numbers[..5].copy_from_slice(&answer);
-        }
+        Err(refusal) => numbers[..5].copy_from_slice(&refused(refusal)),
     }
     numbers
+}
+
+fn refused(refusal: Refusal) -> [u64; 5] {
+    [refusal.number, refusal.line, refusal.field, refusal.place, refusal.len]
+}
+
+/// The session of one line behind `v=0`.
+fn of_line(letter: char, value: &[u8]) -> Session {
+    let text = [format!("v=0\n{letter}=").as_bytes(), value].concat();
+    crate::read(&text).unwrap_or_else(|refusal| panic!("{}: {refusal:?}", text.escape_ascii()))
+}
+
+/// An origin by the crate's own method, field by field.
+fn with_username(value: &[u8]) -> String {
+    let mut origin = of_line('o', value).origin;
+    origin.set_username(origin.unicast_address.clone());
+    let Origin {
+        username,
+        sess_id,
+        sess_version,
+        nettype,
+        addrtype,
+        unicast_address,
+    } = origin;
+    let (there, username) = (u8::from(username.is_some()), username.unwrap_or_default());
+    format!("{there} {username} {sess_id} {sess_version} {nettype} {addrtype} {unicast_address}")
+}
+
+/// A media by the crate's own method, field by field.
+fn with_num_ports(value: &[u8]) -> String {
+    let mut media = of_line('m', value).medias.remove(0);
+    let first = media.fmt.split(' ').find(|word| !word.is_empty());
+    media.set_num_ports(first.and_then(|word| word.parse().ok()).unwrap_or(0));
+    let Media {
+        media,
+        port,
+        num_ports,
+        proto,
+        fmt,
+        ..
+    } = media;
+    let (there, ports) = (u8::from(num_ports.is_some()), num_ports.unwrap_or_default());
+    format!("{media} {port} {there} {ports} {proto} {fmt}")
 }
 
 #[derive(Default)]
@@ -339,7 +406,7 @@ fn random(list: &mut List) {
 
 /// Whole texts: each refusal that a short text can have, each pair of 8 to 11 and a field, and some that are accepted.
 #[rustfmt::skip] // a row for each letter
-fn texts(list: &mut List) {
+fn whole_texts(list: &mut List) {
     for text in [
         &b""[..],
         b"v=0",
@@ -356,19 +423,25 @@ fn texts(list: &mut List) {
         b"v=0\nm=a 1 p \nr=x\nm=b 2/3 q \ni=\nc=I J h\nb=:1\nk=\na=",
         b"v=0\nt=0 0\nr=213503982334601d 1 0 1h\nt=1 2\nr=1 1 1",
         b"v=0\nz=0 -9223372036854775808 1 -+5",
-        b"v=0\no= u  1 2 in Ip4 h \ns=\xf4\x8f\xbf\xbf",
         b"v=0\ns=Desk 4\nx=new\nt=+60 0\nr=168h 3600 0 90\nz=60 -1h 61 +0\na=recvonly\n\
           m=audio 5004/2 RTP/AVP 96\na=note:\n",
     ] {
-        list.add("r", text);
+        list.add("rw", text);
     }
+    // the crate folds the casing of IN and IP4 and writes it folded
+    list.add("r", b"v=0\no= u  1 2 in Ip4 h \ns=\xf4\x8f\xbf\xbf");
     // once more what may stand once
     for line in ["o=- 0 0 I J h", "s=", "i=", "u=", "c=I J h", "z=", "k="] {
-        list.add("r", format!("v=0\n{line}\n{}=", &line[..1]).as_bytes());
+        list.add("rw", format!("v=0\n{line}\n{}=", &line[..1]).as_bytes());
     }
     // a full table, and one record more
-    for emails in [16, 17] {
-        list.add("r", &[&b"v=0"[..], &b"\ne=".repeat(emails)].concat());
+    for (kinds, line, most) in [("rw", "e=", 16), ("r", "b=:1", 64), ("r", "t=0 0", 32), ("r", "m= 0  ", 32)] {
+        for times in [most, most + 1] {
+            list.add(kinds, ["v=0", &format!("\n{line}").repeat(times)].concat().as_bytes());
+        }
+    }
+    for pairs in [64, 65] {
+        list.add("r", ["v=0\nz=", &"0 0 ".repeat(pairs)].concat().as_bytes());
     }
     for line in [
         &b"o="[..], b"o=\xff", b"o=-", b"o=- \xff", b"o=- 0", b"o=- 0 \xff", b"o=- 0 x", b"o=- 0 0", b"o=- 0 0 (", b"o=- 0 0 I",
@@ -383,6 +456,103 @@ fn texts(list: &mut List) {
         b"t=0 0\nr=", b"t=0 0\nr=\xffd", b"t=0 0\nr=d", b"t=0 0\nr=1", b"t=0 0\nr=1 \xff", b"t=0 0\nr=1 x", b"t=0 0\nr=1 1 \xff",
         b"t=0 0\nr=1 1 x",
     ] {
-        list.add("r", &[b"v=0\n", line].concat());
+        list.add("rw", &[b"v=0\n", line].concat());
+    }
+}
+
+/// What the writer decides by itself: what is absent, empty or a number's end, and the order of the lines.
+fn to_be_written(list: &mut List) {
+    for text in [
+        // each letter, each with a value of its own, and then all in another order
+        "v=0\no=u 1 2 N A h\ns=n\ni=d\nu=r\ne=m\np=q\nc=O B g\nb=X:3\nt=4 5\nr=6 7 8 9\nz=281474976710666 -11\n\
+         k=l:y\na=f\na=w:x\nm=aa 12/13 pp 14\ni=t\nc=P C j\nc=Q D k\nb=Y:15\nk=o\na=s\nm=bb 16 qq 17 18\na=z:\n",
+        "v=0\na=f\na=w:x\nk=l\nz=1 2 3 4\nt=4 5\nt=6 7\nr=8 9\nb=X:3\nc=O B g\np=q\np=q2\ne=m\ne=m2\nu=r\ni=d\n\
+         s=n\no=- 1 2 N A h\nm=aa 12 pp 14\na=s\nk=o:\nb=Y:15\nb=Z:16\nc=P C j\ni=t\n",
+        // absent, empty
+        "v=0\no=- 0 0 N A h",
+        "v=0\ni=\nu=\ne=\np=\nz=\nb=:0\na=\na=:\nk=:\nm= 0  \ni=\nk=:",
+        "v=0\nk=m:\nm= 0  \nk=",
+        // a username that only begins with -, a number of two digits, a letter that has no use after an m line
+        "v=0\no=-x 10 10 N A h\nt=10 100\nm= 10/10  \nu=x",
+        "v=0\nm=\u{e9} 0/0  \u{10ffff}\ns=x",
+        // the ends of numbers
+        "v=0\no=- 0 18446744073709551615 N A h\nt=18446744073709551615 0\nr=18446744073709551615 0 1 2 3",
+        "v=0\nb=X:18446744073709551615\nm=a 65535/65535 p f\nb=Y:18446744073709551615",
+        "v=0\nz=18446744073709551615 9223372036854775807 0 -9223372036854775808 1 -1 2 0",
+        "v=0\nt=0 0\nr=7d 1h 0 25h\nr=60 86400s 1m\nt=00 +1\nz=+1 -1h 2 1d",
+        // unknown letters and empty lines are dropped, LF becomes CR LF
+        "v=0\r\nx=1\n\r\n\ny=2\na=b:c:d\r\n",
+    ] {
+        list.add("w", text.as_bytes());
+    }
+}
+
+/// Letters in order and out of it, as lines.
+fn orders(list: &mut List) {
+    for letters in order::GOOD.split(' ').chain(order::BAD.split(' ')) {
+        let lines: Vec<String> = letters.chars().map(|letter| format!("{letter}=\n")).collect();
+        list.add("l", lines.concat().as_bytes());
+    }
+    // every time hands over to its repeats
+    list.add("l", &[b"v=\no=\ns=\n", &b"t=\nr=\nr=\n".repeat(20)[..]].concat());
+    list.add("l", b"");
+    for (before, after) in [("v=\no=\n", "s=\nt=\n"), ("v=\no=\ns=\nt=\n", "")] {
+        for line in [
+            "\n", "\r\n", "\r", "\r\r\n", "\0\n", "a\n", "=\n", "=a\n", "aa=\n", " a=\n", "a =\n", "a=\r", "a=\rb\n",
+            "a=\0", "a=\r\r\n", "a==\r\n", "a=\u{e9}", "\u{e9}=",
+        ] {
+            list.add("l", format!("{before}{line}{after}").as_bytes());
+        }
+    }
+}
+
+/// The shorter ones of the published texts.
+fn published(list: &mut List) {
+    for path in texts::files(&texts::folder(), "sdp").unwrap() {
+        let text = fs::read(&path).unwrap();
+        let ours = !path.starts_with(texts::folder().join("published"));
+        match text.len() {
+            _ if ours => {}
+            0..=210 => list.add("wl", &text),
+            211..=260 => list.add("w", &text),
+            _ => {}
+        }
+    }
+}
+
+/// What the small records hold before: something, nothing, and what is set, once more.
+fn builders(list: &mut List) {
+    for value in [
+        "jdoe 3724394400 3724394405 IN IP4 198.51.100.1",
+        "- 3724394400 3724394405 IN IP6 2001:db8::2",
+        "alice 2890844526 2890844527 IN IP4 host.atlanta.example.com",
+        "same 0 0 IN IP4 same",
+        "- 0 0 IN IP4 -",
+        "-- - 0 - - -",
+        "u v 18446744073709551615 N A h",
+        "u v +007 TN X y",
+        "  u   v  1   N   A   h  ",
+        "\u{e9} \u{10ffff} 9 ATM NSAP \u{661}",
+        "a b 9223372036854775808 PSTN E164 +1-617-555-6011",
+        "1 2 3 4 5 6",
+    ] {
+        list.add("o", value.as_bytes());
+    }
+    for value in [
+        "audio 49170 RTP/AVP 0",
+        "audio 49180/2 RTP/AVP 0",
+        "video 51372/65535 RTP/AVP 99",
+        "video 51372/1 RTP/AVP 1",
+        "audio 5004/2 RTP/AVP 96 97 98",
+        "audio 65535 RTP/AVP 65535",
+        "audio 0/0 RTP/AVP 65536",
+        "application 9 UDP/DTLS/SCTP webrtc-datachannel",
+        "image 54111 udptl t38",
+        " 1  ",
+        " 7/8  2",
+        "\u{e9} +1/+2 \u{10ffff} +3",
+        "a 010/020 b 030 \u{661}",
+    ] {
+        list.add("m", value.as_bytes());
     }
 }

@@ -1,5 +1,5 @@
 //! The stored answers of crates/vectors are what std and the crate say today.
-use oracle::vectors::{files, inputs, LONGEST};
+use oracle::vectors::{files, inputs, LONGEST, ROOM};
 use std::collections::BTreeSet;
 use std::fs;
 
@@ -39,14 +39,20 @@ fn stored_answers_are_the_oracles() {
 #[test]
 fn the_list_has_each_kind_and_each_answer() {
     let (stdin, stdout) = files();
-    println!("stored answers: {} bytes with those of kind r", stdin.len() + stdout.len());
-    assert!(stdin.len() + stdout.len() < 60_000);
+    println!(
+        "stored answers: {} bytes, inputs have {} of {ROOM}",
+        stdin.len() + stdout.len(),
+        stdin.len()
+    );
+    assert!(stdin.len() < ROOM, "the program has no room for the inputs");
+    assert!(stdin.len() + stdout.len() < 100_000);
     for (kind, bytes) in inputs() {
-        assert!(b"utpndcr".contains(&kind) && bytes.len() <= LONGEST);
+        assert!(b"utpndlcrwom".contains(&kind) && bytes.len() <= LONGEST);
     }
-    for kind in ["u", "t", "p", "n", "d", "c", "r"] {
+    for kind in ["u", "t", "p", "n", "d", "l", "c", "r", "w", "o", "m"] {
+        let due = if matches!(kind, "o" | "m") { 12 } else { 40 };
         assert!(
-            stdin.lines().filter(|line| line.starts_with(kind)).count() >= 40,
+            stdin.lines().filter(|line| line.starts_with(kind)).count() >= due,
             "few of kind {kind}"
         );
     }
@@ -68,6 +74,9 @@ fn the_list_has_each_kind_and_each_answer() {
         "c 3 3 ",
         "c 3 4 ",
         "c 3 5 ",
+        "l 0 0",
+        "l 0 1",
+        "w 22 0 0 0 40 0 0 0 0 40",
     ] {
         assert!(
             stdout.lines().any(|line| line.starts_with(answer)),
@@ -76,13 +85,22 @@ fn the_list_has_each_kind_and_each_answer() {
     }
 }
 
+/// The numbers of each answer of a kind.
+fn answers(kind: &str) -> Vec<Vec<u64>> {
+    let (_, stdout) = files();
+    let answers = stdout
+        .lines()
+        .filter_map(|line| line.strip_prefix(kind)?.strip_prefix(' '));
+    answers
+        .map(|answer| answer.split(' ').map(|number| number.parse().unwrap()).collect())
+        .collect()
+}
+
 #[test]
 fn the_texts_have_each_refusal() {
-    let (_, stdout) = files();
     let mut numbers = BTreeSet::new();
     let mut pairs = BTreeSet::new();
-    for answer in stdout.lines().filter_map(|line| line.strip_prefix("r ")) {
-        let answer: Vec<u64> = answer.split(' ').map(|number| number.parse().unwrap()).collect();
+    for answer in answers("r") {
         assert_eq!(answer.len(), 15);
         assert!(answer[0] == 0 || answer[5..].iter().all(|count| *count == 0));
         numbers.insert(answer[0]);
@@ -93,4 +111,10 @@ fn the_texts_have_each_refusal() {
     // a text that is too long and an area that is too short have no place in the list
     assert_eq!(numbers, (3..=21).chain([0]).collect());
     assert_eq!(pairs, generate::sessions::PAIRS.into_iter().collect());
+}
+
+#[test]
+fn each_refusal_is_met_before_writing_too() {
+    let numbers: BTreeSet<u64> = answers("w").iter().map(|answer| answer[0]).collect();
+    assert_eq!(numbers, (3..=22).collect());
 }
