@@ -223,8 +223,10 @@ fn constant(words: &str) -> String {
 fn the_theorem_s_room() {
     let laws = file("crates/sdp_bound/proofs/RoomLaws.antt");
     let theorem = laws.lines().find(|line| line.starts_with("pub room : ")).expect("the theorem room");
-    assert!(theorem.contains(&format!("length t ≤ {LONGEST} ")), "{theorem}");
-    assert!(theorem.ends_with(&format!(" ≤ {ROOM}")), "{theorem}");
+    assert!(theorem.ends_with(" → Enough roomOfAny t a"), "{theorem}");
+    let definition = file("crates/sdp_bound/specs/Bound.antt");
+    let mut rooms = definition.lines().filter_map(|line| line.strip_prefix("roomOfAny = "));
+    assert_eq!((rooms.next(), rooms.next()), (Some(&ROOM.to_string()[..]), None));
 }
 
 /// Every function through the header, from C, answers what it answers through ffi.rs.
