@@ -1,4 +1,4 @@
-// Runs the stored inputs through the leaves and prints their answers; crates/vectors/stdout has the oracle's, made by rust/.
+// Runs the stored inputs and prints the answers; crates/vectors/stdout has the oracle's, made by rust/.
 // A line of standard input is K=HEX: u UTF-8, t token, p and n whole numbers of 16 and 64 bits, d typed time, l letter order,
 // c line cutting, r reading: the answer, and how many rows each table then has; w writing: the answers without room and with
 // it, and what was written, or how reading refused; o and m a line's value, and its record after `username` or `num_ports`.
