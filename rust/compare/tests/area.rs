@@ -103,11 +103,17 @@ fn the_definition_has_the_decoder_s_tables() {
         number(values.next().unwrap_or_else(|| panic!("Area.antt defines {name}")))
     };
     assert_eq!(after("size"), SIZE);
+    // a table's limit is named there, and stands on the page of the paper's numbers
+    let numbers = file("crates/sdp_numbers/specs/Tables.antt");
+    let limit = |name: &str| {
+        let mut values = numbers.lines().filter_map(|line| line.strip_prefix(&format!("{name} = ")));
+        number(values.next().unwrap_or_else(|| panic!("Tables.antt defines {name}")))
+    };
     let mut tables = Vec::new();
     for line in definition.lines() {
         if let Some((_, rest)) = line.split_once(" tab ") {
             let words: Vec<&str> = rest.split([' ', '(', ')']).collect();
-            tables.push((number(words[0]), number(words[1])));
+            tables.push((limit(words[0]), number(words[1])));
         }
     }
     let due: Vec<_> = PARTS[6..].iter().map(|part| (part.rows, part.width)).collect();
