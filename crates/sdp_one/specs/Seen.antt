@@ -1,4 +1,4 @@
--- What the promise of `take_line` says of the area at the exit: docs/ONE-ANSWER.md has the reason.
+-- What the promise of a function that takes a line says of the area at the exit: docs/ONE-ANSWER.md has the reason.
 use mathlib.Core.List.{List}
 use Prim.Native.Nat.{ℕ}
 use lib.ListN.{drop}
