@@ -434,6 +434,8 @@ fn whole_texts(list: &mut List) {
     for line in ["o=- 0 0 I J h", "s=", "i=", "u=", "c=I J h", "z=", "k="] {
         list.add("rw", format!("v=0\n{line}\n{}=", &line[..1]).as_bytes());
     }
+    // in the last media that there is room for, a second title is seen
+    list.add("r", ["v=0\n", &"m= 0  \n".repeat(32), "i=\ni=\n"].concat().as_bytes());
     // a full table, and one record more
     for (kinds, line, most) in [("rw", "e=", 16), ("r", "b=:1", 64), ("r", "t=0 0", 32), ("r", "m= 0  ", 32)] {
         for times in [most, most + 1] {
