@@ -3,8 +3,8 @@
 # `page`, 1 for what stands in docs/TRUST.md. Bytes, not characters: run it with LC_ALL=C.
 #
 # A definition is followed to every name in its type and its clauses, those of the modules around it too. A name is a
-# variable where a pattern, a λ or a (x : ..) binds it, and else it must be found: in its file, in its imports, or in the
-# words of the language. Whatever is not understood is an error, so nothing is left out in silence.
+# variable where a pattern, a λ or a (x : ..) binds it, or an `open` right below a module, and else it must be found: in
+# its file, in its imports, or in the words of the language. Whatever is not understood is an error, so nothing is left out in silence.
 # A definition is known as FILE SUBSEP NAME, a file of specs as CRATE/FILE, a type declared in Rattle as CRATE:TYPE.
 
 function fail(words) {
@@ -89,7 +89,7 @@ function add_member(m, id, text,    w) {
     if (kind_of[id] == "record") { add_chunk(id, "field", text); fields_of[id] = fields_of[id] " " w[1] }
     else { add_chunk(id, "constructor", text); add_name(m, id, w[1]); constructor[m, w[1]] = 1 }
 }
-function load(m,    path, line, got, now, deep, body, headed, w, n, k, name, open, depth, mods, mod, fixed) {
+function load(m,    path, line, got, now, deep, body, headed, w, n, k, name, open, depth, mods, mod, bare, fixed) {
     if (m in loaded) return
     loaded[m] = 1
     path = m
@@ -139,8 +139,15 @@ function load(m,    path, line, got, now, deep, body, headed, w, n, k, name, ope
             sub(/^ *module _/, "", line)
             telescope[mod] = line
             mod_file[mod] = m
+            bare = 1
             continue
         }
+        if (w[1] == "open") {
+            if (!bare) fail("an open that is not right below its module in " path ": " line)
+            opened[mod, ++opens[mod]] = line
+            continue
+        }
+        bare = 0
         k = 1
         while (w[k] ~ /^(pub|abbrev|unfoldable|opaque)$/) k++
         if (w[k] ~ /^(record|data)$/) {
@@ -401,7 +408,27 @@ function patterns(m, id, last,    i, t, deep, self, to, mixed) {
     if (!self || i > last) fail("a clause that is not of " name_of[id] " in " m ": " tok[1])
     return i
 }
-function scan_definition(id,    m, w, n, k, last, kind) {
+# open R t using (x, y as z): t is a record R, and the names are those of its fields
+function take_open(m, line,    w, n, k, last, name, as) {
+    last = cut_words(line, tok)
+    for (k = 3; k <= last; k++) if (tok[k] == "using") break
+    if (k < 4 || tok[k + 1] != "(" || tok[last] != ")") { fail("an open that is not understood in " m ": " line); return }
+    refer(m, tok[2])
+    scan(m, 3, k - 1, 0)
+    sub(/.* using \(/, "", line)
+    sub(/\).*/, "", line)
+    n = split(line, w, ",")
+    for (k = 1; k <= n; k++) {
+        name = w[k]
+        gsub(/^ +| +$/, "", name)
+        as = name
+        if (name ~ / as /) { sub(/.* as /, "", as); sub(/ as .*/, "", name) }
+        if (name ~ / / || lookup(m, as) != "") fail("an open that is not understood in " m ": " name)
+        use_field(name)
+        bind(as)
+    }
+}
+function scan_definition(id,    m, w, n, k, i, last, kind) {
     m = file_of[id]
     names_n = 0
     split("", bound)
@@ -411,6 +438,7 @@ function scan_definition(id,    m, w, n, k, last, kind) {
         last = cut_words(telescope[w[k]], tok)
         scan(m, 1, last, 1)
         found["M " w[k]]
+        for (i = 1; i <= opens[w[k]]; i++) take_open(m, opened[w[k], i])
     }
     for (k = 1; k <= chunks[id]; k++) {
         split("", tok)
@@ -528,7 +556,7 @@ function tally(    k, m, path, id, key, w) {
         id = substr(k, 3)
         if (k ~ /^D /) { path = path_of[file_of[id]]; key[path] = file_of[id]; defs_n++; defs_lines += lines_of[id] }
         else if (k ~ /^T /) { path = source_of[id]; key[path] = path; types_n++; types_lines += lines_of[id] }
-        else if (k ~ /^M /) { path = path_of[mod_file[id]]; file_lines[path]++; defs_lines++; continue }
+        else if (k ~ /^M /) { path = path_of[mod_file[id]]; file_lines[path] += 1 + opens[id]; defs_lines += 1 + opens[id]; continue }
         else { split(k, w, " "); kit[w[2]] = kit[w[2]] "\n" w[3]; continue }
         if (!(path in file_defs)) files[++files_n] = path
         file_defs[path]++

@@ -13,7 +13,7 @@ use Rattle.sdp_lines.specs.declared.Span.{Span}
 use Rattle.sdp_cells.specs.Bytes.{le, num}
 use Rattle.sdp_cells.specs.Tables.{tab}
 use Rattle.sdp_area.specs.Session.{Key, Media, Session, Within}
-use Rattle.sdp_area.specs.With.{setLast, withMedias, titled, keyed}
+use Rattle.sdp_area.specs.With.{withLast, setLast, withMedias, titled, keyed}
 use Rattle.sdp_area.specs.Area.{span, opt, keyBytes, mediaRow, cat, segments, encode, mediasAt}
 use Rattle.sdp_area.specs.Latest.{anyMedia, latestAt, overLast, markLast, given, lastGiven, lastTitled, lastKeyed}
 use Rattle.sdp_cells.proofs.ByteLaws.{over-at, length-le}
@@ -179,16 +179,16 @@ module _ (s : Session Span) (t : List ℕ) (ok : Within s) (a : List ℕ) (is : 
     session-mark = rw (is, with-medias (s .tables .medias)) (any-mark (area.before s 15) t (begins s 15) part (s .tables .medias) (ok .medias))
 
     session-set : (g : Media Span → Media Span) (bs : List ℕ) → ((m : Media Span) → mediaRow (g m) ≡ part .before m ++ (bs ++ part .behind m)) → length bs ≡ 2 + w
-        → overLast a off bs ≡ encode (withMedias s (setLast g (s .tables .medias))) ++ t
+        → overLast a off bs ≡ encode (withLast s g) ++ t
     session-set g bs changed l =
         rw (is, with-medias (s .tables .medias), with-medias (setLast g (s .tables .medias)))
         (any-set (area.before s 15) t (begins s 15) part g bs changed l (s .tables .medias) (ok .medias))
 
-  pub title-set : (x : Span) → overLast a 18 (le 2 1 ++ span x) ≡ encode (withMedias s (setLast (titled x) (s .tables .medias))) ++ t
+  pub title-set : (x : Span) → overLast a 18 (le 2 1 ++ span x) ≡ encode (withLast s (titled x)) ++ t
   unfolding opt
   title-set x = session-set title (titled x) (le 2 1 ++ span x) (λ m. title-row (titled x m)) (length-maybe (some x))
 
-  pub media-key-set : (x : Key Span) → overLast a 24 (le 2 1 ++ keyBytes x) ≡ encode (withMedias s (setLast (keyed x) (s .tables .medias))) ++ t
+  pub media-key-set : (x : Key Span) → overLast a 24 (le 2 1 ++ keyBytes x) ≡ encode (withLast s (keyed x)) ++ t
   unfolding opt
   media-key-set x = session-set media-key (keyed x) (le 2 1 ++ keyBytes x) (λ m. key-row (keyed x m)) (length-opt 10 keyBytes length-key (some x))
 

@@ -12,7 +12,7 @@ use Rattle.sdp_judge.specs.Read.{Read, got, refused}
 use Rattle.sdp_lists.specs.Lists.{zonesOf}
 use Rattle.sdp_lists.specs.declared.Zone as zone
 use Rattle.sdp_area.specs.Session.{Origin, Connection, Key, MediaConnection, Bandwidth, Time, Repeat, Zone, Attribute, Media, Session}
-use Rattle.sdp_area.specs.With.{withOrigin, withName, withDescription, withUri, withConnection, withKey, withEmails, withPhones, withConnections, withBandwidths, withTimes, withRepeats, withOffsets, withZones, withAttributes, withMedias, setLast, titled, keyed}
+use Rattle.sdp_area.specs.With.{withOrigin, withName, withDescription, withUri, withConnection, withKey, withEmails, withPhones, withConnections, withBandwidths, withTimes, withRepeats, withOffsets, withZones, withAttributes, withMedias, withLast, setLast, titled, keyed}
 use Rattle.sdp_area.specs.Latest.{given, lastTitled, lastKeyed}
 use Rattle.sdp_area.proofs.LatestLaws.{set-last, last-given}
 use Rattle.sdp_roles.specs.Roles as roles
@@ -173,12 +173,12 @@ module _ (ρ : Reading (List ℕ)) where
       unfolding roles.fromMedia steps.stepRole
       title-leads x b g =
           from-leads 0x69 _ role.MediaTitle _ refl (b 33 .bare) refl
-          (once-steps _ _ _ _ (b 33) 18 _ (ap lastTitled e ∙ last-given (λ n. n .mediaTitle) ms m ∙ g) (λ x. to (withMedias s (setLast (titled x) (s .tables .medias))))
+          (once-steps _ _ _ _ (b 33) 18 _ (ap lastTitled e ∙ last-given (λ n. n .mediaTitle) ms m ∙ g) (λ x. to (withLast s (titled x)))
           ∙ ap (λ ns. goes (to (withMedias s ns))) (ap (setLast (titled x)) e ∙ set-last (titled x) ms m))
 
       pub media-key-leads : (k : Key (List ℕ)) → KeyBack k → given (m .key) ≡ false → Leads ρ (keyLine id k) (to (withMedias s (ms ++ (keyed k m ∷ []))))
       unfolding roles.fromMedia steps.stepRole form.pairLine
       media-key-leads k b g =
           from-leads 0x6b _ role.MediaKey _ refl (b 25 26 .bare) refl
-          (once-steps _ _ _ _ (b 25 26) 19 _ (ap lastKeyed e ∙ last-given (λ n. n .key) ms m ∙ g) (λ p. to (withMedias s (setLast (keyed (record { method = p .0; encryptionKey = p .1 })) (s .tables .medias))))
+          (once-steps _ _ _ _ (b 25 26) 19 _ (ap lastKeyed e ∙ last-given (λ n. n .key) ms m ∙ g) (λ p. to (withLast s (keyed (record { method = p .0; encryptionKey = p .1 }))))
           ∙ ap (λ ns. goes (to (withMedias s ns))) (ap (setLast (keyed k)) e ∙ set-last (keyed k) ms m))

@@ -18,7 +18,7 @@ use Rattle.sdp_fields.specs.Records.{originOf, connectionOf, bandwidthOf, times
 use Rattle.sdp_media_line.specs.MediaLine.{mediaOf}
 use Rattle.sdp_lists.specs.Lists.{RepeatLine, repeatOf, zonesOf}
 use Rattle.sdp_area.specs.Session.{Key, MediaConnection, Bandwidth, Time, Repeat, Offset, Zone, Attribute, Media, Head, Tables, Session, empty}
-use Rattle.sdp_area.specs.With.{withTimes, withRepeats, withOffsets, withZones, withMedias, setLast, titled, keyed}
+use Rattle.sdp_area.specs.With.{withTimes, withRepeats, withOffsets, withZones, withMedias, titled, keyed, withLast}
 use Rattle.sdp_area.specs.Latest.{given, lastTitled, lastKeyed}
 use Rattle.sdp_roles.specs.Roles.{roleAt}
 use Rattle.sdp_roles.specs.declared.Role.{Role}
@@ -98,7 +98,7 @@ module _ (ρ : Reading (List ℕ)) (v : List ℕ) (b : bare v ≡ true) (h : Pla
   medias-plain ms e = tables-kept _ (record { emails = T .emails; phones = T .phones; connections = T .connections; bandwidths = T .bandwidths; attributes = T .attributes; medias = e })
 
   -- the latest media changed
-  last-goes : (g : Media (List ℕ) → Media (List ℕ)) → ((m : Media (List ℕ)) → MediaPlain m → MediaPlain (g m)) → Going Kept (goes (record { session = withMedias (ρ .session) (setLast g (ρ .session .tables .medias)); zoned = ρ .zoned }))
+  last-goes : (g : Media (List ℕ) → Media (List ℕ)) → ((m : Media (List ℕ)) → MediaPlain m → MediaPlain (g m)) → Going Kept (goes (record { session = withLast (ρ .session) g; zoned = ρ .zoned }))
   last-goes g keep = on Kept _ (medias-plain _ (each-last MediaPlain g keep (ρ .session .tables .medias) (T .medias)))
 
   repeat-plain : (r : Read RepeatLine) → Going Kept (repeated (part v) ρ v r)

@@ -14,7 +14,7 @@ use Rattle.sdp_media_line.specs.MediaLine.{mediaOf}
 use Rattle.sdp_lists.specs.Lists.{RepeatLine, repeatOf, zonesOf}
 use Rattle.sdp_split.specs.declared.Piece.{Piece}
 use Rattle.sdp_area.specs.Session.{MediaConnection, Bandwidth, Repeat, Offset, Attribute, Media, Head, Tables, Session}
-use Rattle.sdp_area.specs.With.{withMedias, setLast, titled, keyed}
+use Rattle.sdp_area.specs.With.{withMedias, titled, keyed, withLast}
 use Rattle.sdp_area.specs.Latest.{given, lastTitled, lastKeyed}
 use Rattle.sdp_step.proofs.OnceLaws.{length-last}
 use Rattle.sdp_roles.specs.Roles as roles
@@ -199,7 +199,7 @@ module _ (v : List ℕ) (mk : Piece → Span) (P : Span → Type 0) (fine : (p :
       medias-kept _ (rows-more _ 32 (s .tables .medias) (T .medias) (mediaIn mk m) f room) (let e = length-append (s .tables .medias) (mediaIn mk m ∷ []) in omega arith))
 
   -- the latest one changed
-  last-kept : (g : Media Span → Media Span) → ((m : Media Span) → FitMedia P m → FitMedia P (g m)) → Sound P (withMedias s (setLast g (s .tables .medias)))
+  last-kept : (g : Media Span → Media Span) → ((m : Media Span) → FitMedia P m → FitMedia P (g m)) → Sound P (withLast s g)
   last-kept g keep = medias-kept _ (rows-last _ 32 (s .tables .medias) (T .medias) g keep) (let e = length-last g (s .tables .medias) in omega arith)
 
   title-kept : Keeps role.MediaTitle

@@ -26,8 +26,8 @@ use Rattle.sdp_judge.specs.Read.{Read, got, refused, wholeOf}
 use Rattle.sdp_fields.specs.Records.{originOf, connectionOf, bandwidthOf, timesOf, pairOf}
 use Rattle.sdp_media_line.specs.MediaLine.{mediaOf}
 use Rattle.sdp_lists.specs.Lists.{RepeatLine, repeatOf, zonesOf}
-use Rattle.sdp_area.specs.Session.{Origin, Connection, Key, MediaConnection, Bandwidth, Time, Repeat, Zone, Attribute, Media, Session, empty}
-use Rattle.sdp_area.specs.With.{withOrigin, withName, withDescription, withUri, withConnection, withKey, withMedias, setLast, titled, keyed}
+use Rattle.sdp_area.specs.Session.{Origin, Connection, Key, MediaConnection, Bandwidth, Time, Repeat, Zone, Attribute, Media, Head, Tables, Session, empty}
+use Rattle.sdp_area.specs.With.{withOrigin, withName, withDescription, withUri, withConnection, withKey, withMedias, withLast, titled, keyed}
 use Rattle.sdp_area.specs.With.{withEmails, withPhones, withConnections, withBandwidths, withTimes, withRepeats, withOffsets, withZones, withAttributes}
 use Rattle.sdp_area.specs.Latest.{given, lastTitled, lastKeyed}
 use Rattle.sdp_roles.specs.Roles.{roleAt}
@@ -114,6 +114,7 @@ timeIn t = record { startTime = t .«start_time»; stopTime = t .«stop_time» }
 abbrev pub zoneIn : zone.Zone → Zone
 zoneIn z = record { adjustmentTime = z .«adjustment_time»; offset = z .offset }
 
+-- the owner n is its time
 abbrev pub repeatIn : ℕ → RepeatLine → Repeat
 repeatIn n r = record { owner = n; repeatInterval = r .interval; activeDuration = r .duration }
 
@@ -132,76 +133,62 @@ repeatTaken ρ q ns =
     (stops refusals.tableFull tables.offsets))
     (stops refusals.tableFull tables.repeats)
 
--- ---- the steps
+-- ---- the rules
 module _ {S : Type 0} (mk : Piece → S) (ρ : Reading S) (v : List ℕ) where
+  open Reading ρ using (session as s, zoned)
+  open Head (s .head) using (origin, name, description, uri, connection, key)
+  open Tables (s .tables) using (emails, phones, connections, bandwidths, times, attributes, medias)
+
   -- the session that goes on
   abbrev pub keep : Session S → Reading S
-  keep s = record { session = s; zoned = ρ .zoned }
+  keep x = record { session = x; zoned = zoned }
+
+  -- what is stored where nothing may be yet: of the fields r, f makes it and put stores it
+  abbrev pub set : {A X : Type 0} → ℕ → Bool → Read A → (A → X) → (X → Session S) → Stepped S
+  set second there r f put = once second there r (λ x. goes (keep (put (f x))))
+
+  -- what is stored as one row more behind the rows xs
+  abbrev pub add : {A X : Type 0} → ℕ → ℕ → List X → Read A → (A → X) → (List X → Session S) → Stepped S
+  add table most xs r f put = row table most (length xs) r (λ x. keep (put (xs ++ (f x ∷ []))))
 
   -- an owner: the latest media, counted from 1; 0 before the first
   abbrev pub section : ℕ
-  section = length (ρ .session .tables .medias)
+  section = length medias
 
   -- "r belongs to the latest t"
   abbrev pub repeated : Read RepeatLine → Stepped S
   repeated (refused w) = stopped w
-  repeated (got r) = repeatTaken ρ (repeatIn (length (ρ .session .tables .times)) r) (r .offsets)
+  repeated (got r) = repeatTaken ρ (repeatIn (length times) r) (r .offsets)
 
   -- the z line: its being there is kept even where it has no pairs
   abbrev pub zonesTaken : List zone.Zone → Stepped S
   zonesTaken zs =
       cond (leb (length zs) mostZones)
-      (goes (record { session = withZones (ρ .session) (map zoneIn zs); zoned = true }))
+      (goes (record { session = withZones s (map zoneIn zs); zoned = true }))
       (stops refusals.tableFull tables.zones)
 
+  -- one line for each role: the refusal of a second one and whether there is one, or the table with its limit and its rows; the fields; what is
+  -- stored of them, and where
   unfoldable pub stepRole : Role → Stepped S
-  stepRole role.Origin =
-      once refusals.secondOrigin (given (ρ .session .head .origin)) (originOf v)
-      (λ o. goes (keep (withOrigin (ρ .session) (originIn mk o))))
-  stepRole role.Name =
-      once refusals.secondName (given (ρ .session .head .name)) (wholeOf fields.name v)
-      (λ p. goes (keep (withName (ρ .session) (mk p))))
-  stepRole role.Description =
-      once refusals.secondDescription (given (ρ .session .head .description)) (wholeOf fields.description v)
-      (λ p. goes (keep (withDescription (ρ .session) (mk p))))
-  stepRole role.Uri =
-      once refusals.secondUri (given (ρ .session .head .uri)) (wholeOf fields.uri v)
-      (λ p. goes (keep (withUri (ρ .session) (mk p))))
-  stepRole role.Connection =
-      once refusals.secondConnection (given (ρ .session .head .connection)) (connectionOf v)
-      (λ c. goes (keep (withConnection (ρ .session) (connectionIn mk c))))
-  stepRole role.Zone = once refusals.secondZones (ρ .zoned) (zonesOf v) zonesTaken
-  stepRole role.Key =
-      once refusals.secondKey (given (ρ .session .head .key)) (pairOf fields.keyMethod fields.keyText v)
-      (λ p. goes (keep (withKey (ρ .session) (keyIn mk p))))
-  stepRole role.MediaTitle =
-      once refusals.secondTitle (lastTitled (ρ .session .tables .medias)) (wholeOf fields.mediaTitle v)
-      (λ p. goes (keep (withMedias (ρ .session) (setLast (titled (mk p)) (ρ .session .tables .medias)))))
-  stepRole role.MediaKey =
-      once refusals.secondKey (lastKeyed (ρ .session .tables .medias)) (pairOf fields.keyMethod fields.keyText v)
-      (λ p. goes (keep (withMedias (ρ .session) (setLast (keyed (keyIn mk p)) (ρ .session .tables .medias)))))
-  stepRole role.Email =
-      row tables.emails mostEmails (length (ρ .session .tables .emails)) (wholeOf fields.email v)
-      (λ p. keep (withEmails (ρ .session) (ρ .session .tables .emails ++ (mk p ∷ []))))
-  stepRole role.Phone =
-      row tables.phones mostPhones (length (ρ .session .tables .phones)) (wholeOf fields.phone v)
-      (λ p. keep (withPhones (ρ .session) (ρ .session .tables .phones ++ (mk p ∷ []))))
-  stepRole role.MediaConnection =
-      row tables.mediaConnections mostMediaConnections (length (ρ .session .tables .connections)) (connectionOf v)
-      (λ c. keep (withConnections (ρ .session) (ρ .session .tables .connections ++ (mediaConnectionIn mk section c ∷ []))))
-  stepRole role.Bandwidth =
-      row tables.bandwidths mostBandwidths (length (ρ .session .tables .bandwidths)) (bandwidthOf v)
-      (λ b. keep (withBandwidths (ρ .session) (ρ .session .tables .bandwidths ++ (bandwidthIn mk section b ∷ []))))
-  stepRole role.Time =
-      row tables.times mostTimes (length (ρ .session .tables .times)) (timesOf v)
-      (λ t. keep (withTimes (ρ .session) (ρ .session .tables .times ++ (timeIn t ∷ []))))
-  stepRole role.Repeat = cond (eqb (length (ρ .session .tables .times)) 0) (stops refusals.repeatWithoutTime 0) (repeated (repeatOf v))
+  stepRole role.Origin = set refusals.secondOrigin (given origin) (originOf v) (originIn mk) (withOrigin s)
+  stepRole role.Name = set refusals.secondName (given name) (wholeOf fields.name v) mk (withName s)
+  stepRole role.Description = set refusals.secondDescription (given description) (wholeOf fields.description v) mk (withDescription s)
+  stepRole role.Uri = set refusals.secondUri (given uri) (wholeOf fields.uri v) mk (withUri s)
+  stepRole role.Email = add tables.emails mostEmails emails (wholeOf fields.email v) mk (withEmails s)
+  stepRole role.Phone = add tables.phones mostPhones phones (wholeOf fields.phone v) mk (withPhones s)
+  stepRole role.Connection = set refusals.secondConnection (given connection) (connectionOf v) (connectionIn mk) (withConnection s)
+  stepRole role.Bandwidth = add tables.bandwidths mostBandwidths bandwidths (bandwidthOf v) (bandwidthIn mk section) (withBandwidths s)
+  stepRole role.Time = add tables.times mostTimes times (timesOf v) timeIn (withTimes s)
+  stepRole role.Repeat = cond (eqb (length times) 0) (stops refusals.repeatWithoutTime 0) (repeated (repeatOf v))
+  stepRole role.Zone = once refusals.secondZones zoned (zonesOf v) zonesTaken
+  stepRole role.Key = set refusals.secondKey (given key) (pairOf fields.keyMethod fields.keyText v) (keyIn mk) (withKey s)
   stepRole role.Attribute =
-      row tables.attributes mostAttributes (length (ρ .session .tables .attributes)) (pairOf fields.attribute fields.attributeValue v)
-      (λ p. keep (withAttributes (ρ .session) (ρ .session .tables .attributes ++ (attributeIn mk section p ∷ []))))
-  stepRole role.Media =
-      row tables.medias mostMedias (length (ρ .session .tables .medias)) (mediaOf v)
-      (λ m. keep (withMedias (ρ .session) (ρ .session .tables .medias ++ (mediaIn mk m ∷ []))))
+      add tables.attributes mostAttributes attributes (pairOf fields.attribute fields.attributeValue v) (attributeIn mk section) (withAttributes s)
+  stepRole role.Media = add tables.medias mostMedias medias (mediaOf v) (mediaIn mk) (withMedias s)
+  stepRole role.MediaTitle = set refusals.secondTitle (lastTitled medias) (wholeOf fields.mediaTitle v) (λ p. titled (mk p)) (withLast s)
+  stepRole role.MediaConnection =
+      add tables.mediaConnections mostMediaConnections connections (connectionOf v) (mediaConnectionIn mk section) (withConnections s)
+  stepRole role.MediaKey = set refusals.secondKey (lastKeyed medias) (pairOf fields.keyMethod fields.keyText v) (λ p. keyed (keyIn mk p)) (withLast s)
   stepRole role.Nothing = goes ρ
 
   -- a line of good form with the letter l; "every other line is ignored, a later `v=` too"

@@ -10,7 +10,7 @@ use Rattle.sdp_judge.specs.Read.{got, refused, wholeOf}
 use Rattle.sdp_judge.specs.declared.Wrong.{Wrong}
 use Rattle.sdp_cells.specs.Bytes.{le}
 use Rattle.sdp_area.specs.Session.{Session}
-use Rattle.sdp_area.specs.With.{withDescription, withUri, withMedias, setLast, titled}
+use Rattle.sdp_area.specs.With.{withDescription, withUri, titled, withLast}
 use Rattle.sdp_area.specs.Area.{span}
 use Rattle.sdp_area.specs.Which.{markText, overText}
 use Rattle.sdp_area.specs.declared.Text.{Text}
@@ -30,7 +30,7 @@ use Rattle.sdp_take_once.specs.Onces.{textRole, textNumber, textField}
 abbrev withText : Text → Session Span → Span → Session Span
 withText Description s p = withDescription s p
 withText Uri s p = withUri s p
-withText Title s p = withMedias s (setLast (titled p) (s .tables .medias))
+withText Title s p = withLast s (titled p)
 
 module _ (ρ : Reading Span) (m : Marks) (a t : List ℕ) (h : Holds ρ m a t) where
   -- the string set
