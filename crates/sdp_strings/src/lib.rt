@@ -2,6 +2,7 @@
 ghost use mathlib.Core.Path.{_≡_};
 ghost use mathlib.Core.List.{[]};
 ghost use Prim.Native.Nat.{_+_, _≤_};
+ghost use Rattle.sdp_numbers.specs.Refusals.{longestText};
 ghost use Rattle.sdp_strings.specs.Strings.{spanAt};
 use sdp_area::MaybeSpan;
 use sdp_judge::MaybePiece;
@@ -11,7 +12,7 @@ use sdp_split::Piece;
 
 // A piece of the value at place `at` as a place in the text.
 pub fn span_of(at: usize, p: Piece) -> Span
-    requires { ⌜ at + p .at ≤ 32768 ⌝ }
+    requires { ⌜ at + p .at ≤ longestText ⌝ }
     ensures { λ r. ⌜ r ≡ spanAt at [] p ⌝ }
 {
     Span {
@@ -22,7 +23,7 @@ pub fn span_of(at: usize, p: Piece) -> Span
 
 // The same where it may be absent.
 pub fn maybe_of(at: usize, m: MaybePiece) -> MaybeSpan
-    requires { ⌜ at + m .piece .at ≤ 32768 ⌝ }
+    requires { ⌜ at + m .piece .at ≤ longestText ⌝ }
     ensures { λ r. ⌜ r ≡ record { there = m .there; span = spanAt at [] (m .piece) } ⌝ }
 {
     let p = m.piece;

@@ -2,6 +2,7 @@
 ghost use mathlib.Core.Path.{_≡_};
 ghost use Prim.Native.Nat.{_+_, _≤_};
 ghost use lib.ListN.{length};
+ghost use Rattle.sdp_numbers.specs.Refusals.{longestText};
 ghost use Rattle.sdp_area.specs.Area.{size};
 ghost use Rattle.sdp_step.specs.Step.{step};
 ghost use Rattle.sdp_strings.specs.Strings.{spanAt};
@@ -59,7 +60,7 @@ fn shape_of(role: Role) -> Shape
 
 // A line by its role.
 fn take_role(area: &mut [u8], v: &[u8], at: usize, marks: Marks, role: Role) -> Taken
-    requires { ⌜ (size ≤ length (now area)) × (at + length (now v) ≤ 32768) ⌝ }
+    requires { ⌜ (size ≤ length (now area)) × (at + length (now v) ≤ longestText) ⌝ }
     ensures { λ r. ⌜ Reads role at (now (v .entry)) marks r (now (area .entry)) (now (area .exit)) ⌝ }
 {
     match shape_of(role) {
@@ -73,7 +74,7 @@ fn take_role(area: &mut [u8], v: &[u8], at: usize, marks: Marks, role: Role) -> 
 
 // A line of good form, whose value stands at a place of the text.
 pub fn take_line(area: &mut [u8], at: Place, marks: Marks, letter: u8, value: &[u8]) -> Taken
-    requires { ⌜ (size ≤ length (now area)) × (at .0 + length (now value) ≤ 32768) ⌝ }
+    requires { ⌜ (size ≤ length (now area)) × (at .0 + length (now value) ≤ longestText) ⌝ }
     ensures { λ r. ⌜ Takes (λ ρ. step (spanAt (at .0) (now (value .entry))) ρ (now (value .entry)) letter)
         marks r (now (area .entry)) (now (area .exit)) ⌝ }
 {

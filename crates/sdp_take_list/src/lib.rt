@@ -2,6 +2,7 @@
 ghost use mathlib.Core.Path.{_≡_};
 ghost use Prim.Native.Nat.{_+_, _≤_};
 ghost use lib.ListN.{length};
+ghost use Rattle.sdp_numbers.specs.Refusals.{longestText};
 ghost use Rattle.sdp_numbers.specs.Tables.{mostOffsets};
 ghost use Rattle.sdp_cells.specs.Bytes.{num};
 ghost use Rattle.sdp_cells.specs.Tables.{told, grown};
@@ -123,7 +124,7 @@ fn take_offsets(
 
 // An r line. It belongs to the latest t; without one it is refused before its value is read.
 pub fn take_repeat(area: &mut [u8], v: &[u8], at: usize, marks: Marks) -> Taken
-    requires { ⌜ (size ≤ length (now area)) × (at + length (now v) ≤ 32768) ⌝ }
+    requires { ⌜ (size ≤ length (now area)) × (at + length (now v) ≤ longestText) ⌝ }
     ensures { λ r. ⌜ Reads Role.Repeat at (now (v .entry)) marks r (now (area .entry)) (now (area .exit)) ⌝ }
 {
     let Latest::Time(time) = latest_time(area) else {
@@ -144,7 +145,7 @@ pub fn take_repeat(area: &mut [u8], v: &[u8], at: usize, marks: Marks) -> Taken
 
 // The z line: pairs until a missing adjustment time ends the list with the pairs so far.
 pub fn take_zone(area: &mut [u8], v: &[u8], at: usize, marks: Marks) -> Taken
-    requires { ⌜ (size ≤ length (now area)) × (at + length (now v) ≤ 32768) ⌝ }
+    requires { ⌜ (size ≤ length (now area)) × (at + length (now v) ≤ longestText) ⌝ }
     ensures { λ r. ⌜ Reads Role.Zone at (now (v .entry)) marks r (now (area .entry)) (now (area .exit)) ⌝ }
 {
     if marks.zoned {

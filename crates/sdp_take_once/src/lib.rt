@@ -2,6 +2,7 @@
 ghost use mathlib.Core.Path.{_≡_};
 ghost use Prim.Native.Nat.{_+_, _≤_};
 ghost use lib.ListN.{length};
+ghost use Rattle.sdp_numbers.specs.Refusals.{longestText};
 ghost use Rattle.sdp_area.specs.Area.{size};
 ghost use Rattle.sdp_step.specs.Hold.{Reads};
 ghost use Rattle.sdp_take_once.specs.Onces.{textRole, textNumber, textField, onceRole};
@@ -34,7 +35,7 @@ use sdp_strings::span_of;
 
 // An o line.
 fn take_origin(area: &mut [u8], v: &[u8], at: usize, marks: Marks) -> Taken
-    requires { ⌜ (size ≤ length (now area)) × (at + length (now v) ≤ 32768) ⌝ }
+    requires { ⌜ (size ≤ length (now area)) × (at + length (now v) ≤ longestText) ⌝ }
     ensures { λ r. ⌜ Reads Role.Origin at (now (v .entry)) marks r (now (area .entry)) (now (area .exit)) ⌝ }
 {
     if has_origin(area) {
@@ -72,7 +73,7 @@ fn take_origin(area: &mut [u8], v: &[u8], at: usize, marks: Marks) -> Taken
 
 // An s line.
 fn take_name(area: &mut [u8], v: &[u8], at: usize, marks: Marks) -> Taken
-    requires { ⌜ (size ≤ length (now area)) × (at + length (now v) ≤ 32768) ⌝ }
+    requires { ⌜ (size ≤ length (now area)) × (at + length (now v) ≤ longestText) ⌝ }
     ensures { λ r. ⌜ Reads Role.Name at (now (v .entry)) marks r (now (area .entry)) (now (area .exit)) ⌝ }
 {
     if marks.named {
@@ -118,7 +119,7 @@ fn text_field(which: Text) -> u64
 
 // An i or a u line before the first m, or an i line of a media.
 fn take_text(area: &mut [u8], v: &[u8], at: usize, marks: Marks, which: Text) -> Taken
-    requires { ⌜ (size ≤ length (now area)) × (at + length (now v) ≤ 32768) ⌝ }
+    requires { ⌜ (size ≤ length (now area)) × (at + length (now v) ≤ longestText) ⌝ }
     ensures { λ r. ⌜ Reads (textRole which) at (now (v .entry)) marks r (now (area .entry)) (now (area .exit)) ⌝ }
 {
     if has_text(area, which) {
@@ -139,7 +140,7 @@ fn take_text(area: &mut [u8], v: &[u8], at: usize, marks: Marks, which: Text) ->
 
 // A c line before the first m.
 fn take_connection(area: &mut [u8], v: &[u8], at: usize, marks: Marks) -> Taken
-    requires { ⌜ (size ≤ length (now area)) × (at + length (now v) ≤ 32768) ⌝ }
+    requires { ⌜ (size ≤ length (now area)) × (at + length (now v) ≤ longestText) ⌝ }
     ensures { λ r. ⌜ Reads Role.Connection at (now (v .entry)) marks r (now (area .entry)) (now (area .exit)) ⌝ }
 {
     if has_connection(area) {
@@ -165,7 +166,7 @@ fn take_connection(area: &mut [u8], v: &[u8], at: usize, marks: Marks) -> Taken
 
 // A k line before the first m.
 fn take_key(area: &mut [u8], v: &[u8], at: usize, marks: Marks) -> Taken
-    requires { ⌜ (size ≤ length (now area)) × (at + length (now v) ≤ 32768) ⌝ }
+    requires { ⌜ (size ≤ length (now area)) × (at + length (now v) ≤ longestText) ⌝ }
     ensures { λ r. ⌜ Reads Role.Key at (now (v .entry)) marks r (now (area .entry)) (now (area .exit)) ⌝ }
 {
     if has_key(area) {
@@ -189,7 +190,7 @@ fn take_key(area: &mut [u8], v: &[u8], at: usize, marks: Marks) -> Taken
 
 // A k line of a media.
 fn take_media_key(area: &mut [u8], v: &[u8], at: usize, marks: Marks) -> Taken
-    requires { ⌜ (size ≤ length (now area)) × (at + length (now v) ≤ 32768) ⌝ }
+    requires { ⌜ (size ≤ length (now area)) × (at + length (now v) ≤ longestText) ⌝ }
     ensures { λ r. ⌜ Reads Role.MediaKey at (now (v .entry)) marks r (now (area .entry)) (now (area .exit)) ⌝ }
 {
     if has_media_key(area) {
@@ -223,7 +224,7 @@ pub enum Once {
 
 // Its line.
 pub fn take_once(area: &mut [u8], v: &[u8], at: usize, marks: Marks, what: Once) -> Taken
-    requires { ⌜ (size ≤ length (now area)) × (at + length (now v) ≤ 32768) ⌝ }
+    requires { ⌜ (size ≤ length (now area)) × (at + length (now v) ≤ longestText) ⌝ }
     ensures { λ r. ⌜ Reads (onceRole what) at (now (v .entry)) marks r (now (area .entry)) (now (area .exit)) ⌝ }
 {
     match what {

@@ -2,6 +2,7 @@
 ghost use mathlib.Core.Path.{_≡_};
 ghost use Prim.Native.Nat.{_+_, _≤_};
 ghost use lib.ListN.{length};
+ghost use Rattle.sdp_numbers.specs.Refusals.{longestText};
 ghost use Rattle.sdp_area.specs.Area.{size};
 ghost use Rattle.sdp_step.specs.Hold.{Reads};
 ghost use Rattle.sdp_take_row.specs.Rows.{contactRole, contactField, contactTable, rowRole};
@@ -57,7 +58,7 @@ fn contact_table(which: Contact) -> u64
 
 // An e or a p line.
 fn take_contact(area: &mut [u8], v: &[u8], at: usize, marks: Marks, which: Contact) -> Taken
-    requires { ⌜ (size ≤ length (now area)) × (at + length (now v) ≤ 32768) ⌝ }
+    requires { ⌜ (size ≤ length (now area)) × (at + length (now v) ≤ longestText) ⌝ }
     ensures { λ r. ⌜ Reads (contactRole which) at (now (v .entry)) marks r (now (area .entry)) (now (area .exit)) ⌝ }
 {
     match whole(v, contact_field(which)) {
@@ -72,7 +73,7 @@ fn take_contact(area: &mut [u8], v: &[u8], at: usize, marks: Marks, which: Conta
 
 // A c line of a media.
 fn take_media_connection(area: &mut [u8], v: &[u8], at: usize, marks: Marks) -> Taken
-    requires { ⌜ (size ≤ length (now area)) × (at + length (now v) ≤ 32768) ⌝ }
+    requires { ⌜ (size ≤ length (now area)) × (at + length (now v) ≤ longestText) ⌝ }
     ensures { λ r. ⌜ Reads Role.MediaConnection at (now (v .entry)) marks r (now (area .entry)) (now (area .exit)) ⌝ }
 {
     match Connection::parse(v) {
@@ -93,7 +94,7 @@ fn take_media_connection(area: &mut [u8], v: &[u8], at: usize, marks: Marks) -> 
 
 // A b line.
 fn take_bandwidth(area: &mut [u8], v: &[u8], at: usize, marks: Marks) -> Taken
-    requires { ⌜ (size ≤ length (now area)) × (at + length (now v) ≤ 32768) ⌝ }
+    requires { ⌜ (size ≤ length (now area)) × (at + length (now v) ≤ longestText) ⌝ }
     ensures { λ r. ⌜ Reads Role.Bandwidth at (now (v .entry)) marks r (now (area .entry)) (now (area .exit)) ⌝ }
 {
     match Bandwidth::parse(v) {
@@ -110,7 +111,7 @@ fn take_bandwidth(area: &mut [u8], v: &[u8], at: usize, marks: Marks) -> Taken
 
 // A t line.
 fn take_time(area: &mut [u8], v: &[u8], at: usize, marks: Marks) -> Taken
-    requires { ⌜ (size ≤ length (now area)) × (at + length (now v) ≤ 32768) ⌝ }
+    requires { ⌜ (size ≤ length (now area)) × (at + length (now v) ≤ longestText) ⌝ }
     ensures { λ r. ⌜ Reads Role.Time at (now (v .entry)) marks r (now (area .entry)) (now (area .exit)) ⌝ }
 {
     match Time::parse(v) {
@@ -124,7 +125,7 @@ fn take_time(area: &mut [u8], v: &[u8], at: usize, marks: Marks) -> Taken
 
 // An a line.
 fn take_attribute(area: &mut [u8], v: &[u8], at: usize, marks: Marks) -> Taken
-    requires { ⌜ (size ≤ length (now area)) × (at + length (now v) ≤ 32768) ⌝ }
+    requires { ⌜ (size ≤ length (now area)) × (at + length (now v) ≤ longestText) ⌝ }
     ensures { λ r. ⌜ Reads Role.Attribute at (now (v .entry)) marks r (now (area .entry)) (now (area .exit)) ⌝ }
 {
     match Pair::parse(v, 23, 24) {
@@ -143,7 +144,7 @@ fn take_attribute(area: &mut [u8], v: &[u8], at: usize, marks: Marks) -> Taken
 
 // An m line.
 fn take_media(area: &mut [u8], v: &[u8], at: usize, marks: Marks) -> Taken
-    requires { ⌜ (size ≤ length (now area)) × (at + length (now v) ≤ 32768) ⌝ }
+    requires { ⌜ (size ≤ length (now area)) × (at + length (now v) ≤ longestText) ⌝ }
     ensures { λ r. ⌜ Reads Role.Media at (now (v .entry)) marks r (now (area .entry)) (now (area .exit)) ⌝ }
 {
     match Media::parse_m_line(v) {
@@ -185,7 +186,7 @@ pub enum Row {
 
 // Its line.
 pub fn take_row(area: &mut [u8], v: &[u8], at: usize, marks: Marks, what: Row) -> Taken
-    requires { ⌜ (size ≤ length (now area)) × (at + length (now v) ≤ 32768) ⌝ }
+    requires { ⌜ (size ≤ length (now area)) × (at + length (now v) ≤ longestText) ⌝ }
     ensures { λ r. ⌜ Reads (rowRole what) at (now (v .entry)) marks r (now (area .entry)) (now (area .exit)) ⌝ }
 {
     match what {
