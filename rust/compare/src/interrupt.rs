@@ -1,21 +1,19 @@
-//! Ctrl-C as a flag, for a clean stop. std has no way to it, so C's `signal` is called; a second one ends the program.
+//! Ctrl-C as a flag, for a clean stop. A second one ends the program at once.
+use std::process;
 use std::sync::atomic::{AtomicBool, Ordering};
 
+/// What a shell says of a program that Ctrl-C ended.
+pub const STATUS: u8 = 130;
+
 static STOP: AtomicBool = AtomicBool::new(false);
-const SIGINT: i32 = 2;
-const DEFAULT: usize = 0;
-
-extern "C" {
-    fn signal(number: i32, handler: usize) -> usize;
-}
-
-extern "C" fn stop(_: i32) {
-    STOP.store(true, Ordering::Relaxed);
-    unsafe { signal(SIGINT, DEFAULT) };
-}
 
 pub fn watch() {
-    unsafe { signal(SIGINT, stop as extern "C" fn(i32) as usize) };
+    let each_time = || {
+        if STOP.swap(true, Ordering::Relaxed) {
+            process::exit(STATUS.into());
+        }
+    };
+    ctrlc::set_handler(each_time).expect("Ctrl-C can be watched");
 }
 
 pub fn stopped() -> bool {

@@ -1,14 +1,36 @@
 //! The program `long-run` as a user runs it: to its end, over a folder, with wrong words, and ended by Ctrl-C.
 use generate as _; // without it the emulator dies when this program starts
+use std::fs::{self, File, OpenOptions};
 use std::io::{BufRead, BufReader, Read};
 use std::process::{Child, Command, Output, Stdio};
+use std::thread;
+use std::time::{Duration, Instant};
+
+fn start(words: &[&str]) -> Child {
+    start_into(Stdio::piped(), words)
+}
 
 /// As cargo runs the tests: under the kit's emulator where the program is x86-64 and the machine is not.
-fn start(words: &[&str]) -> Child {
+fn start_into(out: Stdio, words: &[&str]) -> Child {
     let runner = concat!(env!("CARGO_MANIFEST_DIR"), "/../../gate/run-x86");
     let mut command = Command::new(runner);
-    command.arg(env!("CARGO_BIN_EXE_long-run")).args(words).stdout(Stdio::piped()).stderr(Stdio::piped());
+    command.arg(env!("CARGO_BIN_EXE_long-run")).args(words).stdout(out).stderr(Stdio::piped());
     command.spawn().unwrap_or_else(|error| panic!("{runner}: {error}"))
+}
+
+/// What Ctrl-C sends.
+fn interrupt(child: &Child) {
+    let number = child.id().to_string();
+    let sent = Command::new("sh").args(["-c", "kill -s INT \"$1\"", "sh", &number]).status();
+    assert!(sent.expect("a shell").success());
+}
+
+fn wait_until(what: &str, mut holds: impl FnMut() -> bool) {
+    let start = Instant::now();
+    while !holds() {
+        assert!(start.elapsed() < Duration::from_secs(30), "it takes too long until {what}");
+        thread::sleep(Duration::from_millis(2));
+    }
 }
 
 fn run(words: &[&str]) -> (Option<i32>, String, String) {
@@ -65,13 +87,46 @@ fn stopped_by_ctrl_c() {
         lines.read_line(line).unwrap();
     }
     assert!(first[1].contains(" of 1000000000, ") && first[1].contains(" a second, ") && first[1].contains(" left, "), "{first:?}");
-    let number = child.id().to_string();
-    let sent = Command::new("sh").args(["-c", "kill -s INT \"$1\"", "sh", &number]).status();
-    assert!(sent.expect("a shell").success());
+    interrupt(&child);
     let mut rest = String::new();
     lines.read_to_string(&mut rest).unwrap();
     assert_eq!(child.wait().unwrap().code(), Some(130));
     assert!(rest.contains("stopped after ") && rest.ends_with(", no difference\n"), "{rest}");
+}
+
+/// A clean stop needs someone who reads. Here the pipe is full, so the first Ctrl-C can't end it, and the second one does.
+#[test]
+fn ended_by_a_second_ctrl_c() {
+    let pipe = concat!(env!("CARGO_TARGET_TMPDIR"), "/full-pipe");
+    let _ = fs::remove_file(pipe);
+    assert!(Command::new("mkfifo").arg(pipe).status().expect("mkfifo").success());
+    // for both, since opening a pipe for one waits for the other
+    let ours = OpenOptions::new().read(true).write(true).open(pipe).unwrap();
+    let theirs = OpenOptions::new().write(true).open(pipe).unwrap();
+    let mut child = start_into(theirs.into(), &["7", "1000000000"]);
+    let mut first = String::new();
+    BufReader::new(&ours).read_line(&mut first).unwrap();
+    assert!(first.starts_with("long run: "), "{first}");
+    let fill = format!("of={pipe}");
+    let filled = Command::new("dd").env("LC_ALL", "C").args(["if=/dev/zero", &fill, "bs=1", "oflag=nonblock"]).output();
+    let errors = String::from_utf8(filled.expect("dd").stderr).unwrap();
+    assert!(errors.contains("Resource temporarily unavailable"), "{errors}");
+
+    interrupt(&child);
+    let stat = format!("/proc/{}/stat", child.id());
+    wait_until("it waits for room", || fs::read_to_string(&stat).unwrap().contains(") S "));
+    assert_eq!(child.try_wait().unwrap(), None);
+    interrupt(&child);
+    let mut ended = None;
+    wait_until("it ends", || {
+        ended = child.try_wait().unwrap();
+        ended.is_some()
+    });
+    assert_eq!(ended.unwrap().code(), Some(130));
+    let (mut said, mut rest) = (File::open(pipe).unwrap(), Vec::new());
+    drop(ours);
+    said.read_to_end(&mut rest).unwrap();
+    assert!(rest.iter().all(|&byte| byte == 0), "it said something after the first Ctrl-C");
 }
 
 /// Nobody reads what it says: it ends by itself, without a word.

@@ -10,7 +10,6 @@ use std::time::{Duration, Instant};
 
 const EVERY: Duration = Duration::from_secs(5);
 const WRONG: u8 = 2;
-const INTERRUPTED: u8 = 130;
 const HELP: &str = "\
 usage: long-run [SEED [COUNT [FIRST]]]
        long-run --folder FOLDER
@@ -106,7 +105,7 @@ fn run(out: &mut impl Write, texts: &Texts) -> io::Result<ExitCode> {
     for done in 0..count {
         if interrupt::stopped() {
             writeln!(out, "stopped after {done} of {count} texts")?;
-            ended = ExitCode::from(INTERRUPTED);
+            ended = ExitCode::from(interrupt::STATUS);
             break;
         }
         if said.elapsed() >= EVERY {
