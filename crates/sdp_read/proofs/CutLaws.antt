@@ -24,7 +24,11 @@ use Rattle.sdp_lines.proofs.LineLaws.{split-at-place, content-front, content-le
 use Rattle.sdp_line.specs.Version.{openingOf}
 use Rattle.sdp_line.specs.declared.Opening.{Opening}
 use Rattle.sdp_line.specs.declared.Opening.the-variants as opening
-use Rattle.sdp_read.specs.OneLine.{Further, openedTo, versionBy, versionAt}
+use Rattle.sdp_cutter.specs.Cutter.{moveBy, moveAt, stands}
+use Rattle.sdp_cutter.specs.declared.Next.{Next}
+use Rattle.sdp_step.specs.declared.Marks.{Marks}
+use Rattle.sdp_read.specs.OneLine.{Inside, Further, Passes, openedTo, versionOf, versionAt}
+use Rattle.sdp_read.specs.declared.Turn.the-variants.{Goes}
 use Rattle.sdp_read.specs.declared.Search.{Search}
 use Rattle.sdp_read.specs.declared.Search.the-variants.{On, Told}
 use Rattle.sdp_read.specs.declared.Version.the-variants as version
@@ -107,28 +111,50 @@ module _ (s : List ℕ) (c : Cursor) where
       form h (Bad f) e = tt
       form h (Good l) e = (past-further h, omega (arith, good-form (content raw) l e, content-le raw, width-le (drop (c .at .0) s), length-drop (c .at .0) s))
 
-  pub empty-further : (d : Cursor) → cutAt s c ≡ Empty d → Further s c d
-  empty-further d e = subst (λ (k : Cut). Fine k) e cut-fine
+  -- so it is with what the cutter finds, where it then stands
+  abbrev pub then : Cursor
+  then = stands (moveAt s (c .at) (c .line))
 
-  pub line-fine : (l : ℕ) (v : Span) (d : Cursor) → cutAt s c ≡ Line l v d → Further s c d × (v .at .0 + v .len ≤ length s)
-  line-fine l v d e = subst (λ (k : Cut). Fine k) e cut-fine
+  abbrev pub found : Next
+  found = moveAt s (c .at) (c .line) .next
+
+  pub found-inside : Inside s found
+  unfolding moveAt
+  found-inside = go (cutAt s c) cut-fine
+    where
+      go : (k : Cut) → Fine k → Inside s (moveBy (c .at) (c .line) k .next)
+      go (Line l v d) h = h .1
+      go (Empty d) h = tt
+      go (Refused f n) h = tt
+      go End h = tt
+
+  -- a line that a run goes on past
+  pub goes-further : (m : Marks) → Passes found (Goes m) → Further s c then
+  unfolding moveAt
+  goes-further m = go (cutAt s c) cut-fine
+    where
+      go : (k : Cut) → Fine k → Passes (moveBy (c .at) (c .line) k .next) (Goes m) → Further s c (stands (moveBy (c .at) (c .line) k))
+      go (Line l v d) h p = h .0
+      go (Empty d) h p = h
+      go (Refused f n) h p = absurd p
+      go End h p = absurd p
 
   -- a line that is passed while the version is looked for
-  abbrev pub SearchFine : Search → Type 0
-  SearchFine (On d) = Further s c d
-  SearchFine (Told (version.Found d)) = Further s c d
-  SearchFine (Told (version.Refused x)) = Unit {0}
+  abbrev pub SearchFine : Search → Cursor → Type 0
+  SearchFine On d = Further s c d
+  SearchFine (Told version.Found) d = Further s c d
+  SearchFine (Told (version.Refused x)) d = Unit {0}
 
-  pub search-fine : (y : Search) → y ≡ versionAt s c → SearchFine y
-  unfolding versionAt
-  search-fine y e = subst (λ (z : Search). SearchFine z) (sym e) (go (cutAt s c) cut-fine)
+  pub search-fine : (y : Search) → y ≡ versionAt s c → SearchFine y then
+  unfolding versionAt moveAt
+  search-fine y e = subst (λ (z : Search). SearchFine z then) (sym e) (go (cutAt s c) cut-fine)
     where
-      opened : (d : Cursor) (o : Opening) → Further s c d → SearchFine (openedTo d o)
+      opened : (d : Cursor) (o : Opening) → Further s c d → SearchFine (openedTo o) d
       opened d opening.Zero h = h
       opened d (opening.Refused x) h = tt
 
-      go : (k : Cut) → Fine k → SearchFine (versionBy s (c .line .0) k)
-      go End u = tt
-      go (Refused f n) u = tt
-      go (Empty d) h = h
+      go : (k : Cut) → Fine k → SearchFine (versionOf s (moveBy (c .at) (c .line) k .next)) (stands (moveBy (c .at) (c .line) k))
       go (Line l v d) h = opened d (openingOf (c .line .0) (v .at .0) l (bytesOf s v)) (h .0)
+      go (Empty d) h = h
+      go (Refused f n) h = tt
+      go End h = tt

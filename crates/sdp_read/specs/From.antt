@@ -4,7 +4,7 @@ use mathlib.Core.Path.{_≡_}
 use mathlib.Core.List.{List, _++_}
 use lib.ListN.{length, drop}
 use Rattle.sdp_area.specs.Area.{encode, size}
-use Rattle.sdp_lines.specs.Lines.{split, start}
+use Rattle.sdp_lines.specs.Lines.{split}
 use Rattle.sdp_lines.specs.declared.Span.{Span}
 use Rattle.sdp_lines.specs.declared.Cursor.{Cursor}
 use Rattle.sdp_strings.specs.Strings.{spanAt}
@@ -31,10 +31,10 @@ runAt s ρ c = run spanAt ρ (c .line .0) (c .at .0) (split (drop (c .at .0) s))
 unfoldable pub beginAt : List ℕ → Cursor → Verdict Span
 beginAt s c = begin spanAt (c .line .0) (c .at .0) (split (drop (c .at .0) s))
 
--- what is found at a text's start: where the lines after the version are due, or the whole text's refusal
-abbrev pub Begun : List ℕ → Version → Type 0
-Begun s (version.Found c) = (beginAt s start ≡ runAt s fresh c) × Reached s c
-Begun s (version.Refused x) = beginAt s start ≡ refused x
+-- what is found from c on: the lines after the version are due where the cutter then stands, at d; or the refusal
+abbrev pub Begun : List ℕ → Cursor → Version → Cursor → Type 0
+Begun s c version.Found d = (beginAt s c ≡ runAt s fresh d) × Reached s d
+Begun s c (version.Refused x) d = beginAt s c ≡ refused x
 
 -- ---- the loop over the lines
 -- the answer of the lines, and the area after them: the session, or a refusal after which only the bytes behind count

@@ -1,14 +1,15 @@
--- What one line does to a run, at a cursor: what the bodies of the loops promise.
-use Prim.Native.Nat.{ℕ, _<_}
-use mathlib.Core.Path.{_≡_}
+-- What one line does to a run, at a cursor: what the bodies of the loops promise. Where the cutter stands then is said
+-- apart: `moveAt`.
+use Prim.Native.Nat.{ℕ, _+_, _<_, _≤_}
 use mathlib.Core.List.{List}
-use Rattle.sdp_lines.specs.Lines.{cutAt}
+use lib.ListN.{length}
 use Rattle.sdp_lines.specs.Strings.{bytesOf}
 use Rattle.sdp_lines.specs.Answers.{faultNumber}
 use Rattle.sdp_lines.specs.declared.Span.{Span}
 use Rattle.sdp_lines.specs.declared.Cursor.{Cursor}
-use Rattle.sdp_lines.specs.declared.Cut.{Cut}
-use Rattle.sdp_lines.specs.declared.Cut.the-variants.{Line, Empty, Refused, End}
+use Rattle.sdp_cutter.specs.Cutter.{moveAt}
+use Rattle.sdp_cutter.specs.declared.Next.{Next}
+use Rattle.sdp_cutter.specs.declared.Next.the-variants.{Found, Empty, Refused, End}
 use Rattle.sdp_strings.specs.Strings.{spanAt}
 use Rattle.sdp_step.specs.Step.{Reading, Stepped, goes, stops, step}
 use Rattle.sdp_step.specs.Hold.{Holds}
@@ -24,37 +25,44 @@ use Rattle.sdp_read.specs.declared.Search.{Search}
 use Rattle.sdp_read.specs.declared.Search.the-variants.{On, Told}
 use Rattle.sdp_read.specs.declared.Version.the-variants as version
 
+-- what the cutter found stands in the text
+abbrev pub Inside : List ℕ → Next → Type 0
+Inside s (Found n l v) = v .at .0 + v .len ≤ length s
+Inside s Empty = Unit {0}
+Inside s (Refused f n) = Unit {0}
+Inside s End = Unit {0}
+
 -- ---- after the version
--- what a line does to a run: it goes on at a cursor, or is over
+-- what a line does to a run: it goes on, or is over
 pub data Lined : Type 0 where
-  on : Reading Span → Cursor → Lined
+  on : Reading Span → Lined
   over : Verdict Span → Lined
 
--- after the step of the line with number n, the next one due at d
-abbrev pub steppedTo : ℕ → Cursor → Stepped Span → Lined
-steppedTo n d (goes ρ) = on ρ d
-steppedTo n d (stops number field) = over (onLine number n field)
+-- after the step of the line with number n
+abbrev pub stepped : ℕ → Stepped Span → Lined
+stepped n (goes ρ) = on ρ
+stepped n (stops number field) = over (onLine number n field)
 
 -- a line of good form, its number n, its letter l, its value v of the text s
-abbrev pub goodLine : List ℕ → Reading Span → ℕ → ℕ → Span → Cursor → Lined
-goodLine s ρ n l v d = steppedTo n d (step (spanAt (v .at .0) (bytesOf s v)) ρ (bytesOf s v) l)
+abbrev pub goodLine : List ℕ → Reading Span → ℕ → ℕ → Span → Lined
+goodLine s ρ n l v = stepped n (step (spanAt (v .at .0) (bytesOf s v)) ρ (bytesOf s v) l)
 
--- the line of number n, by what was cut
-abbrev pub lineBy : List ℕ → Reading Span → ℕ → Cut → Lined
-lineBy s ρ n End = over (accepted (ρ .session))
-lineBy s ρ n (Refused f m) = over (onLine (faultNumber f) (m .0) 0)
-lineBy s ρ n (Empty d) = on ρ d
-lineBy s ρ n (Line l v d) = goodLine s ρ n l v d
+-- by what the cutter found
+abbrev pub lineOf : List ℕ → Reading Span → Next → Lined
+lineOf s ρ (Found n l v) = goodLine s ρ (n .0) l v
+lineOf s ρ Empty = on ρ
+lineOf s ρ (Refused f n) = over (onLine (faultNumber f) (n .0) 0)
+lineOf s ρ End = over (accepted (ρ .session))
 
 -- the line that stands at a cursor
 unfoldable pub lineAt : List ℕ → Reading Span → Cursor → Lined
-lineAt s ρ c = lineBy s ρ (c .line .0) (cutAt s c)
+lineAt s ρ c = lineOf s ρ (moveAt s (c .at) (c .line) .next)
 
 -- the code's answer for it, and the area: a run that goes on is held there
 abbrev pub Turned : Lined → Turn → List ℕ → List ℕ → Type 0
-Turned (on ρ d) (Goes n) a t = (n .due ≡ d) × Holds ρ (n .marks) a t
-Turned (on ρ d) (Over e) a t = ⊥
-Turned (over v) (Goes n) a t = ⊥
+Turned (on ρ) (Goes m) a t = Holds ρ m a t
+Turned (on ρ) (Over e) a t = ⊥
+Turned (over v) (Goes m) a t = ⊥
 Turned (over v) (Over e) a t = Left v e a t
 
 -- whatever session the area held
@@ -67,33 +75,32 @@ pub record Further (s : List ℕ) (c d : Cursor) : Type 0 where
   pub forward : c .at .0 < d .at .0
   pub reached : Reached s c → Reached s d
 
--- a turn that goes on stands at d
-abbrev pub Due : Cursor → Turn → Type 0
-Due d (Goes n) = n .due ≡ d
-Due d (Over e) = Unit {0}
-
--- a turn that goes on stands further on than c
-abbrev pub Onward : List ℕ → Cursor → Turn → Type 0
-Onward s c (Goes n) = Further s c (n .due)
-Onward s c (Over e) = Unit {0}
+-- a run goes on only past a line
+abbrev pub Passes : Next → Turn → Type 0
+Passes (Found n l v) r = Unit {0}
+Passes Empty r = Unit {0}
+Passes (Refused f n) (Goes m) = ⊥
+Passes (Refused f n) (Over e) = Unit {0}
+Passes End (Goes m) = ⊥
+Passes End (Over e) = Unit {0}
 
 -- ---- before the version
--- the first line that is not empty, the next one due at d
-abbrev pub openedTo : Cursor → Opening → Search
-openedTo d opening.Zero = Told (version.Found d)
-openedTo d (opening.Refused x) = Told (version.Refused x)
+-- the first line that is not empty
+abbrev pub openedTo : Opening → Search
+openedTo opening.Zero = Told version.Found
+openedTo (opening.Refused x) = Told (version.Refused x)
 
 -- a line of good form, as goodLine
-abbrev pub openedLine : List ℕ → ℕ → ℕ → Span → Cursor → Search
-openedLine s n l v d = openedTo d (openingOf n (v .at .0) l (bytesOf s v))
+abbrev pub openedLine : List ℕ → ℕ → ℕ → Span → Search
+openedLine s n l v = openedTo (openingOf n (v .at .0) l (bytesOf s v))
 
--- the line of number n, by what was cut
-abbrev pub versionBy : List ℕ → ℕ → Cut → Search
-versionBy s n End = Told (version.Refused noVersion)
-versionBy s n (Refused f m) = Told (version.Refused (answer (faultNumber f) (m .0) 0))
-versionBy s n (Empty d) = On d
-versionBy s n (Line l v d) = openedLine s n l v d
+-- by what the cutter found
+abbrev pub versionOf : List ℕ → Next → Search
+versionOf s (Found n l v) = openedLine s (n .0) l v
+versionOf s Empty = On
+versionOf s (Refused f n) = Told (version.Refused (answer (faultNumber f) (n .0) 0))
+versionOf s End = Told (version.Refused noVersion)
 
 -- the line that stands at a cursor
 unfoldable pub versionAt : List ℕ → Cursor → Search
-versionAt s c = versionBy s (c .line .0) (cutAt s c)
+versionAt s c = versionOf s (moveAt s (c .at) (c .line) .next)

@@ -10,13 +10,13 @@ returns : tie.Need-returns
 returns c =
     let k = c .before .before in
     let a = k .before .before .before .before .before .args in
-    ap (openedTo (a .then)) (sym (c .enum-told .given .1) ∙ (rw (part-is (a .text .now) (a .value)) at (k .opening-line .ensures)))
+    ap openedTo (sym (c .enum-told .given .1) ∙ (rw (part-is (a .text .now) (a .value)) at (k .opening-line .ensures)))
 
 returns-2 : tie.Need-returns-2
 returns-2 c =
     let k = c .before .before .before in
     let a = k .before .before .before .before .before .args in
-    ap (openedTo (a .then)) (sym (c .before .x .given .1) ∙ (rw (part-is (a .text .now) (a .value)) at (k .opening-line .ensures)))
+    ap openedTo (sym (c .before .x .given .1) ∙ (rw (part-is (a .text .now) (a .value)) at (k .opening-line .ensures)))
 
 pub opened-line-spec : {M : Type 1} → statement M
 opened-line-spec =
