@@ -3,3 +3,4 @@ pub mod RestLaws
 pub mod TurnLaws
 pub mod LoopLaws
 pub mod ReadLaws
+pub mod AgainLaws
