@@ -6,6 +6,8 @@ use mathlib.Core.Path.{_≡_, refl, sym, ap, _∙_}
 use mathlib.Core.Bool.{false}
 use mathlib.Core.List.{List, _++_}
 use lib.ListN.{length}
+use Rattle.sdp_lines.specs.Lines.{start}
+use Rattle.sdp_lines.specs.declared.Answer.{Answer}
 use Rattle.sdp_lines.specs.declared.Span.{Span}
 use Rattle.sdp_lines.specs.declared.Cursor.{Cursor}
 use Rattle.sdp_area.specs.Session.{Within, empty}
@@ -13,9 +15,12 @@ use Rattle.sdp_area.specs.Area.{encode}
 use Rattle.sdp_step.specs.Step.{Reading, fresh}
 use Rattle.sdp_step.specs.Hold.{Holds}
 use Rattle.sdp_step.specs.declared.Marks.{Marks}
+use Rattle.sdp_step.proofs.TailLaws.{tail-of}
+use Rattle.sdp_read.specs.Run.{refused}
 use Rattle.sdp_read.specs.From.{Reached, runAt, beginAt, Begun, Left}
 use Rattle.sdp_read.specs.OneLine.{Lined, on, over, lineAt, Turned, Further, versionAt}
 use Rattle.sdp_read.specs.declared.Ended.{Ended}
+use Rattle.sdp_read.specs.declared.Ended.the-variants.{Stopped}
 use Rattle.sdp_read.specs.declared.Turn.the-variants.{Goes, Over}
 use Rattle.sdp_read.specs.declared.Search.{Search}
 use Rattle.sdp_read.specs.declared.Search.the-variants.{On, Told}
@@ -69,3 +74,10 @@ module _ (s : List ℕ) (short : length s ≤ 32768) (from c : Cursor) (w : Reac
   pub begun-told : (v : Version) → Told v ≡ versionAt s c → Begun s from v (then s c)
   begun-told version.Found e = (begun-on (Told version.Found) e, search-fine s c (Told version.Found) e .reached w)
   begun-told (version.Refused x) e = begun-on (Told (version.Refused x)) e
+
+-- ---- the whole text
+pub text-refused : (s : List ℕ) (x : Answer) → beginAt s start ≡ refused x → (a t : List ℕ) → a ≡ encode empty ++ t → Left (beginAt s start) (Stopped x) a t
+text-refused s x e a t k = rw e (refl, tail-of (going-begin s start a t k .holds))
+
+pub text-found : (s : List ℕ) (d : Cursor) → beginAt s start ≡ runAt s fresh d → (x : Ended) (a t : List ℕ) → Left (runAt s fresh d) x a t → Left (beginAt s start) x a t
+text-found s d e x a t h = rw e h
