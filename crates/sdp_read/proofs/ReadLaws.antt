@@ -7,14 +7,12 @@ use lib.ListN.{length, drop}
 use borrow.Author.Tests.{lt-ltb, le-ltb}
 use Rattle.sdp_lines.specs.Lines.{start}
 use Rattle.sdp_lines.specs.declared.Span.{Span}
-use Rattle.sdp_lines.specs.declared.Cursor.{Cursor}
 use Rattle.sdp_cells.specs.Bytes.{zeros}
 use Rattle.sdp_area.specs.Session.{empty}
 use Rattle.sdp_area.specs.Area.{encode, size}
 use Rattle.sdp_area.proofs.WidthLaws.{encode-empty}
-use Rattle.sdp_step.specs.Step.{fresh}
 use Rattle.sdp_read.specs.Run.{Verdict, accepted, refused, answer, lines, outcomeOf, readText}
-use Rattle.sdp_read.specs.From.{runAt, beginAt, Left, Said}
+use Rattle.sdp_read.specs.From.{beginAt, Left, Said}
 use Rattle.sdp_lines.specs.declared.Answer.{Answer}
 use Rattle.sdp_read.specs.declared.Ended.the-variants.{Accepted, Stopped}
 
@@ -41,11 +39,8 @@ module _ (s a : List ℕ) where
       unfolding readText lines beginAt
       read-is = rw (le-ltb (length a) size fits, le-ltb 32768 (length s) short)
 
-      pub says-refused : (x : Answer) (b : List ℕ) → beginAt s start ≡ refused x → b ≡ zeros size ++ drop size a → Says s a x b
-      says-refused x b e f = rw (read-is, e) (refl, f)
-
-      pub says-rest : (c : Cursor) → beginAt s start ≡ runAt s fresh c → (y : Answer) (b : List ℕ) → Said (runAt s fresh c) y b (drop size a) → Says s a y b
-      says-rest c e y b h = rw (read-is, e) (go (runAt s fresh c) h)
+      pub says-lines : (y : Answer) (b : List ℕ) → Said (beginAt s start) y b (drop size a) → Says s a y b
+      says-lines y b h = rw read-is (go (beginAt s start) h)
         where
           go : (v : Verdict Span) → Said v y b (drop size a) → (y ≡ outcomeOf a v .answer) × (b ≡ outcomeOf a v .area)
           go (accepted σ) h = h

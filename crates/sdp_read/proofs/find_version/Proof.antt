@@ -199,21 +199,26 @@ module _ {M : Type 1} (𝓤 : URA M) (H : Heap 𝓤) (A : Atoms 𝓤) (W : Given
         calls-at ! (fmOf 𝓤 H (W .laws) 𝓣) (VersionLine 𝓤 H A mem run) known (to-callee ν δ (t .0)) (and-then ! (load ! (from ! (stop !)) (look ! 3 refl)) (and-then ! (load ! (from ! (stop !)) (look ! 9 refl)) (no-more !))) (λ w.
         use1 W (later (some (λ (r : Search). ((‵ (flft (ν ∷ []) fullShare) ⊛ ‵ (flft κ′ q′) ⊛ ‵ ftrue) ⊛ ‵ (R.the-row .own r (w ∷ []))) ⊛ raw (ensured 𝓤 H A callee.ended (callee.clauses 𝓤 H A mem run) (ν ∷ [], (κ′, tt)) (at δ (t .0), (s, tt)) tt r)))) (id⊢ 𝓤 _) $ await ! tt $
         move ! (0 ∷ 2 ∷ []) $ pick ! (λ r. elim r [
-          On ↦ came tt ν δ (t .0) On w (λ y e is.
-            -- [the cutter's; its token; text's token; text's; _5; …; _4; …; _3; …; _2; …; _1; …; room for _0; …]
-            land ! (from ! (stop !)) (init ! 6 refl (EL.lawful R.the-type R′.the-laws 𝓤 H A W tt .typed On _ is .0)) $ rewrite ! 6 (λ (u : Val). ‵ (fat fullShare R′.mir l₄ 0 u)) (is-w On w is) refl $
-            by-variants ! 6 (whole !) (load ! (from ! (vrt ! refl (fld ! refl (stop !)))) (look-tag ! 6 (whole !))) tt (
-              (λ k. skips ! $ forget ! 4 refl $ forget ! 6 refl $ again ! Nearer (Before l₀ l₁ l₂ l₃ l₄ l₅) t (passed (asked .0) t y e) (nearer (asked .0) t y e)),
-              ((λ k. absurd (omega (arith, k))), tt)))
-        | Told x ↦ came tt ν δ (t .0) (Told x) w (λ y e is.
-            land ! (from ! (stop !)) (init ! 6 refl (EL.lawful R.the-type R′.the-laws 𝓤 H A W tt .typed (Told x) _ is .0)) $ rewrite ! 6 (λ (u : Val). ‵ (fat fullShare R′.mir l₄ 0 u)) (is-w (Told x) w is) refl $
-            by-variants ! 6 (whole !) (load ! (from ! (vrt ! refl (fld ! refl (stop !)))) (look-tag ! 6 (whole !))) tt (
-              (λ k. absurd (omega (arith, k))),
-              ((λ k. assigns ! (of-opd ! (load ! (from ! (vrt ! refl (fld ! refl (stop !)))) (look-in ! 6 (in-variant ! 1 0 refl refl (whole !))))) (from ! (stop !)) (init ! 8 refl (EL.lawful U.the-type U′.the-laws 𝓤 H A W tt .typed x _ (told-is x w is) .0)) $
-                assigns ! (of-opd ! (load ! (from ! (stop !)) (look ! 8 refl))) (from ! (stop !)) (init ! 14 refl (EL.lawful U.the-type U′.the-laws 𝓤 H A W tt .typed x _ (told-is x w is) .0)) $
-                returns-within ! Post refl (look ! 14 refl) $ forget ! 4 refl $ forget ! 6 refl $ forget ! 8 refl $ forget ! 10 refl $ forget ! 12 refl $ forget ! 14 refl $
-                move ! (14 ∷ 15 ∷ []) $ free1 ! $ move ! (12 ∷ 13 ∷ []) $ free1 ! $ move ! (10 ∷ 11 ∷ []) $ free1 ! $ move ! (8 ∷ 9 ∷ []) $ free1 ! $ move ! (6 ∷ 7 ∷ []) $ free1 ! $ move ! (4 ∷ 5 ∷ []) $ free1 ! $ free0 ! $
-                move ! (1 ∷ 2 ∷ []) $ join ! $ by ! (exits x y (told (asked .0) t x y e) (told-is x w is))), tt)))
+          | On ↦ came tt ν δ (t .0) On w (λ y e is.
+              -- [the cutter's; its token; text's token; text's; _5; …; _4; …; _3; …; _2; …; _1; …; room for _0; …]
+              land ! (from ! (stop !)) (init ! 6 refl (EL.lawful R.the-type R′.the-laws 𝓤 H A W tt .typed On _ is .0)) $ rewrite ! 6 (λ (u : Val). ‵ (fat fullShare R′.mir l₄ 0 u)) (is-w On w is) refl $
+              by-variants ! 6 (whole !) (load ! (from ! (vrt ! refl (fld ! refl (stop !)))) (look-tag ! 6 (whole !))) tt (
+                (λ k. skips ! $ forget ! 4 refl $ forget ! 6 refl $ again ! Nearer (Before l₀ l₁ l₂ l₃ l₄ l₅) t (passed (asked .0) t y e) (nearer (asked .0) t y e)),
+                ((λ k. absurd (omega (arith, k))), tt),
+              ))
+          | Told x ↦ came tt ν δ (t .0) (Told x) w (λ y e is.
+              land ! (from ! (stop !)) (init ! 6 refl (EL.lawful R.the-type R′.the-laws 𝓤 H A W tt .typed (Told x) _ is .0)) $ rewrite ! 6 (λ (u : Val). ‵ (fat fullShare R′.mir l₄ 0 u)) (is-w (Told x) w is) refl $
+              by-variants ! 6 (whole !) (load ! (from ! (vrt ! refl (fld ! refl (stop !)))) (look-tag ! 6 (whole !))) tt (
+                (λ k. absurd (omega (arith, k))),
+                (
+                  (λ k. assigns ! (of-opd ! (load ! (from ! (vrt ! refl (fld ! refl (stop !)))) (look-in ! 6 (in-variant ! 1 0 refl refl (whole !))))) (from ! (stop !)) (init ! 8 refl (EL.lawful U.the-type U′.the-laws 𝓤 H A W tt .typed x _ (told-is x w is) .0)) $
+                      assigns ! (of-opd ! (load ! (from ! (stop !)) (look ! 8 refl))) (from ! (stop !)) (init ! 14 refl (EL.lawful U.the-type U′.the-laws 𝓤 H A W tt .typed x _ (told-is x w is) .0)) $
+                      returns-within ! Post refl (look ! 14 refl) $ forget ! 4 refl $ forget ! 6 refl $ forget ! 8 refl $ forget ! 10 refl $ forget ! 12 refl $ forget ! 14 refl $
+                      move ! (14 ∷ 15 ∷ []) $ free1 ! $ move ! (12 ∷ 13 ∷ []) $ free1 ! $ move ! (10 ∷ 11 ∷ []) $ free1 ! $ move ! (8 ∷ 9 ∷ []) $ free1 ! $ move ! (6 ∷ 7 ∷ []) $ free1 ! $ move ! (4 ∷ 5 ∷ []) $ free1 ! $ free0 ! $
+                      move ! (1 ∷ 2 ∷ []) $ join ! $ by ! (exits x y (told (asked .0) t x y e) (told-is x w is))),
+                  tt,
+                ),
+              ))
         ]))))) (h, (asked .1, refl))))))))
 
 module _ {M : Type 1} (𝓤 : URA M) (H : Heap 𝓤) (A : Atoms 𝓤) (W : Given 𝓤 H A) (mem : Memory → SProp 𝓤) (run : Routine → Fun 𝓤) (𝓣 : Tables 𝓤 H) where

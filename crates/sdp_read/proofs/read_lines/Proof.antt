@@ -197,7 +197,7 @@ module _ {M : Type 1} (𝓤 : URA M) (H : Heap 𝓤) (A : Atoms 𝓤) (W : Given
   came : {G : Goal 𝓤 H} {Γ : List (Item 𝓤)} → Soaks G → Room u8 (length ys) → (ν ν′ : ℕ) (δ δ′ : GName) (t : Stand (now s) h ys) (r : Turn) (w : Val)
       → ((y : Cutter) (zs : List ℕ) → Said (now s) (t .cutter) (t .marks) (t .area) r y zs → length zs ≡ length (t .area) → Is R.the-row r (w ∷ []) → Sq W (‵ (Cut κ γ y) ∷ ‵ (flft κ q) ∷ ‵ (flft κ′ q′) ∷ ‵ (Area κ″ γ′ zs) ∷ ‵ (flft κ″ q″) ∷ Γ) G)
       → Sq W (((Tokens ν ν′ ⊛ ‵ (R.the-row .own r (w ∷ []))) ⊛ raw (ensured 𝓤 H A callee.ended (callee.clauses 𝓤 H A mem run) (ν ∷ [], (κ′, (ν′ ∷ [], tt))) (args δ δ′ (t .cutter) (t .marks) (t .area)) tt r))
-          ∷ ‵ (LentAgain T.the-row κ (ν ∷ []) q γ b o δ (t .cutter)) ∷ ‵ (SliceLent u8 κ″ (ν′ ∷ []) q″ γ′ b′ o′ δ′ (t .area)) ∷ Γ) G
+      ∷ ‵ (LentAgain T.the-row κ (ν ∷ []) q γ b o δ (t .cutter)) ∷ ‵ (SliceLent u8 κ″ (ν′ ∷ []) q″ γ′ b′ o′ δ′ (t .area)) ∷ Γ) G
   came soaks room ν ν′ δ δ′ t r w k =
       split ! $ move ! (1 ∷ []) $ use1 W (some (λ (zs : Cutter × (Unit {0} × (List ℕ × (Unit {0} × Unit {0})))). ‵ (lasts callee.ended (ν ∷ [], (κ′, (ν′ ∷ [], tt))) (args δ δ′ (t .cutter) (t .marks) (t .area)) zs) ⊛ raw (fact 𝓤 (Said (now s) (t .cutter) (t .marks) (t .area) r (zs .0) (zs .1 .1 .0))))) (id⊢ 𝓤 _) $ pick ! (λ zs.
       split ! $ move ! (1 ∷ []) $ heard ! (Said (now s) (t .cutter) (t .marks) (t .area) r (zs .0) (zs .1 .1 .0)) (λ e. fsplit ! $ move ! (1 ∷ []) $ fsplit ! $ drop ! $ fsplit ! $ fsplit ! $ move ! (1 ∷ []) $ feqL ! (λ l. move ! (1 ∷ []) $ drop ! $
@@ -276,25 +276,30 @@ module _ {M : Type 1} (𝓤 : URA M) (H : Heap 𝓤) (A : Atoms 𝓤) (W : Given
         (and-then ! (load ! (from ! (stop !)) (look ! 8 refl)) (and-then ! (load ! (from ! (stop !)) (look ! 20 refl)) (and-then ! (load ! (from ! (stop !)) (look ! 4 refl)) (and-then ! (load ! (from ! (stop !)) (look ! 16 refl)) (no-more !))))) (λ w.
         use1 W (later (some (λ (r : Turn). (Tokens ν ν′ ⊛ ‵ (R.the-row .own r (w ∷ []))) ⊛ raw (ensured 𝓤 H A callee.ended (callee.clauses 𝓤 H A mem run) (ν ∷ [], (κ′, (ν′ ∷ [], tt))) (args δ δ′ (t .cutter) (t .marks) (t .area)) tt r)))) (id⊢ 𝓤 _) $ await ! tt $
         move ! (0 ∷ 3 ∷ 2 ∷ []) $ pick ! (λ r. elim r [
-          Goes n ↦ came tt room ν ν′ δ δ′ t (Goes n) w (λ y zs e l is.
-            -- the same as at the turn's start, but for the cutter's and the area's values and the locals _10, _9 and _8
-            land ! (from ! (stop !)) (init ! 12 refl (EL.lawful R.the-type R′.the-laws 𝓤 H A W tt .typed (Goes n) _ is .0)) $ rewrite ! 12 (λ (k : Val). ‵ (fat fullShare R′.mir l₇ 0 k)) (is-w (Goes n) w is) refl $
-            by-variants ! 12 (whole !) (load ! (from ! (vrt ! refl (fld ! refl (stop !)))) (look-tag ! 12 (whole !))) tt (
-              (λ k. assigns ! (of-opd ! (load ! (from ! (vrt ! refl (fld ! refl (stop !)))) (look-in ! 12 (in-variant ! 0 0 refl refl (whole !))))) (from ! (stop !)) (init ! 16 refl (LL.lawful K.the-type K′.the-laws 𝓤 H A W .typed n _ (goes-is n w is) .0)) $
-                assigns-last ! (of-opd ! (load ! (from ! (stop !)) (look ! 16 refl))) (from ! (stop !)) (store ! 18 refl (LL.lawful K.the-type K′.the-laws 𝓤 H A W .typed n _ (goes-is n w is) .0)) $
-                forget ! 6 refl $ forget ! 8 refl $ forget ! 10 refl $ forget ! 12 refl $ forget ! 16 refl $
-                again ! Nearer (Before l₀ l₁ l₂ l₃ l₄ l₅ l₆ l₇ l₈ l₉ l₁₀) t (passed (now s) h ys (asked .1 .0) t n (goes-is n w is) y zs l e) (nearer (now s) h ys (asked .1 .0) t n (goes-is n w is) y zs l e)),
-              ((λ k. absurd (omega (arith, k))), tt)))
-        | Over x ↦ came tt room ν ν′ δ δ′ t (Over x) w (λ y zs e l is.
-            land ! (from ! (stop !)) (init ! 12 refl (EL.lawful R.the-type R′.the-laws 𝓤 H A W tt .typed (Over x) _ is .0)) $ rewrite ! 12 (λ (k : Val). ‵ (fat fullShare R′.mir l₇ 0 k)) (is-w (Over x) w is) refl $
-            by-variants ! 12 (whole !) (load ! (from ! (vrt ! refl (fld ! refl (stop !)))) (look-tag ! 12 (whole !))) tt (
-              (λ k. absurd (omega (arith, k))),
-              ((λ k. assigns ! (of-opd ! (load ! (from ! (vrt ! refl (fld ! refl (stop !)))) (look-in ! 12 (in-variant ! 1 0 refl refl (whole !))))) (from ! (stop !)) (init ! 14 refl (EL.lawful E.the-type E′.the-laws 𝓤 H A W tt .typed x _ (over-is x w is) .0)) $
-                assigns ! (of-opd ! (load ! (from ! (stop !)) (look ! 14 refl))) (from ! (stop !)) (init ! 26 refl (EL.lawful E.the-type E′.the-laws 𝓤 H A W tt .typed x _ (over-is x w is) .0)) $
-                returns-within ! Post refl (look ! 26 refl) $ forget ! 6 refl $ forget ! 8 refl $ forget ! 10 refl $ forget ! 12 refl $ forget ! 14 refl $ forget ! 18 refl $ forget ! 20 refl $ forget ! 22 refl $ forget ! 24 refl $ forget ! 26 refl $
-                move ! (26 ∷ 27 ∷ []) $ free1 ! $ move ! (24 ∷ 25 ∷ []) $ free1 ! $ move ! (22 ∷ 23 ∷ []) $ free1 ! $ move ! (20 ∷ 21 ∷ []) $ free1 ! $ move ! (18 ∷ 19 ∷ []) $ free1 ! $ move ! (16 ∷ 17 ∷ []) $ free1 ! $ move ! (14 ∷ 15 ∷ []) $ free1 ! $
-                move ! (12 ∷ 13 ∷ []) $ free1 ! $ move ! (10 ∷ 11 ∷ []) $ free1 ! $ move ! (8 ∷ 9 ∷ []) $ free1 ! $ move ! (6 ∷ 7 ∷ []) $ free1 ! $ free0 ! $
-                nothing ! $ move ! (5 ∷ 0 ∷ []) $ join ! $ move ! (3 ∷ 0 ∷ []) $ join ! $ move ! (2 ∷ 0 ∷ []) $ join ! $ by ! (exits x y zs (ended (now s) h ys (asked .1 .0) t x y zs e) (l ∙ t .same) (over-is x w is))), tt)))
+          | Goes n ↦ came tt room ν ν′ δ δ′ t (Goes n) w (λ y zs e l is.
+              -- the same as at the turn's start, but for the cutter's and the area's values and the locals _10, _9 and _8
+              land ! (from ! (stop !)) (init ! 12 refl (EL.lawful R.the-type R′.the-laws 𝓤 H A W tt .typed (Goes n) _ is .0)) $ rewrite ! 12 (λ (k : Val). ‵ (fat fullShare R′.mir l₇ 0 k)) (is-w (Goes n) w is) refl $
+              by-variants ! 12 (whole !) (load ! (from ! (vrt ! refl (fld ! refl (stop !)))) (look-tag ! 12 (whole !))) tt (
+                (λ k. assigns ! (of-opd ! (load ! (from ! (vrt ! refl (fld ! refl (stop !)))) (look-in ! 12 (in-variant ! 0 0 refl refl (whole !))))) (from ! (stop !)) (init ! 16 refl (LL.lawful K.the-type K′.the-laws 𝓤 H A W .typed n _ (goes-is n w is) .0)) $
+                    assigns-last ! (of-opd ! (load ! (from ! (stop !)) (look ! 16 refl))) (from ! (stop !)) (store ! 18 refl (LL.lawful K.the-type K′.the-laws 𝓤 H A W .typed n _ (goes-is n w is) .0)) $
+                    forget ! 6 refl $ forget ! 8 refl $ forget ! 10 refl $ forget ! 12 refl $ forget ! 16 refl $
+                    again ! Nearer (Before l₀ l₁ l₂ l₃ l₄ l₅ l₆ l₇ l₈ l₉ l₁₀) t (passed (now s) h ys (asked .1 .0) t n (goes-is n w is) y zs l e) (nearer (now s) h ys (asked .1 .0) t n (goes-is n w is) y zs l e)),
+                ((λ k. absurd (omega (arith, k))), tt),
+              ))
+          | Over x ↦ came tt room ν ν′ δ δ′ t (Over x) w (λ y zs e l is.
+              land ! (from ! (stop !)) (init ! 12 refl (EL.lawful R.the-type R′.the-laws 𝓤 H A W tt .typed (Over x) _ is .0)) $ rewrite ! 12 (λ (k : Val). ‵ (fat fullShare R′.mir l₇ 0 k)) (is-w (Over x) w is) refl $
+              by-variants ! 12 (whole !) (load ! (from ! (vrt ! refl (fld ! refl (stop !)))) (look-tag ! 12 (whole !))) tt (
+                (λ k. absurd (omega (arith, k))),
+                (
+                  (λ k. assigns ! (of-opd ! (load ! (from ! (vrt ! refl (fld ! refl (stop !)))) (look-in ! 12 (in-variant ! 1 0 refl refl (whole !))))) (from ! (stop !)) (init ! 14 refl (EL.lawful E.the-type E′.the-laws 𝓤 H A W tt .typed x _ (over-is x w is) .0)) $
+                      assigns ! (of-opd ! (load ! (from ! (stop !)) (look ! 14 refl))) (from ! (stop !)) (init ! 26 refl (EL.lawful E.the-type E′.the-laws 𝓤 H A W tt .typed x _ (over-is x w is) .0)) $
+                      returns-within ! Post refl (look ! 26 refl) $ forget ! 6 refl $ forget ! 8 refl $ forget ! 10 refl $ forget ! 12 refl $ forget ! 14 refl $ forget ! 18 refl $ forget ! 20 refl $ forget ! 22 refl $ forget ! 24 refl $ forget ! 26 refl $
+                      move ! (26 ∷ 27 ∷ []) $ free1 ! $ move ! (24 ∷ 25 ∷ []) $ free1 ! $ move ! (22 ∷ 23 ∷ []) $ free1 ! $ move ! (20 ∷ 21 ∷ []) $ free1 ! $ move ! (18 ∷ 19 ∷ []) $ free1 ! $ move ! (16 ∷ 17 ∷ []) $ free1 ! $ move ! (14 ∷ 15 ∷ []) $ free1 ! $
+                      move ! (12 ∷ 13 ∷ []) $ free1 ! $ move ! (10 ∷ 11 ∷ []) $ free1 ! $ move ! (8 ∷ 9 ∷ []) $ free1 ! $ move ! (6 ∷ 7 ∷ []) $ free1 ! $ free0 ! $
+                      nothing ! $ move ! (5 ∷ 0 ∷ []) $ join ! $ move ! (3 ∷ 0 ∷ []) $ join ! $ move ! (2 ∷ 0 ∷ []) $ join ! $ by ! (exits x y zs (ended (now s) h ys (asked .1 .0) t x y zs e) (l ∙ t .same) (over-is x w is))),
+                  tt,
+                ),
+              ))
         ]))))))) (record { cutter = h; marks = none; area = ys; marks-are = none-is; same = refl; reached = asked .1 .1; going = λ r k. going-begin (now s) (due h) ys r k }))))))))))))
 
 module _ {M : Type 1} (𝓤 : URA M) (H : Heap 𝓤) (A : Atoms 𝓤) (W : Given 𝓤 H A) (mem : Memory → SProp 𝓤) (run : Routine → Fun 𝓤) (𝓣 : Tables 𝓤 H) where

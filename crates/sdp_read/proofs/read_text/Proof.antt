@@ -191,7 +191,7 @@ module _ {M : Type 1} (𝓤 : URA M) (H : Heap 𝓤) (A : Atoms 𝓤) (W : Given
   found : {G : Goal 𝓤 H} {Γ : List (Item 𝓤)} → Soaks G → (ν l : ℕ) (δ : GName) (r : Version) (w : Val)
       → ((z : Cutter) → Begun (now s) start r (due z) → Is T.the-row z (T′.lowered z ∷ []) → Is U.the-row r (w ∷ []) → Sq W (‵ (fat fullShare T′.mir l 0 (T′.lowered z)) ∷ (‵ (flft κ q) ⊛ ‵ ftrue) ∷ Γ) G)
       → Sq W ((((‵ (flft (ν ∷ []) fullShare) ⊛ ‵ (flft κ q) ⊛ ‵ ftrue) ⊛ ‵ (U.the-row .own r (w ∷ []))) ⊛ raw (ensured 𝓤 H A find.ended (find.clauses 𝓤 H A at-mem run) (ν ∷ [], (κ, tt)) (lent l δ first-line, (s, tt)) tt r))
-          ∷ ‵ (flent (ν ∷ []) (Body (mem T.the-row) l 0 δ)) ∷ Γ) G
+      ∷ ‵ (flent (ν ∷ []) (Body (mem T.the-row) l 0 δ)) ∷ Γ) G
   found soaks ν l δ r w k =
       split ! $ move ! (1 ∷ []) $ use1 W (some (λ (zs : Cutter × (Unit {0} × Unit {0})). ‵ (lasts find.ended (ν ∷ [], (κ, tt)) (lent l δ first-line, (s, tt)) zs) ⊛ raw (fact 𝓤 (Begun (now s) start r (due (zs .0)))))) (id⊢ 𝓤 _) $ pick ! (λ zs.
       split ! $ move ! (1 ∷ []) $ heard ! (Begun (now s) start r (due (zs .0))) (λ e. fsplit ! $
@@ -223,7 +223,7 @@ module _ {M : Type 1} (𝓤 : URA M) (H : Heap 𝓤) (A : Atoms 𝓤) (W : Given
   came : {G : Goal 𝓤 H} {Γ : List (Item 𝓤)} → Soaks G → Room u8 (length ys) → (ν ν′ l : ℕ) (δ δ′ : GName) (z : Cutter) (x : Ended) (w : Val)
       → ((y : Cutter) (zs : List ℕ) → Ends z x zs → length zs ≡ length ys → Is E.the-row x (w ∷ []) → Sq W (‵ (fat fullShare T′.mir l 0 (T′.lowered y)) ∷ (‵ (flft κ q) ⊛ ‵ ftrue) ∷ ‵ (flft κ′ q′) ∷ ‵ (Area κ′ γ zs) ∷ Γ) G)
       → Sq W (((Tokens ν ν′ ⊛ ‵ (E.the-row .own x (w ∷ []))) ⊛ raw (ensured 𝓤 H A rest.ended (rest.clauses 𝓤 H A at-mem run) (ν ∷ [], (κ, (ν′ ∷ [], tt))) (args l δ δ′ z) tt x))
-          ∷ ‵ (flent (ν ∷ []) (Body (mem T.the-row) l 0 δ)) ∷ ‵ (SliceLent u8 κ′ (ν′ ∷ []) q′ γ b o δ′ ys) ∷ Γ) G
+      ∷ ‵ (flent (ν ∷ []) (Body (mem T.the-row) l 0 δ)) ∷ ‵ (SliceLent u8 κ′ (ν′ ∷ []) q′ γ b o δ′ ys) ∷ Γ) G
   came soaks room ν ν′ l δ δ′ z x w k =
       split ! $ move ! (1 ∷ []) $ use1 W (some (λ (zs : Cutter × (Unit {0} × (List ℕ × Unit {0}))). ‵ (lasts rest.ended (ν ∷ [], (κ, (ν′ ∷ [], tt))) (args l δ δ′ z) zs) ⊛ raw (fact 𝓤 (Ends z x (zs .1 .1 .0))))) (id⊢ 𝓤 _) $ pick ! (λ zs.
       split ! $ move ! (1 ∷ []) $ heard ! (Ends z x (zs .1 .1 .0)) (λ e. fsplit ! $ move ! (1 ∷ []) $ fsplit ! $ drop ! $ fsplit ! $ fsplit ! $ move ! (1 ∷ []) $ feqL ! (λ c. move ! (1 ∷ []) $ drop ! $
@@ -302,39 +302,44 @@ module _ {M : Type 1} (𝓤 : URA M) (H : Heap 𝓤) (A : Atoms 𝓤) (W : Given
         move ! (1 ∷ []) $ split ! $ move ! (2 ∷ 5 ∷ 0 ∷ 4 ∷ 3 ∷ []) $
         -- [what it says; the lender's part; the area's token; the area's; text's; true; _12; …]
         move ! (5 ∷ []) $ drop ! $ pick ! (λ r. elim r [
-          Found ↦ found tt ν l₃ δ Found w (λ z e z-is is.
-            -- [_3; text's token; the area's token; the area's; text's; _12; …; _11; …; _10; …; _9; …; _8; …; _7; …; _6; …; _5; …; _4; …; _3's end; _2; …; _1; …; room for _0; …]
-            land ! (from ! (stop !)) (init ! 15 refl (EL.lawful U.the-type U′.the-laws 𝓤 H A W tt .typed Found _ is .0)) $ rewrite ! 15 (λ (k : Val). ‵ (fat fullShare U′.mir l₇ 0 k)) (version-w Found w is) refl $
-            first ! $ by-variants ! 15 (whole !) (load ! (from ! (vrt ! refl (fld ! refl (stop !)))) (look-tag ! 15 (whole !))) tt (
-              (λ k. absurd (omega (arith, k))),
-              ((λ k. assigns ! (addr ! (from ! (stop !))) (from ! (stop !)) (init ! 9 refl (tt, tt)) $
-                assigns ! (addr ! (from ! (fld ! refl (hop ! (look-in ! 24 (sub ! 0 refl (whole !))) (stop !))))) (from ! (stop !)) (init ! 7 refl (tt, tt)) $
-                assigns ! (agg ! (and-then ! (load ! (from ! (stop !)) (look ! 7 refl)) (and-then ! (load ! (from ! (fld ! refl (stop !))) (look-in ! 24 (sub ! 1 refl (whole !)))) (no-more !)))) (from ! (stop !)) (init ! 5 refl (tt, (tt, (record { fits = room .0 }, tt)))) $
-                -- the cutter is lent once more, and the area too
-                use1 W (‵ (partAt T.the-row fullShare z l₃ 0)) (lies z z-is l₃) $ lft-new ! tt (λ α. move ! (1 ∷ []) $
-                use1 W (later (some (λ (ε : GName). ‵ (Cut α l₃ ε z) ⊛ ‵ (flent (α ∷ []) (Body (mem T.the-row) l₃ 0 ε))))) (lends-ref 𝓤 H A W T.the-row (named 0) (α ∷ []) z l₃ 0) $ await ! tt $ pick ! (λ ε. split ! $
-                -- [the reference; the lender's part; α's token; text's token; the area's token; the area's; text's; _12; …]
-                lft-new ! tt (λ α′. move ! (6 ∷ 5 ∷ []) $
-                use2 W (later (some (λ (ε′ : GName). ‵ (MutSlice (named 2) (α′ ∷ []) u8 .own (bytes ε′ ys) (u ∷ [])) ⊛ ‵ (SliceLent u8 κ′ (α′ ∷ []) q′ γ b o ε′ ys)))) (lends-slice-again u8 κ′ (α′ ∷ []) q′ γ b o 𝓤 H A W (named 1) (named 2) ys (length ys) refl) $ await ! tt $ pick ! (λ ε′. split ! $
-                -- [the area lent again; what is kept of it; α′'s token; the reference; the lender's part; α's token; text's token; text's; _12; …]
-                move ! (7 ∷ []) $ use1 W (‵ Own ⊛ ‵ Own) (shr-slice-copy 𝓤 H A W (named 0) κ u8 .twice s (v ∷ [])) $ split ! $ move ! (8 ∷ []) $ split ! $ move ! (6 ∷ 1 ∷ []) $ join ! $ move ! (1 ∷ 0 ∷ []) $ join ! $ move ! (7 ∷ 0 ∷ []) $ join ! $
-                -- [the tokens; text's; text's; the area lent again; what is kept of it; the reference; the lender's part; _12; …]
-                move ! (0 ∷ 5 ∷ 1 ∷ 3 ∷ []) $ join ! $ use3 W (raw (ReadLines 𝓤 H A at-mem run .pre (to-rest α α′ l₃ ε ε′ z))) (goes-rest α α′ l₃ ε ε′ z (asked .0, (asked .1, e .1))) $
-                -- [what `read_lines` asks; text's; what is kept of the area; the lender's part; _12; …; _11; …; _10; …; _9; …; _8; …; _7; …; _6; …; _5; …; _4; …; _3's end; _2; …; _1; …; room for _0; …]
-                calls-at-last ! fm (ReadLines 𝓤 H A at-mem run) known-rest (to-rest α α′ l₃ ε ε′ z) (and-then ! (load ! (from ! (stop !)) (look ! 8 refl)) (and-then ! (load ! (from ! (stop !)) (look ! 25 refl)) (and-then ! (load ! (from ! (stop !)) (look ! 4 refl)) (no-more !)))) (λ w′.
-                use1 W (later (some (λ (x : Ended). (Tokens α α′ ⊛ ‵ (E.the-row .own x (w′ ∷ []))) ⊛ raw (ensured 𝓤 H A rest.ended (rest.clauses 𝓤 H A at-mem run) (α ∷ [], (κ, (α′ ∷ [], tt))) (args l₃ ε ε′ z) tt x)))) (id⊢ 𝓤 _) $ await ! tt $
-                move ! (0 ∷ 3 ∷ 2 ∷ []) $ pick ! (λ x. came tt room α α′ l₃ ε ε′ z x w′ (λ y zs e′ c is′.
-                land-last ! (from ! (stop !)) (init ! 11 refl (EL.lawful E.the-type E′.the-laws 𝓤 H A W tt .typed x _ is′ .0)) $ rewrite ! 11 (λ (k′ : Val). ‵ (fat fullShare E′.mir l₉ 0 k′)) (ended-w x w′ is′) refl $
-                forget ! 0 refl $ forget ! 5 refl $ forget ! 7 refl $ forget ! 9 refl $ forget ! 13 refl $ forget ! 15 refl $ forget ! 17 refl $ forget ! 19 refl $
-                leaves l₀ l₁ l₂ l₃ l₄ l₅ l₆ l₇ l₈ l₉ l₁₀ l₁₁ l₁₂ x zs (λ t j. text-found (now s) (due z) (e .0) x zs t (e′ t j)) c (ended-is x w′ is′)))))))), tt))))
-        | Refused x ↦ found tt ν l₃ δ (Refused x) w (λ z e z-is is.
-            land ! (from ! (stop !)) (init ! 15 refl (EL.lawful U.the-type U′.the-laws 𝓤 H A W tt .typed (Refused x) _ is .0)) $ rewrite ! 15 (λ (k : Val). ‵ (fat fullShare U′.mir l₇ 0 k)) (version-w (Refused x) w is) refl $
-            first ! $ by-variants ! 15 (whole !) (load ! (from ! (vrt ! refl (fld ! refl (stop !)))) (look-tag ! 15 (whole !))) tt (
-              (λ k. assigns ! (of-opd ! (load ! (from ! (vrt ! refl (fld ! refl (stop !)))) (look-in ! 15 (in-variant ! 1 0 refl refl (whole !))))) (from ! (stop !)) (init ! 21 refl (LL.lawful Y.the-type Y′.the-laws 𝓤 H A W .typed x _ (refusal-is x w is) .0)) $
-                assigns-last ! (agg ! (and-then ! (lit ! tt) (and-then ! (load ! (from ! (stop !)) (look ! 21 refl)) (no-more !)))) (from ! (stop !)) (init ! 11 refl (EL.lawful E.the-type E′.the-laws 𝓤 H A W tt .typed (Stopped x) _ (stopped-is x w is) .0)) $
-                forget ! 0 refl $ forget ! 13 refl $ forget ! 15 refl $ forget ! 17 refl $ forget ! 19 refl $ forget ! 21 refl $
-                leaves l₀ l₁ l₂ l₃ l₄ l₅ l₆ l₇ l₈ l₉ l₁₀ l₁₁ l₁₂ (Stopped x) ys (text-refused (now s) x e ys) refl (stopped-is x w is)),
-              ((λ k. absurd (omega (arith, k))), tt)))
+          | Found ↦ found tt ν l₃ δ Found w (λ z e z-is is.
+              -- [_3; text's token; the area's token; the area's; text's; _12; …; _11; …; _10; …; _9; …; _8; …; _7; …; _6; …; _5; …; _4; …; _3's end; _2; …; _1; …; room for _0; …]
+              land ! (from ! (stop !)) (init ! 15 refl (EL.lawful U.the-type U′.the-laws 𝓤 H A W tt .typed Found _ is .0)) $ rewrite ! 15 (λ (k : Val). ‵ (fat fullShare U′.mir l₇ 0 k)) (version-w Found w is) refl $
+              first ! $ by-variants ! 15 (whole !) (load ! (from ! (vrt ! refl (fld ! refl (stop !)))) (look-tag ! 15 (whole !))) tt (
+                (λ k. absurd (omega (arith, k))),
+                ((
+                  λ k. assigns ! (addr ! (from ! (stop !))) (from ! (stop !)) (init ! 9 refl (tt, tt)) $
+                      assigns ! (addr ! (from ! (fld ! refl (hop ! (look-in ! 24 (sub ! 0 refl (whole !))) (stop !))))) (from ! (stop !)) (init ! 7 refl (tt, tt)) $
+                      assigns ! (agg ! (and-then ! (load ! (from ! (stop !)) (look ! 7 refl)) (and-then ! (load ! (from ! (fld ! refl (stop !))) (look-in ! 24 (sub ! 1 refl (whole !)))) (no-more !)))) (from ! (stop !)) (init ! 5 refl (tt, (tt, (record { fits = room .0 }, tt)))) $
+                      -- the cutter is lent once more, and the area too
+                      use1 W (‵ (partAt T.the-row fullShare z l₃ 0)) (lies z z-is l₃) $ lft-new ! tt (λ α. move ! (1 ∷ []) $
+                      use1 W (later (some (λ (ε : GName). ‵ (Cut α l₃ ε z) ⊛ ‵ (flent (α ∷ []) (Body (mem T.the-row) l₃ 0 ε))))) (lends-ref 𝓤 H A W T.the-row (named 0) (α ∷ []) z l₃ 0) $ await ! tt $ pick ! (λ ε. split ! $
+                      -- [the reference; the lender's part; α's token; text's token; the area's token; the area's; text's; _12; …]
+                      lft-new ! tt (λ α′. move ! (6 ∷ 5 ∷ []) $
+                      use2 W (later (some (λ (ε′ : GName). ‵ (MutSlice (named 2) (α′ ∷ []) u8 .own (bytes ε′ ys) (u ∷ [])) ⊛ ‵ (SliceLent u8 κ′ (α′ ∷ []) q′ γ b o ε′ ys)))) (lends-slice-again u8 κ′ (α′ ∷ []) q′ γ b o 𝓤 H A W (named 1) (named 2) ys (length ys) refl) $ await ! tt $ pick ! (λ ε′. split ! $
+                      -- [the area lent again; what is kept of it; α′'s token; the reference; the lender's part; α's token; text's token; text's; _12; …]
+                      move ! (7 ∷ []) $ use1 W (‵ Own ⊛ ‵ Own) (shr-slice-copy 𝓤 H A W (named 0) κ u8 .twice s (v ∷ [])) $ split ! $ move ! (8 ∷ []) $ split ! $ move ! (6 ∷ 1 ∷ []) $ join ! $ move ! (1 ∷ 0 ∷ []) $ join ! $ move ! (7 ∷ 0 ∷ []) $ join ! $
+                      -- [the tokens; text's; text's; the area lent again; what is kept of it; the reference; the lender's part; _12; …]
+                      move ! (0 ∷ 5 ∷ 1 ∷ 3 ∷ []) $ join ! $ use3 W (raw (ReadLines 𝓤 H A at-mem run .pre (to-rest α α′ l₃ ε ε′ z))) (goes-rest α α′ l₃ ε ε′ z (asked .0, (asked .1, e .1))) $
+                      -- [what `read_lines` asks; text's; what is kept of the area; the lender's part; _12; …; _11; …; _10; …; _9; …; _8; …; _7; …; _6; …; _5; …; _4; …; _3's end; _2; …; _1; …; room for _0; …]
+                      calls-at-last ! fm (ReadLines 𝓤 H A at-mem run) known-rest (to-rest α α′ l₃ ε ε′ z) (and-then ! (load ! (from ! (stop !)) (look ! 8 refl)) (and-then ! (load ! (from ! (stop !)) (look ! 25 refl)) (and-then ! (load ! (from ! (stop !)) (look ! 4 refl)) (no-more !)))) (λ w′.
+                      use1 W (later (some (λ (x : Ended). (Tokens α α′ ⊛ ‵ (E.the-row .own x (w′ ∷ []))) ⊛ raw (ensured 𝓤 H A rest.ended (rest.clauses 𝓤 H A at-mem run) (α ∷ [], (κ, (α′ ∷ [], tt))) (args l₃ ε ε′ z) tt x)))) (id⊢ 𝓤 _) $ await ! tt $
+                      move ! (0 ∷ 3 ∷ 2 ∷ []) $ pick ! (λ x. came tt room α α′ l₃ ε ε′ z x w′ (λ y zs e′ c is′.
+                      land-last ! (from ! (stop !)) (init ! 11 refl (EL.lawful E.the-type E′.the-laws 𝓤 H A W tt .typed x _ is′ .0)) $ rewrite ! 11 (λ (k′ : Val). ‵ (fat fullShare E′.mir l₉ 0 k′)) (ended-w x w′ is′) refl $
+                      forget ! 0 refl $ forget ! 5 refl $ forget ! 7 refl $ forget ! 9 refl $ forget ! 13 refl $ forget ! 15 refl $ forget ! 17 refl $ forget ! 19 refl $
+                      leaves l₀ l₁ l₂ l₃ l₄ l₅ l₆ l₇ l₈ l₉ l₁₀ l₁₁ l₁₂ x zs (λ t j. text-found (now s) (due z) (e .0) x zs t (e′ t j)) c (ended-is x w′ is′)))))))),
+                  tt,
+                )),
+              ))
+          | Refused x ↦ found tt ν l₃ δ (Refused x) w (λ z e z-is is.
+              land ! (from ! (stop !)) (init ! 15 refl (EL.lawful U.the-type U′.the-laws 𝓤 H A W tt .typed (Refused x) _ is .0)) $ rewrite ! 15 (λ (k : Val). ‵ (fat fullShare U′.mir l₇ 0 k)) (version-w (Refused x) w is) refl $
+              first ! $ by-variants ! 15 (whole !) (load ! (from ! (vrt ! refl (fld ! refl (stop !)))) (look-tag ! 15 (whole !))) tt (
+                (λ k. assigns ! (of-opd ! (load ! (from ! (vrt ! refl (fld ! refl (stop !)))) (look-in ! 15 (in-variant ! 1 0 refl refl (whole !))))) (from ! (stop !)) (init ! 21 refl (LL.lawful Y.the-type Y′.the-laws 𝓤 H A W .typed x _ (refusal-is x w is) .0)) $
+                    assigns-last ! (agg ! (and-then ! (lit ! tt) (and-then ! (load ! (from ! (stop !)) (look ! 21 refl)) (no-more !)))) (from ! (stop !)) (init ! 11 refl (EL.lawful E.the-type E′.the-laws 𝓤 H A W tt .typed (Stopped x) _ (stopped-is x w is) .0)) $
+                    forget ! 0 refl $ forget ! 13 refl $ forget ! 15 refl $ forget ! 17 refl $ forget ! 19 refl $ forget ! 21 refl $
+                    leaves l₀ l₁ l₂ l₃ l₄ l₅ l₆ l₇ l₈ l₉ l₁₀ l₁₁ l₁₂ (Stopped x) ys (text-refused (now s) x e ys) refl (stopped-is x w is)),
+                ((λ k. absurd (omega (arith, k))), tt),
+              ))
         ])))))))))))))))))
 
 module _ {M : Type 1} (𝓤 : URA M) (H : Heap 𝓤) (A : Atoms 𝓤) (W : Given 𝓤 H A) (mem : Memory → SProp 𝓤) (run : Routine → Fun 𝓤) where

@@ -1,0 +1,38 @@
+-- `sdp_read::read` meets its contract. Assumes nothing.
+use lib.ListN.{drop}
+use Rattle.sdp_area.specs.Area.{size}
+use Rattle.sdp_read.proofs.ReadLaws.{cleared-empty, says-short, says-long, says-lines}
+use borrow.Author.Needs.{needs}
+use Rattle.sdp_read.proofs.read.Statement.{statement}
+use Rattle.sdp_read.proofs.read.Tie as tie
+
+returns : tie.Need-returns
+returns c =
+    let a = c .before .before .before .before .args in
+    rw (c .refusal .ensures) (says-short (a .text .now) (a .area .now) (c .before .if1 .taken))
+
+returns-2 : tie.Need-returns-2
+returns-2 c =
+    let i = c .before .before in
+    let a = i .before .before .before .args in
+    rw (c .refusal2 .ensures) (says-long (a .text .now) (a .area .now) (i .if1 .left) (c .before .if2 .taken))
+
+returns-3 : tie.Need-returns-3
+returns-3 c =
+    let k = c .before .before .before .before .before .before in
+    let i = k .before .before in
+    let a = i .before .before .before .before .args in
+    says-lines (a .text .now) (a .area .now) (i .before .if1 .left) (i .if2 .left) _ _ (c .before .before .read-cleared .ensures (drop size (a .area .now)) (cleared-empty (a .area .now) _ (k .clear .ensures)))
+
+pub read-spec : {M : Type 1} → statement M
+read-spec =
+    tie.close
+    (tie.spec
+    (λ c κs. search needs)
+    returns
+    (λ c κs. search needs)
+    returns-2
+    (λ c κs. search needs)
+    (λ c κs. search needs)
+    (λ c. search needs)
+    returns-3)
