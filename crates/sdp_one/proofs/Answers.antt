@@ -76,6 +76,7 @@ use Rattle.sdp_strings.proofs.maybe_of.Reads as sdpStringsMaybeOf
 use Rattle.sdp_step.proofs.refused.Reads as sdpStepRefused
 use Rattle.sdp_step.proofs.stored.Reads as sdpStepStored
 use Rattle.sdp_line.proofs.opening_line.Reads as sdpLineOpeningLine
+use Rattle.sdp_turn.proofs.search_of.Reads as sdpTurnSearchOf
 use Rattle.sdp_read.proofs.read.Reads as sdpReadRead
 use Rattle.sdp_put.proofs.put_byte.Reads as sdpPutPutByte
 use Rattle.sdp_put.proofs.put_two.Reads as sdpPutPutTwo
@@ -352,6 +353,10 @@ sdp-step-stored κs a z z′ e e′ p q = same p q
 -- ---- sdp_line
 pub sdp-line-opening-line : OneAnswer sdpLineOpeningLine.Learnt
 sdp-line-opening-line κs a z z′ e e′ p q = same p q
+
+-- ---- sdp_turn
+pub sdp-turn-search-of : OneAnswer sdpTurnSearchOf.Learnt
+sdp-turn-search-of κs a z z′ e e′ p q = same p q
 
 -- ---- sdp_read
 pub sdp-read-read : OneState (λ κs e. now (e .1 .0)) sdpReadRead.Learnt

@@ -3,13 +3,13 @@
 use Prim.Native.Nat.{ℕ, zero, suc, _+_, _-_, _≤_, _<_}
 use native.Mathlib.Decide.{decLt}
 use native.Mathlib.Omega.{arith}
-use native.Mathlib.Nat.{zero-add, suc-add, add-sub-cancel-left}
+use native.Mathlib.Nat.{zero-add, suc-add}
 use mathlib.Core.Path.{_≡_, refl, sym, ap, _∙_, subst}
 use mathlib.Core.Bool.{Bool, true, false, cond}
 use mathlib.Core.List.{List, [], _∷_}
 use lib.Dec.{ltb}
 use lib.ListN.{length, take, drop, length-drop, drop-of-length-le}
-use lib.Seq.{drop-drop, take-nil, length-take-le}
+use lib.Seq.{drop-drop, take-nil}
 use Rattle.sdp_lines.specs.Lines
 use Rattle.sdp_lines.specs.Lines.{Raw, split, content, width, formOf, nextLine, past, cutForm, cutRaws, cutAt}
 use Rattle.sdp_lines.specs.Quick.{firstRaw}
@@ -27,26 +27,23 @@ use Rattle.sdp_line.specs.declared.Opening.the-variants as opening
 use Rattle.sdp_cutter.specs.Cutter.{moveBy, moveAt, stands}
 use Rattle.sdp_cutter.specs.declared.Next.{Next}
 use Rattle.sdp_step.specs.declared.Marks.{Marks}
-use Rattle.sdp_read.specs.OneLine.{Inside, Further, Passes, openedTo, versionOf, versionAt}
-use Rattle.sdp_read.specs.declared.Turn.the-variants.{Goes}
-use Rattle.sdp_read.specs.declared.Search.{Search}
-use Rattle.sdp_read.specs.declared.Search.the-variants.{On, Told}
-use Rattle.sdp_read.specs.declared.Version.the-variants as version
+use Rattle.sdp_turn.specs.Turn.{Inside, lineOf, Turns, Passes, openedTo, versionOf}
+use Rattle.sdp_read.specs.From.{Reached, lineAt, versionAt}
+use Rattle.sdp_turn.specs.declared.Turn.{Turn}
+use Rattle.sdp_turn.specs.declared.Turn.the-variants.{Goes}
+use Rattle.sdp_turn.specs.declared.Search.{Search}
+use Rattle.sdp_turn.specs.declared.Search.the-variants.{On, Told}
+use Rattle.sdp_turn.specs.declared.Version.the-variants as version
 
 drop-take : (k m : ℕ) (u : List ℕ) → drop k (take (k + m) u) ≡ take m (drop k u)
 drop-take zero m u = ap (λ (n : ℕ). take n u) (zero-add m)
 drop-take (suc k) m [] = ap (λ (l : List ℕ). drop (suc k) l) (take-nil (suc k + m)) ∙ sym (take-nil m)
 drop-take (suc k) m (x ∷ u) = ap (λ (n : ℕ). drop (suc k) (take n (x ∷ u))) (suc-add k m) ∙ drop-take k m u
 
--- the part of a text that is a string's bytes, and that it stays within the limit
-pub part-is : (s : List ℕ) (x : Span) → take (x .at .0 + x .len - x .at .0) (drop (x .at .0) s) ≡ bytesOf s x
-part-is s x = ap (λ (k : ℕ). take k (drop (x .at .0) s)) (add-sub-cancel-left (x .at .0) (x .len))
-
-pub part-fits : (s : List ℕ) (x : Span) → length s ≤ 32768 → x .at .0 + x .len ≤ length s
-    → x .at .0 + length (take (x .at .0 + x .len - x .at .0) (drop (x .at .0) s)) ≤ 32768
-part-fits s x short inside =
-    let e : length (bytesOf s x) ≡ x .len = length-take-le (x .len) (drop (x .at .0) s) (omega (arith, inside, length-drop (x .at .0) s)) in
-    rw (part-is s x, e) (omega (arith, short, inside))
+-- d is further on than c in the text
+pub record Further (s : List ℕ) (c d : Cursor) : Type 0 where
+  pub forward : c .at .0 < d .at .0
+  pub reached : Reached s c → Reached s d
 
 next-le : (n : ℕ) → nextLine n ≤ n + 1
 next-le n = go (ltb n 0xffff_ffff_ffff_ffff)
@@ -158,3 +155,13 @@ module _ (s : List ℕ) (c : Cursor) where
       go (Empty d) h = h
       go (Refused f n) h = tt
       go End h = tt
+
+  -- what the line there does, by what the cutter found
+  module _ (x : Next) (e : x ≡ found) where
+    pub turned-at : (m : Marks) (r : Turn) (a a′ : List ℕ) → Turns (λ ρ. lineOf s ρ x) m r a a′ × Passes x r → Turns (λ ρ. lineAt s ρ c) m r a a′ × Passes found r
+    unfolding lineAt
+    turned-at m r a a′ h = subst (λ (y : Next). Turns (λ ρ. lineOf s ρ y) m r a a′ × Passes y r) e h
+
+    pub version-at : (r : Search) → r ≡ versionOf s x → r ≡ versionAt s c
+    unfolding versionAt
+    version-at r h = subst (λ (y : Next). r ≡ versionOf s y) e h

@@ -17,16 +17,18 @@ use Rattle.sdp_step.specs.Hold.{Holds}
 use Rattle.sdp_step.specs.declared.Marks.{Marks}
 use Rattle.sdp_step.proofs.TailLaws.{tail-of}
 use Rattle.sdp_read.specs.Run.{refused}
-use Rattle.sdp_read.specs.From.{Reached, runAt, beginAt, Begun, Left}
-use Rattle.sdp_read.specs.OneLine.{Lined, on, over, lineAt, Turned, Further, versionAt}
-use Rattle.sdp_read.specs.declared.Ended.{Ended}
-use Rattle.sdp_read.specs.declared.Ended.the-variants.{Stopped}
-use Rattle.sdp_read.specs.declared.Turn.the-variants.{Goes, Over}
-use Rattle.sdp_read.specs.declared.Search.{Search}
-use Rattle.sdp_read.specs.declared.Search.the-variants.{On, Told}
-use Rattle.sdp_read.specs.declared.Version.{Version}
-use Rattle.sdp_read.specs.declared.Version.the-variants as version
-use Rattle.sdp_read.proofs.CutLaws.{then, search-fine}
+use Rattle.sdp_turn.specs.Turn.{Left}
+use Rattle.sdp_read.specs.From.{Reached, runAt, beginAt, Begun}
+use Rattle.sdp_turn.specs.Turn.{Lined, on, over, Turned}
+use Rattle.sdp_read.specs.From.{lineAt, versionAt}
+use Rattle.sdp_turn.specs.declared.Ended.{Ended}
+use Rattle.sdp_turn.specs.declared.Ended.the-variants.{Stopped}
+use Rattle.sdp_turn.specs.declared.Turn.the-variants.{Goes, Over}
+use Rattle.sdp_turn.specs.declared.Search.{Search}
+use Rattle.sdp_turn.specs.declared.Search.the-variants.{On, Told}
+use Rattle.sdp_turn.specs.declared.Version.{Version}
+use Rattle.sdp_turn.specs.declared.Version.the-variants as version
+use Rattle.sdp_read.proofs.CutLaws.{Further, then, search-fine}
 use Rattle.sdp_read.proofs.RestLaws.{runOn, searchOn, rest-line, rest-version}
 
 -- ---- after the version

@@ -12,9 +12,10 @@ use Rattle.sdp_area.specs.Session.{empty}
 use Rattle.sdp_area.specs.Area.{encode, size}
 use Rattle.sdp_area.proofs.WidthLaws.{encode-empty}
 use Rattle.sdp_read.specs.Run.{Verdict, accepted, refused, answer, lines, outcomeOf, readText}
-use Rattle.sdp_read.specs.From.{beginAt, Left, Said}
+use Rattle.sdp_turn.specs.Turn.{Left}
+use Rattle.sdp_read.specs.From.{beginAt, Said}
 use Rattle.sdp_lines.specs.declared.Answer.{Answer}
-use Rattle.sdp_read.specs.declared.Ended.the-variants.{Accepted, Stopped}
+use Rattle.sdp_turn.specs.declared.Ended.the-variants.{Accepted, Stopped}
 
 -- the answer x and the area b are what readText says
 abbrev pub Says : List ℕ → List ℕ → Answer → List ℕ → Type 0

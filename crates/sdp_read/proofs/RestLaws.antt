@@ -22,10 +22,11 @@ use Rattle.sdp_line.specs.Version.{noVersion, badVersion, isZero, openingOf}
 use Rattle.sdp_line.specs.declared.Opening.the-variants as opening
 use Rattle.sdp_read.specs.Run.{Verdict, refused, after, stepForm, run, version as firstLine, beginForm, begin}
 use Rattle.sdp_read.specs.From.{Reached, runAt, beginAt}
-use Rattle.sdp_read.specs.OneLine.{Lined, on, over, stepped, lineOf, lineAt, openedTo, versionOf, versionAt}
-use Rattle.sdp_read.specs.declared.Search.{Search}
-use Rattle.sdp_read.specs.declared.Search.the-variants.{On, Told}
-use Rattle.sdp_read.specs.declared.Version.the-variants as version
+use Rattle.sdp_turn.specs.Turn.{Lined, on, over, stepped, lineOf, openedTo, versionOf}
+use Rattle.sdp_read.specs.From.{lineAt, versionAt}
+use Rattle.sdp_turn.specs.declared.Search.{Search}
+use Rattle.sdp_turn.specs.declared.Search.the-variants.{On, Told}
+use Rattle.sdp_turn.specs.declared.Version.the-variants as version
 use Rattle.sdp_read.proofs.CutLaws.{raw, rest, at-cursor, value-is, then}
 
 -- what the text says from there on, the next line due at d, after the version and before it

@@ -46,16 +46,17 @@ use denote.Exit.{yes}
 use Rattle.sdp_cutter.specs.Cutter.{moveAt, standing, due}
 use Rattle.sdp_cutter.specs.declared.Cutter.{Cutter}
 use Rattle.sdp_read.specs.From.{Reached, beginAt, Begun}
-use Rattle.sdp_read.specs.OneLine.{Further, versionAt}
-use Rattle.sdp_read.specs.declared.Search.{Search}
-use Rattle.sdp_read.specs.declared.Search.the-variants.{On, Told}
-use Rattle.sdp_read.specs.declared.Version.{Version}
+use Rattle.sdp_read.specs.From.{versionAt}
+use Rattle.sdp_turn.specs.declared.Search.{Search}
+use Rattle.sdp_turn.specs.declared.Search.the-variants.{On, Told}
+use Rattle.sdp_turn.specs.declared.Version.{Version}
+use Rattle.sdp_read.proofs.CutLaws.{Further}
 use Rattle.sdp_read.proofs.LoopLaws.{begun-skips, begun-told}
 use Rattle.sdp_cutter.proofs.Cutter as T
-use Rattle.sdp_read.proofs.Search as R
-use Rattle.sdp_read.proofs.Search.Laws as R′
-use Rattle.sdp_read.proofs.Version as U
-use Rattle.sdp_read.proofs.Version.Laws as U′
+use Rattle.sdp_turn.proofs.Search as R
+use Rattle.sdp_turn.proofs.Search.Laws as R′
+use Rattle.sdp_turn.proofs.Version as U
+use Rattle.sdp_turn.proofs.Version.Laws as U′
 use Rattle.sdp_read.proofs.version_line as callee
 use Rattle.sdp_read.proofs.version_line.Symbol as callee-def
 use Rattle.sdp_read.proofs.version_line.Symbol.{name as #version-line}

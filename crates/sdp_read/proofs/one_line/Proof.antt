@@ -42,25 +42,25 @@ use Rattle.sdp_cutter.specs.declared.Cutter.{Cutter}
 use Rattle.sdp_cutter.specs.declared.Moved.{Moved}
 use Rattle.sdp_cutter.specs.declared.Next.{Next}
 use Rattle.sdp_step.specs.declared.Marks.{Marks}
-use Rattle.sdp_read.specs.OneLine.{Inside, lineOf, lineAt, Turns, Passes}
-use Rattle.sdp_read.specs.declared.Turn.{Turn}
-use Rattle.sdp_read.proofs.CutLaws.{found-inside}
-use Rattle.sdp_read.proofs.TurnLaws.{turned-at}
+use Rattle.sdp_turn.specs.Turn.{Inside, lineOf, Turns, Passes}
+use Rattle.sdp_read.specs.From.{lineAt}
+use Rattle.sdp_turn.specs.declared.Turn.{Turn}
+use Rattle.sdp_read.proofs.CutLaws.{found-inside, turned-at}
 use Rattle.sdp_cutter.proofs.Cutter as T
 use Rattle.sdp_cutter.proofs.Next as X
 use Rattle.sdp_cutter.proofs.Next.Laws as X′
 use Rattle.sdp_step.proofs.Marks as K
 use Rattle.sdp_step.proofs.Marks.Laws as K′
-use Rattle.sdp_read.proofs.Turn as R
-use Rattle.sdp_read.proofs.Turn.Laws as R′
+use Rattle.sdp_turn.proofs.Turn as R
+use Rattle.sdp_turn.proofs.Turn.Laws as R′
 use Rattle.sdp_cutter.proofs.next_line as next
 use Rattle.sdp_cutter.proofs.next_line.Symbol as next-def
 use Rattle.sdp_cutter.proofs.next_line.Symbol.{name as #next-line}
 use Rattle.sdp_cutter.proofs.next_line.Met as next-thm
-use Rattle.sdp_read.proofs.turn_of as callee
-use Rattle.sdp_read.proofs.turn_of.Symbol as callee-def
-use Rattle.sdp_read.proofs.turn_of.Symbol.{name as #turn-of}
-use Rattle.sdp_read.proofs.turn_of.Met as callee-thm
+use Rattle.sdp_turn.proofs.turn_of as callee
+use Rattle.sdp_turn.proofs.turn_of.Symbol as callee-def
+use Rattle.sdp_turn.proofs.turn_of.Symbol.{name as #turn-of}
+use Rattle.sdp_turn.proofs.turn_of.Met as callee-thm
 use Rattle.sdp_read.proofs.one_line.Key.{name as #one-line}
 use Rattle.sdp_read.proofs.one_line as self
 use Rattle.sdp_read.proofs.one_line.Statement as stated
@@ -213,4 +213,4 @@ one-line-spec 𝓤 H 𝓜 𝓖 𝓡 =
     (tables 𝓤 H 𝓜 𝓡 code.env .C) (tables 𝓤 H 𝓜 𝓡 code.env .Λ) #one-line code.function (code.unfolded 𝓤 H 𝓜 𝓡)
     (one-line-meets 𝓤 H (𝓖 .A) (givenOf 𝓤 H 𝓜 𝓖) (𝓜 .mem) (𝓡 .run) (tablesOf 𝓤 H 𝓜 (tables 𝓤 H 𝓜 𝓡 code.env))
     (cited 𝓤 H (NextLine 𝓤 H (𝓖 .A) (𝓜 .mem) (𝓡 .run)) 𝓜 𝓡 code.env #next-line next-def.routine code.calls-sdp-cutter·next-line (next-thm.met 𝓤 H 𝓜 𝓖 𝓡))
-    (cited 𝓤 H (TurnOf 𝓤 H (𝓖 .A) (𝓜 .mem) (𝓡 .run)) 𝓜 𝓡 code.env #turn-of callee-def.routine code.calls-sdp-read·turn-of (callee-thm.met 𝓤 H 𝓜 𝓖 𝓡)))
+    (cited 𝓤 H (TurnOf 𝓤 H (𝓖 .A) (𝓜 .mem) (𝓡 .run)) 𝓜 𝓡 code.env #turn-of callee-def.routine code.calls-sdp-turn·turn-of (callee-thm.met 𝓤 H 𝓜 𝓖 𝓡)))

@@ -51,21 +51,23 @@ use Rattle.sdp_cutter.specs.Cutter.{moveAt, standing, due}
 use Rattle.sdp_cutter.specs.declared.Cutter.{Cutter}
 use Rattle.sdp_step.specs.Step.{fresh}
 use Rattle.sdp_step.specs.declared.Marks.{Marks}
-use Rattle.sdp_read.specs.From.{Reached, runAt, Left}
-use Rattle.sdp_read.specs.OneLine.{Further, lineAt, Turns, Passes}
-use Rattle.sdp_read.specs.declared.Ended.{Ended}
-use Rattle.sdp_read.specs.declared.Turn.{Turn}
-use Rattle.sdp_read.specs.declared.Turn.the-variants.{Goes, Over}
+use Rattle.sdp_turn.specs.Turn.{Left}
+use Rattle.sdp_read.specs.From.{Reached, runAt}
+use Rattle.sdp_turn.specs.Turn.{Turns, Passes}
+use Rattle.sdp_read.specs.From.{lineAt}
+use Rattle.sdp_turn.specs.declared.Ended.{Ended}
+use Rattle.sdp_turn.specs.declared.Turn.{Turn}
+use Rattle.sdp_turn.specs.declared.Turn.the-variants.{Goes, Over}
 use Rattle.sdp_read.proofs.AgainLaws.{SliceLent, lends-slice-again, slice-comes-back}
-use Rattle.sdp_read.proofs.CutLaws.{goes-further}
+use Rattle.sdp_read.proofs.CutLaws.{Further, goes-further}
 use Rattle.sdp_read.proofs.LoopLaws.{Going, going-begin, going-on, going-over}
 use Rattle.sdp_cutter.proofs.Cutter as T
 use Rattle.sdp_step.proofs.Marks as K
 use Rattle.sdp_step.proofs.Marks.Laws as K′
-use Rattle.sdp_read.proofs.Turn as R
-use Rattle.sdp_read.proofs.Turn.Laws as R′
-use Rattle.sdp_read.proofs.Ended as E
-use Rattle.sdp_read.proofs.Ended.Laws as E′
+use Rattle.sdp_turn.proofs.Turn as R
+use Rattle.sdp_turn.proofs.Turn.Laws as R′
+use Rattle.sdp_turn.proofs.Ended as E
+use Rattle.sdp_turn.proofs.Ended.Laws as E′
 use Rattle.sdp_read.proofs.one_line as callee
 use Rattle.sdp_read.proofs.one_line.Symbol as callee-def
 use Rattle.sdp_read.proofs.one_line.Symbol.{name as #one-line}

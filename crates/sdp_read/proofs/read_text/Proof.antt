@@ -52,11 +52,12 @@ use Rattle.sdp_lines.specs.declared.Answer.{Answer}
 use Rattle.sdp_cutter.specs.Cutter.{due}
 use Rattle.sdp_cutter.specs.declared.Cutter.{Cutter}
 use Rattle.sdp_step.specs.Step.{fresh}
-use Rattle.sdp_read.specs.From.{Reached, runAt, beginAt, Begun, Left}
-use Rattle.sdp_read.specs.declared.Ended.{Ended}
-use Rattle.sdp_read.specs.declared.Ended.the-variants.{Stopped}
-use Rattle.sdp_read.specs.declared.Version.{Version}
-use Rattle.sdp_read.specs.declared.Version.the-variants.{Found, Refused}
+use Rattle.sdp_turn.specs.Turn.{Left}
+use Rattle.sdp_read.specs.From.{Reached, runAt, beginAt, Begun}
+use Rattle.sdp_turn.specs.declared.Ended.{Ended}
+use Rattle.sdp_turn.specs.declared.Ended.the-variants.{Stopped}
+use Rattle.sdp_turn.specs.declared.Version.{Version}
+use Rattle.sdp_turn.specs.declared.Version.the-variants.{Found, Refused}
 use Rattle.sdp_read.proofs.AgainLaws.{SliceLent, lends-slice-again, slice-comes-back}
 use Rattle.sdp_read.proofs.LoopLaws.{text-refused, text-found}
 use Rattle.sdp_lines.proofs.Place as P
@@ -67,10 +68,10 @@ use Rattle.sdp_lines.proofs.Answer as Y
 use Rattle.sdp_lines.proofs.Answer.Laws as Y′
 use Rattle.sdp_cutter.proofs.Cutter as T
 use Rattle.sdp_cutter.proofs.Cutter.Laws as T′
-use Rattle.sdp_read.proofs.Version as U
-use Rattle.sdp_read.proofs.Version.Laws as U′
-use Rattle.sdp_read.proofs.Ended as E
-use Rattle.sdp_read.proofs.Ended.Laws as E′
+use Rattle.sdp_turn.proofs.Version as U
+use Rattle.sdp_turn.proofs.Version.Laws as U′
+use Rattle.sdp_turn.proofs.Ended as E
+use Rattle.sdp_turn.proofs.Ended.Laws as E′
 use Rattle.sdp_read.proofs.find_version as find
 use Rattle.sdp_read.proofs.find_version.Symbol as find-def
 use Rattle.sdp_read.proofs.find_version.Symbol.{name as #find-version}

@@ -38,23 +38,23 @@ use Rattle.sdp_cutter.specs.Cutter.{moveAt, standing, due}
 use Rattle.sdp_cutter.specs.declared.Cutter.{Cutter}
 use Rattle.sdp_cutter.specs.declared.Moved.{Moved}
 use Rattle.sdp_cutter.specs.declared.Next.{Next}
-use Rattle.sdp_read.specs.OneLine.{Inside, versionOf, versionAt}
-use Rattle.sdp_read.specs.declared.Search.{Search}
-use Rattle.sdp_read.proofs.CutLaws.{found-inside}
-use Rattle.sdp_read.proofs.TurnLaws.{version-at}
+use Rattle.sdp_turn.specs.Turn.{Inside, versionOf}
+use Rattle.sdp_read.specs.From.{versionAt}
+use Rattle.sdp_turn.specs.declared.Search.{Search}
+use Rattle.sdp_read.proofs.CutLaws.{found-inside, version-at}
 use Rattle.sdp_cutter.proofs.Cutter as T
 use Rattle.sdp_cutter.proofs.Next as X
 use Rattle.sdp_cutter.proofs.Next.Laws as X′
-use Rattle.sdp_read.proofs.Search as R
-use Rattle.sdp_read.proofs.Search.Laws as R′
+use Rattle.sdp_turn.proofs.Search as R
+use Rattle.sdp_turn.proofs.Search.Laws as R′
 use Rattle.sdp_cutter.proofs.next_line as next
 use Rattle.sdp_cutter.proofs.next_line.Symbol as next-def
 use Rattle.sdp_cutter.proofs.next_line.Symbol.{name as #next-line}
 use Rattle.sdp_cutter.proofs.next_line.Met as next-thm
-use Rattle.sdp_read.proofs.search_of as callee
-use Rattle.sdp_read.proofs.search_of.Symbol as callee-def
-use Rattle.sdp_read.proofs.search_of.Symbol.{name as #search-of}
-use Rattle.sdp_read.proofs.search_of.Met as callee-thm
+use Rattle.sdp_turn.proofs.search_of as callee
+use Rattle.sdp_turn.proofs.search_of.Symbol as callee-def
+use Rattle.sdp_turn.proofs.search_of.Symbol.{name as #search-of}
+use Rattle.sdp_turn.proofs.search_of.Met as callee-thm
 use Rattle.sdp_read.proofs.version_line.Key.{name as #version-line}
 use Rattle.sdp_read.proofs.version_line as self
 use Rattle.sdp_read.proofs.version_line.Statement as stated
@@ -175,4 +175,4 @@ version-line-spec 𝓤 H 𝓜 𝓖 𝓡 =
     (tables 𝓤 H 𝓜 𝓡 code.env .C) (tables 𝓤 H 𝓜 𝓡 code.env .Λ) #version-line code.function (code.unfolded 𝓤 H 𝓜 𝓡)
     (version-line-meets 𝓤 H (𝓖 .A) (givenOf 𝓤 H 𝓜 𝓖) (𝓜 .mem) (𝓡 .run) (tablesOf 𝓤 H 𝓜 (tables 𝓤 H 𝓜 𝓡 code.env))
     (cited 𝓤 H (NextLine 𝓤 H (𝓖 .A) (𝓜 .mem) (𝓡 .run)) 𝓜 𝓡 code.env #next-line next-def.routine code.calls-sdp-cutter·next-line (next-thm.met 𝓤 H 𝓜 𝓖 𝓡))
-    (cited 𝓤 H (SearchOf 𝓤 H (𝓖 .A) (𝓜 .mem) (𝓡 .run)) 𝓜 𝓡 code.env #search-of callee-def.routine code.calls-sdp-read·search-of (callee-thm.met 𝓤 H 𝓜 𝓖 𝓡)))
+    (cited 𝓤 H (SearchOf 𝓤 H (𝓖 .A) (𝓜 .mem) (𝓡 .run)) 𝓜 𝓡 code.env #search-of callee-def.routine code.calls-sdp-turn·search-of (callee-thm.met 𝓤 H 𝓜 𝓖 𝓡)))

@@ -1,7 +1,7 @@
--- `sdp_read::search_of` meets its contract. Assumes nothing.
+-- `sdp_turn::search_of` meets its contract. Assumes nothing.
 use borrow.Author.Needs.{needs}
-use Rattle.sdp_read.proofs.search_of.Statement.{statement}
-use Rattle.sdp_read.proofs.search_of.Tie as tie
+use Rattle.sdp_turn.proofs.search_of.Statement.{statement}
+use Rattle.sdp_turn.proofs.search_of.Tie as tie
 
 opened-line-requires : tie.Need-opened-line-requires
 opened-line-requires c κs = rw (c .before .next2 .given .1) at (c .before .before .before .before .pre)

@@ -1,15 +1,16 @@
--- What one line does to a run, at a cursor: what the bodies of the loops promise. Where the cutter stands then is said
--- apart: `moveAt`.
-use Prim.Native.Nat.{ℕ, _+_, _<_, _≤_}
-use mathlib.Core.List.{List}
-use lib.ListN.{length}
+-- Document 01, "Lines", "Refusal numbers": what one line does to a run, and what it says of the version, by what the cutter found.
+use Prim.Native.Nat.{ℕ, _+_, _≤_}
+use mathlib.Core.Path.{_≡_}
+use mathlib.Core.List.{List, _++_}
+use lib.ListN.{length, drop}
 use Rattle.sdp_lines.specs.Strings.{bytesOf}
 use Rattle.sdp_lines.specs.Answers.{faultNumber}
 use Rattle.sdp_lines.specs.declared.Span.{Span}
-use Rattle.sdp_lines.specs.declared.Cursor.{Cursor}
-use Rattle.sdp_cutter.specs.Cutter.{moveAt}
+use Rattle.sdp_lines.specs.declared.Answer.{Answer}
 use Rattle.sdp_cutter.specs.declared.Next.{Next}
 use Rattle.sdp_cutter.specs.declared.Next.the-variants.{Found, Empty, Refused, End}
+use Rattle.sdp_area.specs.Session.{Session}
+use Rattle.sdp_area.specs.Area.{encode, size}
 use Rattle.sdp_strings.specs.Strings.{spanAt}
 use Rattle.sdp_step.specs.Step.{Reading, Stepped, goes, stops, step}
 use Rattle.sdp_step.specs.Hold.{Holds}
@@ -17,13 +18,13 @@ use Rattle.sdp_step.specs.declared.Marks.{Marks}
 use Rattle.sdp_line.specs.Version.{answer, noVersion, openingOf}
 use Rattle.sdp_line.specs.declared.Opening.{Opening}
 use Rattle.sdp_line.specs.declared.Opening.the-variants as opening
-use Rattle.sdp_read.specs.Run.{Verdict, accepted, onLine}
-use Rattle.sdp_read.specs.From.{Reached, Left}
-use Rattle.sdp_read.specs.declared.Turn.{Turn}
-use Rattle.sdp_read.specs.declared.Turn.the-variants.{Goes, Over}
-use Rattle.sdp_read.specs.declared.Search.{Search}
-use Rattle.sdp_read.specs.declared.Search.the-variants.{On, Told}
-use Rattle.sdp_read.specs.declared.Version.the-variants as version
+use Rattle.sdp_turn.specs.declared.Ended.{Ended}
+use Rattle.sdp_turn.specs.declared.Ended.the-variants.{Accepted, Stopped}
+use Rattle.sdp_turn.specs.declared.Turn.{Turn}
+use Rattle.sdp_turn.specs.declared.Turn.the-variants.{Goes, Over}
+use Rattle.sdp_turn.specs.declared.Search.{Search}
+use Rattle.sdp_turn.specs.declared.Search.the-variants.{On, Told}
+use Rattle.sdp_turn.specs.declared.Version.the-variants as version
 
 -- what the cutter found stands in the text
 abbrev pub Inside : List ℕ → Next → Type 0
@@ -31,6 +32,23 @@ Inside s (Found n l v) = v .at .0 + v .len ≤ length s
 Inside s Empty = Unit {0}
 Inside s (Refused f n) = Unit {0}
 Inside s End = Unit {0}
+
+-- ---- what a text says
+-- what reading a text says: a session, or the refusal
+pub data Verdict (S : Type 0) : Type 0 where
+  accepted : Session S → Verdict S
+  refused : Answer → Verdict S
+
+-- a refusal of a line: its number, and its field where it has one
+abbrev pub onLine : {S : Type 0} → ℕ → ℕ → ℕ → Verdict S
+onLine number line field = refused (answer number line field)
+
+-- the answer of the lines, and the area after them: the session, or a refusal after which only the bytes behind count
+abbrev pub Left : Verdict Span → Ended → List ℕ → List ℕ → Type 0
+Left (accepted s) Accepted a t = a ≡ encode s ++ t
+Left (accepted s) (Stopped y) a t = ⊥
+Left (refused x) Accepted a t = ⊥
+Left (refused x) (Stopped y) a t = (y ≡ x) × (drop size a ≡ t)
 
 -- ---- after the version
 -- what a line does to a run: it goes on, or is over
@@ -54,10 +72,6 @@ lineOf s ρ Empty = on ρ
 lineOf s ρ (Refused f n) = over (onLine (faultNumber f) (n .0) 0)
 lineOf s ρ End = over (accepted (ρ .session))
 
--- the line that stands at a cursor
-unfoldable pub lineAt : List ℕ → Reading Span → Cursor → Lined
-lineAt s ρ c = lineOf s ρ (moveAt s (c .at) (c .line) .next)
-
 -- the code's answer for it, and the area: a run that goes on is held there
 abbrev pub Turned : Lined → Turn → List ℕ → List ℕ → Type 0
 Turned (on ρ) (Goes m) a t = Holds ρ m a t
@@ -68,12 +82,6 @@ Turned (over v) (Over e) a t = Left v e a t
 -- whatever session the area held
 abbrev pub Turns : (Reading Span → Lined) → Marks → Turn → List ℕ → List ℕ → Type 0
 Turns f m r a a′ = (ρ : Reading Span) (t : List ℕ) → Holds ρ m a t → Turned (f ρ) r a′ t
-
--- ---- where a run goes on, whatever the area holds
--- d is further on than c in the text
-pub record Further (s : List ℕ) (c d : Cursor) : Type 0 where
-  pub forward : c .at .0 < d .at .0
-  pub reached : Reached s c → Reached s d
 
 -- a run goes on only past a line
 abbrev pub Passes : Next → Turn → Type 0
@@ -100,7 +108,3 @@ versionOf s (Found n l v) = openedLine s (n .0) l v
 versionOf s Empty = On
 versionOf s (Refused f n) = Told (version.Refused (answer (faultNumber f) (n .0) 0))
 versionOf s End = Told (version.Refused noVersion)
-
--- the line that stands at a cursor
-unfoldable pub versionAt : List ℕ → Cursor → Search
-versionAt s c = versionOf s (moveAt s (c .at) (c .line) .next)

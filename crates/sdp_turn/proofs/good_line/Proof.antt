@@ -1,12 +1,12 @@
--- `sdp_read::good_line` meets its contract. Assumes nothing.
+-- `sdp_turn::good_line` meets its contract. Assumes nothing.
 use Rattle.sdp_step.specs.Step.{step}
 use Rattle.sdp_strings.specs.Strings.{spanAt}
 use Rattle.sdp_lines.specs.Strings.{bytesOf}
-use Rattle.sdp_read.proofs.CutLaws.{part-is, part-fits}
-use Rattle.sdp_read.proofs.TurnLaws.{turns-kept, turns-refused}
+use Rattle.sdp_turn.proofs.PartLaws.{part-is, part-fits}
+use Rattle.sdp_turn.proofs.TurnLaws.{turns-kept, turns-refused}
 use borrow.Author.Needs.{needs}
-use Rattle.sdp_read.proofs.good_line.Statement.{statement}
-use Rattle.sdp_read.proofs.good_line.Tie as tie
+use Rattle.sdp_turn.proofs.good_line.Statement.{statement}
+use Rattle.sdp_turn.proofs.good_line.Tie as tie
 
 take-requires : tie.Need-take-requires
 take-requires c κs =

@@ -1,8 +1,8 @@
--- `sdp_read::turn_of` meets its contract. Assumes nothing.
-use Rattle.sdp_read.proofs.TurnLaws.{turns-end, turns-bad, turns-empty}
+-- `sdp_turn::turn_of` meets its contract. Assumes nothing.
+use Rattle.sdp_turn.proofs.TurnLaws.{turns-end, turns-bad, turns-empty}
 use borrow.Author.Needs.{needs}
-use Rattle.sdp_read.proofs.turn_of.Statement.{statement}
-use Rattle.sdp_read.proofs.turn_of.Tie as tie
+use Rattle.sdp_turn.proofs.turn_of.Statement.{statement}
+use Rattle.sdp_turn.proofs.turn_of.Tie as tie
 
 good-line-requires : tie.Need-good-line-requires
 good-line-requires c κs =

@@ -1,10 +1,10 @@
--- `sdp_read::opened_line` meets its contract. Assumes nothing.
+-- `sdp_turn::opened_line` meets its contract. Assumes nothing.
 use mathlib.Core.Path.{sym, ap, _∙_}
-use Rattle.sdp_read.specs.OneLine.{openedTo}
-use Rattle.sdp_read.proofs.CutLaws.{part-is}
+use Rattle.sdp_turn.specs.Turn.{openedTo}
+use Rattle.sdp_turn.proofs.PartLaws.{part-is}
 use borrow.Author.Needs.{needs}
-use Rattle.sdp_read.proofs.opened_line.Statement.{statement}
-use Rattle.sdp_read.proofs.opened_line.Tie as tie
+use Rattle.sdp_turn.proofs.opened_line.Statement.{statement}
+use Rattle.sdp_turn.proofs.opened_line.Tie as tie
 
 returns : tie.Need-returns
 returns c =

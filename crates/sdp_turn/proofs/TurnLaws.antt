@@ -1,27 +1,22 @@
 -- What one line does, by what the cutter found and what the line's step answered.
 -- Assumes nothing.
 use Prim.Native.Nat.{ℕ}
-use mathlib.Core.Path.{_≡_, refl, subst}
+use mathlib.Core.Path.{refl}
 use mathlib.Core.List.{List}
 use Rattle.sdp_lines.specs.Answers.{faultNumber}
 use Rattle.sdp_lines.specs.declared.Span.{Span}
-use Rattle.sdp_lines.specs.declared.Cursor.{Cursor}
 use Rattle.sdp_lines.specs.declared.LineNumber.{LineNumber}
 use Rattle.sdp_lines.specs.declared.Fault.{Fault}
-use Rattle.sdp_cutter.specs.declared.Next.{Next}
-use Rattle.sdp_cutter.specs.declared.Next.the-variants.{Found, Empty, Refused, End}
+use Rattle.sdp_cutter.specs.declared.Next.the-variants.{Empty, Refused, End}
 use Rattle.sdp_step.specs.Step.{Reading, Stepped, goes, stops}
 use Rattle.sdp_step.specs.Hold.{Handled, Takes}
 use Rattle.sdp_step.specs.declared.Marks.{Marks}
 use Rattle.sdp_step.specs.declared.Taken.the-variants as taken
 use Rattle.sdp_step.proofs.TailLaws.{tail-of}
 use Rattle.sdp_line.specs.Version.{answer}
-use Rattle.sdp_read.specs.OneLine.{stepped, lineOf, lineAt, Turned, Turns, Passes, versionOf, versionAt}
-use Rattle.sdp_read.specs.declared.Ended.the-variants.{Accepted, Stopped}
-use Rattle.sdp_read.specs.declared.Turn.{Turn}
-use Rattle.sdp_read.specs.declared.Turn.the-variants.{Goes, Over}
-use Rattle.sdp_read.specs.declared.Search.{Search}
-use Rattle.sdp_read.proofs.CutLaws.{found}
+use Rattle.sdp_turn.specs.Turn.{stepped, lineOf, Turned, Turns}
+use Rattle.sdp_turn.specs.declared.Ended.the-variants.{Accepted, Stopped}
+use Rattle.sdp_turn.specs.declared.Turn.the-variants.{Goes, Over}
 
 -- ---- a line of good form, by the step's answer
 module _ (f : Reading Span → Stepped Span) (m : Marks) (a a′ : List ℕ) (n : ℕ) where
@@ -49,13 +44,3 @@ module _ (s : List ℕ) (m : Marks) (a : List ℕ) where
 
   pub turns-empty : Turns (λ ρ. lineOf s ρ Empty) m (Goes m) a a
   turns-empty ρ t h = h
-
--- ---- what the cutter found at a cursor
-module _ (s : List ℕ) (c : Cursor) (x : Next) (e : x ≡ found s c) where
-  pub turned-at : (m : Marks) (r : Turn) (a a′ : List ℕ) → Turns (λ ρ. lineOf s ρ x) m r a a′ × Passes x r → Turns (λ ρ. lineAt s ρ c) m r a a′ × Passes (found s c) r
-  unfolding lineAt
-  turned-at m r a a′ h = subst (λ (y : Next). Turns (λ ρ. lineOf s ρ y) m r a a′ × Passes y r) e h
-
-  pub version-at : (r : Search) → r ≡ versionOf s x → r ≡ versionAt s c
-  unfolding versionAt
-  version-at r h = subst (λ (y : Next). r ≡ versionOf s y) e h
