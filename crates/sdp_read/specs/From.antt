@@ -1,23 +1,19 @@
 -- Reading from a cursor on: what the functions promise that are lent the cutter.
 use Prim.Native.Nat.{ℕ, _+_, _≤_}
 use mathlib.Core.Path.{_≡_}
-use mathlib.Core.List.{List, _++_}
+use mathlib.Core.List.{List}
 use lib.ListN.{length, drop}
-use Rattle.sdp_area.specs.Area.{encode, size}
 use Rattle.sdp_lines.specs.Lines.{split}
 use Rattle.sdp_lines.specs.declared.Span.{Span}
 use Rattle.sdp_lines.specs.declared.Cursor.{Cursor}
 use Rattle.sdp_strings.specs.Strings.{spanAt}
 use Rattle.sdp_step.specs.Step.{Reading, fresh}
-use Rattle.sdp_lines.specs.declared.Answer.{Answer}
-use Rattle.sdp_cells.specs.Bytes.{zeros}
-use Rattle.sdp_line.specs.Version.{answer}
 use Rattle.sdp_cutter.specs.Cutter.{moveAt}
 use Rattle.sdp_turn.specs.Turn.{Lined, lineOf, versionOf}
 use Rattle.sdp_turn.specs.declared.Search.{Search}
 use Rattle.sdp_turn.specs.declared.Version.{Version}
 use Rattle.sdp_turn.specs.declared.Version.the-variants as version
-use Rattle.sdp_read.specs.Run.{Verdict, accepted, refused, run, begin}
+use Rattle.sdp_read.specs.Run.{Verdict, refused, run, begin}
 
 -- a cursor that cutting from the start leads to: a line takes a byte at least
 pub record Reached (s : List ℕ) (c : Cursor) : Type 0 where
@@ -45,8 +41,3 @@ versionAt s c = versionOf s (moveAt s (c .at) (c .line) .next)
 abbrev pub Begun : List ℕ → Cursor → Version → Cursor → Type 0
 Begun s c version.Found d = (beginAt s c ≡ runAt s fresh d) × Reached s d
 Begun s c (version.Refused x) d = beginAt s c ≡ refused x
-
--- the answer of the whole, and the area after it, all zero where the lines are refused
-abbrev pub Said : Verdict Span → Answer → List ℕ → List ℕ → Type 0
-Said (accepted s) y a t = (y ≡ answer 0 0 0) × (a ≡ encode s ++ t)
-Said (refused x) y a t = (y ≡ x) × (a ≡ zeros size ++ t)

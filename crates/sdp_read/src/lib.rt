@@ -11,7 +11,7 @@ ghost use Rattle.sdp_step.specs.Step.{fresh};
 ghost use Rattle.sdp_line.specs.Version.{answer};
 ghost use Rattle.sdp_read.specs.Run.{readText};
 ghost use Rattle.sdp_turn.specs.Turn.{Left, Turns, Passes};
-ghost use Rattle.sdp_read.specs.From.{Reached, lineAt, versionAt, runAt, beginAt, Begun, Said};
+ghost use Rattle.sdp_read.specs.From.{Reached, lineAt, versionAt, runAt, beginAt, Begun};
 use sdp_area::SIZE;
 use sdp_area::clear;
 use sdp_cutter::Cutter;
@@ -112,21 +112,7 @@ fn refusal(number: u64) -> Answer
     }
 }
 
-// All lines; where one is refused, the area is cleared again.
-fn read_cleared(text: &[u8], area: &mut [u8]) -> Answer
-    requires { ⌜ (size ≤ length (now area)) × (length (now text) ≤ 32768) ⌝ }
-    ensures { λ r. ⌜ ((t : List ℕ) → now (area .entry) ≡ encode empty ++ t → Said (beginAt (now (text .entry)) start) r (now (area .exit)) t) ⌝ }
-{
-    match read_text(text, area) {
-        Ended::Accepted => refusal(0),
-        Ended::Stopped(x) => {
-            clear(area);
-            x
-        }
-    }
-}
-
-// Reads a text into the area that the caller lends.
+// Reads a text into the area that the caller lends; where a line is refused, the area is cleared again.
 pub fn read(text: &[u8], area: &mut [u8]) -> Answer
     ensures { λ r. ⌜ r ≡ readText (now (text .entry)) (now (area .entry)) .answer ⌝ }
     ensures { λ r. ⌜ now (area .exit) ≡ readText (now (text .entry)) (now (area .entry)) .area ⌝ }
@@ -138,5 +124,11 @@ pub fn read(text: &[u8], area: &mut [u8]) -> Answer
         return refusal(1);
     }
     clear(area);
-    read_cleared(text, area)
+    match read_text(text, area) {
+        Ended::Accepted => refusal(0),
+        Ended::Stopped(x) => {
+            clear(area);
+            x
+        }
+    }
 }
