@@ -243,6 +243,10 @@ module _ {M : Type 1} (𝓤 : URA M) (H : Heap 𝓤) (A : Atoms 𝓤) (W : Given
       suffices ! _ (ends-at 𝓤 H A self.ended stayed (self.clauses 𝓤 H A at-mem run) W (((κ, (κ′, tt)), (q, (q′, tt)), tt, a, vals), tt) (E′.lowered x) x (tt, (zs, tt)) (tt, (l, tt))) $ says ! e $ frame ! $
       nothing ! $ move ! (2 ∷ 0 ∷ []) $ fjoin ! $ move ! (1 ∷ 0 ∷ []) $ fjoin ! $ frame ! $ owned ! E.the-row (Is E.the-row) (EL.makes E.the-type E′.the-plain 𝓤 H A) x _ is $ done !
 
+  -- the context, written out: the steps after it need not go back through those before it
+  abbrev stands-at : {G : Goal 𝓤 H} (Γ : List (Item 𝓤)) → Sq W Γ G → Sq W Γ G
+  stands-at Γ k = k
+
   -- the types of the locals that hold references
   abbrev Ref : Ty
   Ref = tyRef erased mut (pointee (T.the-row .written))
@@ -261,6 +265,15 @@ module _ {M : Type 1} (𝓤 : URA M) (H : Heap 𝓤) (A : Atoms 𝓤) (W : Given
     module _ (l₀ l₁ l₂ l₃ l₄ l₅ l₆ l₇ l₈ l₉ l₁₀ l₁₁ l₁₂ : ℕ) where
       abbrev En : Env 𝓤 H
       En = (E′.mir, l₀) ∷ (Text, l₁) ∷ (Bytes (named 1), l₂) ∷ (T′.mir, l₃) ∷ (Y′.mir, l₄) ∷ (P′.mir, l₅) ∷ (N′.mir, l₆) ∷ (U′.mir, l₇) ∷ (Ref, l₈) ∷ (E′.mir, l₉) ∷ (Ref, l₁₀) ∷ (tyRef erased mut (tyInt w8), l₁₁) ∷ (Bytes erased, l₁₂) ∷ []
+
+      -- what there is after the call of `find_version`, where the cutter stands at z
+      abbrev Ready : Cutter → List (Item 𝓤)
+      Ready z =
+          ‵ (fat fullShare T′.mir l₃ 0 (T′.lowered z)) ∷ (‵ (flft κ q) ⊛ ‵ ftrue) ∷ ‵ (flft κ′ q′) ∷ ‵ (Area κ′ γ ys) ∷ ‵ Own
+          ∷ ‵ (froom (Bytes erased) l₁₂ 0) ∷ ‵ (fdies (Bytes erased) l₁₂) ∷ ‵ (froom (tyRef erased mut (tyInt w8)) l₁₁ 0) ∷ ‵ (fdies (tyRef erased mut (tyInt w8)) l₁₁) ∷ ‵ (froom Ref l₁₀ 0) ∷ ‵ (fdies Ref l₁₀)
+          ∷ ‵ (froom E′.mir l₉ 0) ∷ ‵ (fdies E′.mir l₉) ∷ ‵ (fat fullShare Ref l₈ 0 (vptr l₃ 0)) ∷ ‵ (fdies Ref l₈) ∷ ‵ (froom U′.mir l₇ 0) ∷ ‵ (fdies U′.mir l₇) ∷ ‵ (fat fullShare N′.mir l₆ 0 (N′.lowered (first-line .line))) ∷ ‵ (fdies N′.mir l₆)
+          ∷ ‵ (fat fullShare P′.mir l₅ 0 (P′.lowered (first-line .at))) ∷ ‵ (fdies P′.mir l₅) ∷ ‵ (froom Y′.mir l₄ 0) ∷ ‵ (fdies Y′.mir l₄) ∷ ‵ (fdies T′.mir l₃) ∷ ‵ (fat fullShare (Bytes (named 1)) l₂ 0 u) ∷ ‵ (fdies (Bytes (named 1)) l₂)
+          ∷ ‵ (fat fullShare Text l₁ 0 v) ∷ ‵ (fdies Text l₁) ∷ ‵ (froom E′.mir l₀ 0) ∷ ‵ (fdies E′.mir l₀) ∷ []
 
       -- what there is after the match
       abbrev After : Ended → List ℕ → List (Item 𝓤)
@@ -303,7 +316,7 @@ module _ {M : Type 1} (𝓤 : URA M) (H : Heap 𝓤) (A : Atoms 𝓤) (W : Given
         move ! (1 ∷ []) $ split ! $ move ! (2 ∷ 5 ∷ 0 ∷ 4 ∷ 3 ∷ []) $
         -- [what it says; the lender's part; the area's token; the area's; text's; true; _12; …]
         move ! (5 ∷ []) $ drop ! $ pick ! (λ r. elim r [
-          | Found ↦ found tt ν l₃ δ Found w (λ z e z-is is.
+          | Found ↦ found tt ν l₃ δ Found w (λ z e z-is is. stands-at (Ready l₀ l₁ l₂ l₃ l₄ l₅ l₆ l₇ l₈ l₉ l₁₀ l₁₁ l₁₂ z) (
               -- [_3; text's token; the area's token; the area's; text's; _12; …; _11; …; _10; …; _9; …; _8; …; _7; …; _6; …; _5; …; _4; …; _3's end; _2; …; _1; …; room for _0; …]
               land ! (from ! (stop !)) (init ! 15 refl (EL.lawful U.the-type U′.the-laws 𝓤 H A W tt .typed Found _ is .0)) $ rewrite ! 15 (λ (k : Val). ‵ (fat fullShare U′.mir l₇ 0 k)) (version-w Found w is) refl $
               first ! $ by-variants ! 15 (whole !) (load ! (from ! (vrt ! refl (fld ! refl (stop !)))) (look-tag ! 15 (whole !))) tt (
@@ -331,8 +344,8 @@ module _ {M : Type 1} (𝓤 : URA M) (H : Heap 𝓤) (A : Atoms 𝓤) (W : Given
                       leaves l₀ l₁ l₂ l₃ l₄ l₅ l₆ l₇ l₈ l₉ l₁₀ l₁₁ l₁₂ x zs (λ t j. text-found (now s) (due z) (e .0) x zs t (e′ t j)) c (ended-is x w′ is′)))))))),
                   tt,
                 )),
-              ))
-          | Refused x ↦ found tt ν l₃ δ (Refused x) w (λ z e z-is is.
+              )))
+          | Refused x ↦ found tt ν l₃ δ (Refused x) w (λ z e z-is is. stands-at (Ready l₀ l₁ l₂ l₃ l₄ l₅ l₆ l₇ l₈ l₉ l₁₀ l₁₁ l₁₂ z) (
               land ! (from ! (stop !)) (init ! 15 refl (EL.lawful U.the-type U′.the-laws 𝓤 H A W tt .typed (Refused x) _ is .0)) $ rewrite ! 15 (λ (k : Val). ‵ (fat fullShare U′.mir l₇ 0 k)) (version-w (Refused x) w is) refl $
               first ! $ by-variants ! 15 (whole !) (load ! (from ! (vrt ! refl (fld ! refl (stop !)))) (look-tag ! 15 (whole !))) tt (
                 (λ k. assigns ! (of-opd ! (load ! (from ! (vrt ! refl (fld ! refl (stop !)))) (look-in ! 15 (in-variant ! 1 0 refl refl (whole !))))) (from ! (stop !)) (init ! 21 refl (LL.lawful Y.the-type Y′.the-laws 𝓤 H A W .typed x _ (refusal-is x w is) .0)) $
@@ -340,7 +353,7 @@ module _ {M : Type 1} (𝓤 : URA M) (H : Heap 𝓤) (A : Atoms 𝓤) (W : Given
                     forget ! 0 refl $ forget ! 13 refl $ forget ! 15 refl $ forget ! 17 refl $ forget ! 19 refl $ forget ! 21 refl $
                     leaves l₀ l₁ l₂ l₃ l₄ l₅ l₆ l₇ l₈ l₉ l₁₀ l₁₁ l₁₂ (Stopped x) ys (text-refused (now s) x e ys) refl (stopped-is x w is)),
                 ((λ k. absurd (omega (arith, k))), tt),
-              ))
+              )))
         ])))))))))))))))))
 
 module _ {M : Type 1} (𝓤 : URA M) (H : Heap 𝓤) (A : Atoms 𝓤) (W : Given 𝓤 H A) (mem : Memory → SProp 𝓤) (run : Routine → Fun 𝓤) where
