@@ -34,3 +34,7 @@ stands m = record { at = m .at; line = m .line }
 -- the cutter then
 abbrev pub standing : Moved → Cutter
 standing m = record { at = m .at; line = m .line }
+
+-- where a cutter stands
+abbrev pub due : Cutter → Cursor
+due c = record { at = c .at; line = c .line }

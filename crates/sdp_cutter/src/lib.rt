@@ -1,6 +1,6 @@
 // Document 01, "Forms we want to see": the crate's LineParser and Line, over the cursor by value.
 ghost use mathlib.Core.Path.{_≡_};
-ghost use Rattle.sdp_cutter.specs.Cutter.{stands, standsAt, moveAt, standing};
+ghost use Rattle.sdp_cutter.specs.Cutter.{standsAt, moveAt, standing};
 use sdp_lines::Cursor;
 use sdp_lines::Cut;
 use sdp_lines::Fault;
@@ -41,17 +41,6 @@ pub struct Moved {
     pub next: Next,
     pub at: Place,
     pub line: LineNumber,
-}
-
-impl Moved {
-    // Where the next line is due.
-    pub fn then(self) -> Cursor
-        ensures { λ r. ⌜ r ≡ stands self ⌝ }
-    {
-        let at = self.at;
-        let line = self.line;
-        Cursor { at, line }
-    }
 }
 
 // A line is made.
@@ -116,17 +105,4 @@ pub fn next_line(c: &mut Cutter, text: &[u8]) -> Next
     c.at = moved.at;
     c.line = moved.line;
     moved.next
-}
-
-// From plain numbers: a cutter is made here and lent for one line. Whoever calls this needs no walk by hand.
-pub fn cut_line(text: &[u8], at: Place, line: LineNumber) -> Moved
-    ensures { λ r. ⌜ r ≡ moveAt (now (text .entry)) at line ⌝ }
-{
-    let mut c = Cutter { at, line };
-    let next = next_line(&mut c, text);
-    Moved {
-        next,
-        at: c.at,
-        line: c.line,
-    }
 }

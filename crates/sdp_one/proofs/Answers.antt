@@ -17,9 +17,7 @@ use Rattle.sdp_number.proofs.typed_time.Reads as sdpNumberTypedTime
 use Rattle.sdp_lines.proofs.Cursor.new.Reads as sdpLinesCursorNew
 use Rattle.sdp_lines.proofs.Cursor.cut.Reads as sdpLinesCursorCut
 use Rattle.sdp_lines.proofs.fault_number.Reads as sdpLinesFaultNumber
-use Rattle.sdp_cutter.proofs.Moved.then.Reads as sdpCutterMovedThen
 use Rattle.sdp_cutter.proofs.move_at.Reads as sdpCutterMoveAt
-use Rattle.sdp_cutter.proofs.cut_line.Reads as sdpCutterCutLine
 use Rattle.sdp_split.proofs.word_at.Reads as sdpSplitWordAt
 use Rattle.sdp_split.proofs.first_piece.Reads as sdpSplitFirstPiece
 use Rattle.sdp_split.proofs.piece_after.Reads as sdpSplitPieceAfter
@@ -78,6 +76,7 @@ use Rattle.sdp_strings.proofs.maybe_of.Reads as sdpStringsMaybeOf
 use Rattle.sdp_step.proofs.refused.Reads as sdpStepRefused
 use Rattle.sdp_step.proofs.stored.Reads as sdpStepStored
 use Rattle.sdp_line.proofs.opening_line.Reads as sdpLineOpeningLine
+use Rattle.sdp_turn.proofs.search_of.Reads as sdpTurnSearchOf
 use Rattle.sdp_read.proofs.read.Reads as sdpReadRead
 use Rattle.sdp_put.proofs.put_byte.Reads as sdpPutPutByte
 use Rattle.sdp_put.proofs.put_two.Reads as sdpPutPutTwo
@@ -167,14 +166,8 @@ pub sdp-lines-fault-number : OneAnswer sdpLinesFaultNumber.Learnt
 sdp-lines-fault-number κs a z z′ e e′ p q = same p q
 
 -- ---- sdp_cutter
-pub sdp-cutter-Moved-then : OneAnswer sdpCutterMovedThen.Learnt
-sdp-cutter-Moved-then κs a z z′ e e′ p q = same p q
-
 pub sdp-cutter-move-at : OneAnswer sdpCutterMoveAt.Learnt
 sdp-cutter-move-at κs a z z′ e e′ p q = same p q
-
-pub sdp-cutter-cut-line : OneAnswer sdpCutterCutLine.Learnt
-sdp-cutter-cut-line κs a z z′ e e′ p q = same p q
 
 -- ---- sdp_split
 pub sdp-split-word-at : OneAnswer sdpSplitWordAt.Learnt
@@ -360,6 +353,10 @@ sdp-step-stored κs a z z′ e e′ p q = same p q
 -- ---- sdp_line
 pub sdp-line-opening-line : OneAnswer sdpLineOpeningLine.Learnt
 sdp-line-opening-line κs a z z′ e e′ p q = same p q
+
+-- ---- sdp_turn
+pub sdp-turn-search-of : OneAnswer sdpTurnSearchOf.Learnt
+sdp-turn-search-of κs a z z′ e e′ p q = same p q
 
 -- ---- sdp_read
 pub sdp-read-read : OneState (λ κs e. now (e .1 .0)) sdpReadRead.Learnt

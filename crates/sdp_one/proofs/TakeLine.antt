@@ -1,5 +1,5 @@
 -- The exceptions of docs/ONE-ANSWER.md that take a line: where the area holds a session, each has one answer too. Assumes nothing.
-use mathlib.Core.Path.{_≡_, ap}
+use mathlib.Core.Path.{_≡_, refl, ap}
 use mathlib.Core.List.{List}
 use Prim.Native.Nat.{ℕ}
 use denote.Ref.{now}
@@ -19,8 +19,14 @@ use Rattle.sdp_take_list.proofs.take_repeat.Reads as takeRepeat
 use Rattle.sdp_take_list.proofs.take_zone.Reads as takeZone
 use Rattle.sdp_take.proofs.take_line.Reads as takeLine
 use Rattle.sdp_line.proofs.take.Reads as lineTake
+use Rattle.sdp_turn.specs.Turn.{Verdict, accepted, refused, Left, Lined, on, over, lineOf, Turned}
+use Rattle.sdp_turn.specs.declared.Ended.{Ended}
+use Rattle.sdp_turn.specs.declared.Ended.the-variants.{Accepted, Stopped}
+use Rattle.sdp_turn.specs.declared.Turn.{Turn}
+use Rattle.sdp_turn.specs.declared.Turn.the-variants.{Goes, Over}
+use Rattle.sdp_turn.proofs.turn_of.Reads as turnOf
 use Rattle.sdp_one.specs.One.{OneWhere}
-use Rattle.sdp_one.specs.Seen.{seen}
+use Rattle.sdp_one.specs.Seen.{seen, seenTurn}
 use Rattle.sdp_one.proofs.OneLaws.{same}
 
 handled-once : (x : Stepped Span) (r r′ : Taken) (a a′ t : List ℕ) → Handled x r a t → Handled x r′ a′ t → (r ≡ r′) × (seen r a ≡ seen r′ a′)
@@ -30,6 +36,24 @@ handled-once (goes ρ) (Refused n f) r′ a a′ t h k = absurd h
 handled-once (stops n f) (Kept m) r′ a a′ t h k = absurd h
 handled-once (stops n f) (Refused i g) (Kept m) a a′ t h k = absurd k
 handled-once (stops n f) (Refused i g) (Refused j g′) a a′ t h k = (cc, same (h .2) (k .2))
+
+left-once : (v : Verdict Span) (e e′ : Ended) (a a′ t : List ℕ) → Left v e a t → Left v e′ a′ t → (e ≡ e′) × (seenTurn (Over e) a ≡ seenTurn (Over e′) a′)
+left-once (accepted σ) Accepted Accepted a a′ t h k = (refl, same h k)
+left-once (accepted σ) Accepted (Stopped y) a a′ t h k = absurd k
+left-once (accepted σ) (Stopped x) e′ a a′ t h k = absurd h
+left-once (refused x) Accepted e′ a a′ t h k = absurd h
+left-once (refused x) (Stopped y) Accepted a a′ t h k = absurd k
+left-once (refused x) (Stopped y) (Stopped y′) a a′ t h k = (ap Stopped (same (h .0) (k .0)), same (h .1) (k .1))
+
+turned-once : (x : Lined) (r r′ : Turn) (a a′ t : List ℕ) → Turned x r a t → Turned x r′ a′ t → (r ≡ r′) × (seenTurn r a ≡ seenTurn r′ a′)
+turned-once (on ρ) (Goes m) (Goes m′) a a′ t h k = (ap Goes (same (h .marks) (k .marks)), same (h .bytes) (k .bytes))
+turned-once (on ρ) (Goes m) (Over e) a a′ t h k = absurd k
+turned-once (on ρ) (Over e) r′ a a′ t h k = absurd h
+turned-once (over v) (Goes m) r′ a a′ t h k = absurd h
+turned-once (over v) (Over e) (Goes m) a a′ t h k = absurd k
+turned-once (over v) (Over e) (Over e′) a a′ t h k =
+    let l = left-once v e e′ a a′ t h k in
+    (ap Over (l .0), l .1)
 
 module _ (ρ : Reading Span) (t : List ℕ) where
   -- what takes a line by any step f
@@ -66,3 +90,6 @@ module _ (ρ : Reading Span) (t : List ℕ) where
   sdp-line-take κs a r r′ e e′ =
       let v = now (a .1 .1 .1 .1 .1 .0) in
       taken-once (λ ρ. step (spanAt (a .1 .0 .0) v) ρ v (a .1 .1 .1 .1 .0)) r r′ (now (e .0)) (now (e′ .0))
+
+  pub sdp-turn-turn-of : OneWhere (λ κs a. Holds ρ (a .1 .1 .0) (now (a .1 .0)) t) (λ κs r e. seenTurn r (now (e .1 .0))) turnOf.Learnt
+  sdp-turn-turn-of κs a r r′ e e′ h p q = turned-once (lineOf (now (a .0)) ρ (a .1 .1 .1 .0)) r r′ (now (e .1 .0)) (now (e′ .1 .0)) t (p .0 ρ t h) (q .0 ρ t h)

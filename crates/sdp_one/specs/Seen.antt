@@ -5,8 +5,17 @@ use lib.ListN.{drop}
 use Rattle.sdp_area.specs.Area.{size}
 use Rattle.sdp_step.specs.declared.Taken.{Taken}
 use Rattle.sdp_step.specs.declared.Taken.the-variants.{Kept, Refused}
+use Rattle.sdp_turn.specs.declared.Ended.the-variants.{Accepted, Stopped}
+use Rattle.sdp_turn.specs.declared.Turn.{Turn}
+use Rattle.sdp_turn.specs.declared.Turn.the-variants.{Goes, Over}
 
 -- a line that is kept leaves all of the area, a refusal the bytes behind the session
 abbrev pub seen : Taken → List ℕ → List ℕ
 seen (Kept m) a = a
 seen (Refused n f) a = drop size a
+
+-- the same of what a line does to a run
+abbrev pub seenTurn : Turn → List ℕ → List ℕ
+seenTurn (Goes m) a = a
+seenTurn (Over Accepted) a = a
+seenTurn (Over (Stopped x)) a = drop size a

@@ -3,13 +3,13 @@
 use Prim.Native.Nat.{ℕ, zero, suc, _+_, _-_, _≤_, _<_}
 use native.Mathlib.Decide.{decLt}
 use native.Mathlib.Omega.{arith}
-use native.Mathlib.Nat.{zero-add, suc-add, add-sub-cancel-left}
+use native.Mathlib.Nat.{zero-add, suc-add}
 use mathlib.Core.Path.{_≡_, refl, sym, ap, _∙_, subst}
 use mathlib.Core.Bool.{Bool, true, false, cond}
 use mathlib.Core.List.{List, [], _∷_}
 use lib.Dec.{ltb}
 use lib.ListN.{length, take, drop, length-drop, drop-of-length-le}
-use lib.Seq.{drop-drop, take-nil, length-take-le}
+use lib.Seq.{drop-drop, take-nil}
 use Rattle.sdp_lines.specs.Lines
 use Rattle.sdp_lines.specs.Lines.{Raw, split, content, width, formOf, nextLine, past, cutForm, cutRaws, cutAt}
 use Rattle.sdp_lines.specs.Quick.{firstRaw}
@@ -24,25 +24,26 @@ use Rattle.sdp_lines.proofs.LineLaws.{split-at-place, content-front, content-le
 use Rattle.sdp_line.specs.Version.{openingOf}
 use Rattle.sdp_line.specs.declared.Opening.{Opening}
 use Rattle.sdp_line.specs.declared.Opening.the-variants as opening
-use Rattle.sdp_read.specs.OneLine.{Further, openedTo, versionBy, versionAt}
-use Rattle.sdp_read.specs.declared.Search.{Search}
-use Rattle.sdp_read.specs.declared.Search.the-variants.{On, Told}
-use Rattle.sdp_read.specs.declared.Version.the-variants as version
+use Rattle.sdp_cutter.specs.Cutter.{moveBy, moveAt, stands}
+use Rattle.sdp_cutter.specs.declared.Next.{Next}
+use Rattle.sdp_step.specs.declared.Marks.{Marks}
+use Rattle.sdp_turn.specs.Turn.{Inside, lineOf, Turns, Passes, openedTo, versionOf}
+use Rattle.sdp_read.specs.From.{Reached, lineAt, versionAt}
+use Rattle.sdp_turn.specs.declared.Turn.{Turn}
+use Rattle.sdp_turn.specs.declared.Turn.the-variants.{Goes}
+use Rattle.sdp_turn.specs.declared.Search.{Search}
+use Rattle.sdp_turn.specs.declared.Search.the-variants.{On, Told}
+use Rattle.sdp_turn.specs.declared.Version.the-variants as version
 
 drop-take : (k m : ℕ) (u : List ℕ) → drop k (take (k + m) u) ≡ take m (drop k u)
 drop-take zero m u = ap (λ (n : ℕ). take n u) (zero-add m)
 drop-take (suc k) m [] = ap (λ (l : List ℕ). drop (suc k) l) (take-nil (suc k + m)) ∙ sym (take-nil m)
 drop-take (suc k) m (x ∷ u) = ap (λ (n : ℕ). drop (suc k) (take n (x ∷ u))) (suc-add k m) ∙ drop-take k m u
 
--- the part of a text that is a string's bytes, and that it stays within the limit
-pub part-is : (s : List ℕ) (x : Span) → take (x .at .0 + x .len - x .at .0) (drop (x .at .0) s) ≡ bytesOf s x
-part-is s x = ap (λ (k : ℕ). take k (drop (x .at .0) s)) (add-sub-cancel-left (x .at .0) (x .len))
-
-pub part-fits : (s : List ℕ) (x : Span) → length s ≤ 32768 → x .at .0 + x .len ≤ length s
-    → x .at .0 + length (take (x .at .0 + x .len - x .at .0) (drop (x .at .0) s)) ≤ 32768
-part-fits s x short inside =
-    let e : length (bytesOf s x) ≡ x .len = length-take-le (x .len) (drop (x .at .0) s) (omega (arith, inside, length-drop (x .at .0) s)) in
-    rw (part-is s x, e) (omega (arith, short, inside))
+-- d is further on than c in the text
+pub record Further (s : List ℕ) (c d : Cursor) : Type 0 where
+  pub forward : c .at .0 < d .at .0
+  pub reached : Reached s c → Reached s d
 
 next-le : (n : ℕ) → nextLine n ≤ n + 1
 next-le n = go (ltb n 0xffff_ffff_ffff_ffff)
@@ -107,28 +108,60 @@ module _ (s : List ℕ) (c : Cursor) where
       form h (Bad f) e = tt
       form h (Good l) e = (past-further h, omega (arith, good-form (content raw) l e, content-le raw, width-le (drop (c .at .0) s), length-drop (c .at .0) s))
 
-  pub empty-further : (d : Cursor) → cutAt s c ≡ Empty d → Further s c d
-  empty-further d e = subst (λ (k : Cut). Fine k) e cut-fine
+  -- so it is with what the cutter finds, where it then stands
+  abbrev pub then : Cursor
+  then = stands (moveAt s (c .at) (c .line))
 
-  pub line-fine : (l : ℕ) (v : Span) (d : Cursor) → cutAt s c ≡ Line l v d → Further s c d × (v .at .0 + v .len ≤ length s)
-  line-fine l v d e = subst (λ (k : Cut). Fine k) e cut-fine
+  abbrev pub found : Next
+  found = moveAt s (c .at) (c .line) .next
+
+  pub found-inside : Inside s found
+  unfolding moveAt
+  found-inside = go (cutAt s c) cut-fine
+    where
+      go : (k : Cut) → Fine k → Inside s (moveBy (c .at) (c .line) k .next)
+      go (Line l v d) h = h .1
+      go (Empty d) h = tt
+      go (Refused f n) h = tt
+      go End h = tt
+
+  -- a line that a run goes on past
+  pub goes-further : (m : Marks) → Passes found (Goes m) → Further s c then
+  unfolding moveAt
+  goes-further m = go (cutAt s c) cut-fine
+    where
+      go : (k : Cut) → Fine k → Passes (moveBy (c .at) (c .line) k .next) (Goes m) → Further s c (stands (moveBy (c .at) (c .line) k))
+      go (Line l v d) h p = h .0
+      go (Empty d) h p = h
+      go (Refused f n) h p = absurd p
+      go End h p = absurd p
 
   -- a line that is passed while the version is looked for
-  abbrev pub SearchFine : Search → Type 0
-  SearchFine (On d) = Further s c d
-  SearchFine (Told (version.Found d)) = Further s c d
-  SearchFine (Told (version.Refused x)) = Unit {0}
+  abbrev pub SearchFine : Search → Cursor → Type 0
+  SearchFine On d = Further s c d
+  SearchFine (Told version.Found) d = Further s c d
+  SearchFine (Told (version.Refused x)) d = Unit {0}
 
-  pub search-fine : (y : Search) → y ≡ versionAt s c → SearchFine y
-  unfolding versionAt
-  search-fine y e = subst (λ (z : Search). SearchFine z) (sym e) (go (cutAt s c) cut-fine)
+  pub search-fine : (y : Search) → y ≡ versionAt s c → SearchFine y then
+  unfolding versionAt moveAt
+  search-fine y e = subst (λ (z : Search). SearchFine z then) (sym e) (go (cutAt s c) cut-fine)
     where
-      opened : (d : Cursor) (o : Opening) → Further s c d → SearchFine (openedTo d o)
+      opened : (d : Cursor) (o : Opening) → Further s c d → SearchFine (openedTo o) d
       opened d opening.Zero h = h
       opened d (opening.Refused x) h = tt
 
-      go : (k : Cut) → Fine k → SearchFine (versionBy s (c .line .0) k)
-      go End u = tt
-      go (Refused f n) u = tt
-      go (Empty d) h = h
+      go : (k : Cut) → Fine k → SearchFine (versionOf s (moveBy (c .at) (c .line) k .next)) (stands (moveBy (c .at) (c .line) k))
       go (Line l v d) h = opened d (openingOf (c .line .0) (v .at .0) l (bytesOf s v)) (h .0)
+      go (Empty d) h = h
+      go (Refused f n) h = tt
+      go End h = tt
+
+  -- what the line there does, by what the cutter found
+  module _ (x : Next) (e : x ≡ found) where
+    pub turned-at : (m : Marks) (r : Turn) (a a′ : List ℕ) → Turns (λ ρ. lineOf s ρ x) m r a a′ × Passes x r → Turns (λ ρ. lineAt s ρ c) m r a a′ × Passes found r
+    unfolding lineAt
+    turned-at m r a a′ h = subst (λ (y : Next). Turns (λ ρ. lineOf s ρ y) m r a a′ × Passes y r) e h
+
+    pub version-at : (r : Search) → r ≡ versionOf s x → r ≡ versionAt s c
+    unfolding versionAt
+    version-at r h = subst (λ (y : Next). r ≡ versionOf s y) e h

@@ -1,5 +1,5 @@
 pub mod CutLaws
 pub mod RestLaws
-pub mod TurnLaws
 pub mod LoopLaws
 pub mod ReadLaws
+pub mod AgainLaws

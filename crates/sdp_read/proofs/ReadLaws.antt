@@ -7,16 +7,15 @@ use lib.ListN.{length, drop}
 use borrow.Author.Tests.{lt-ltb, le-ltb}
 use Rattle.sdp_lines.specs.Lines.{start}
 use Rattle.sdp_lines.specs.declared.Span.{Span}
-use Rattle.sdp_lines.specs.declared.Cursor.{Cursor}
 use Rattle.sdp_cells.specs.Bytes.{zeros}
 use Rattle.sdp_area.specs.Session.{empty}
 use Rattle.sdp_area.specs.Area.{encode, size}
 use Rattle.sdp_area.proofs.WidthLaws.{encode-empty}
-use Rattle.sdp_step.specs.Step.{fresh}
 use Rattle.sdp_read.specs.Run.{Verdict, accepted, refused, answer, lines, outcomeOf, readText}
-use Rattle.sdp_read.specs.From.{runAt, beginAt, Left, Said}
+use Rattle.sdp_turn.specs.Turn.{Left}
+use Rattle.sdp_read.specs.From.{beginAt}
 use Rattle.sdp_lines.specs.declared.Answer.{Answer}
-use Rattle.sdp_read.specs.declared.Ended.the-variants.{Accepted, Stopped}
+use Rattle.sdp_turn.specs.declared.Ended.the-variants.{Accepted, Stopped}
 
 -- the answer x and the area b are what readText says
 abbrev pub Says : List ℕ → List ℕ → Answer → List ℕ → Type 0
@@ -41,28 +40,17 @@ module _ (s a : List ℕ) where
       unfolding readText lines beginAt
       read-is = rw (le-ltb (length a) size fits, le-ltb 32768 (length s) short)
 
-      pub says-refused : (x : Answer) (b : List ℕ) → beginAt s start ≡ refused x → b ≡ zeros size ++ drop size a → Says s a x b
-      says-refused x b e f = rw (read-is, e) (refl, f)
-
-      pub says-rest : (c : Cursor) → beginAt s start ≡ runAt s fresh c → (y : Answer) (b : List ℕ) → Said (runAt s fresh c) y b (drop size a) → Says s a y b
-      says-rest c e y b h = rw (read-is, e) (go (runAt s fresh c) h)
+      -- by how the lines ended, b the area then
+      pub says-accepted : (b : List ℕ) → Left (beginAt s start) Accepted b (drop size a) → Says s a (answer 0 0 0) b
+      says-accepted b h = rw read-is (go (beginAt s start) h)
         where
-          go : (v : Verdict Span) → Said v y b (drop size a) → (y ≡ outcomeOf a v .answer) × (b ≡ outcomeOf a v .area)
-          go (accepted σ) h = h
-          go (refused x) h = h
+          go : (v : Verdict Span) → Left v Accepted b (drop size a) → (answer 0 0 0 ≡ outcomeOf a v .answer) × (b ≡ outcomeOf a v .area)
+          go (accepted σ) h = (refl, h)
+          go (refused x) h = absurd h
 
--- ---- after the lines, b the area then
-module _ (v : Verdict Span) (b t : List ℕ) where
-  pub said-accepted : Left v Accepted b t → Said v (answer 0 0 0) b t
-  said-accepted h = go v h
-    where
-      go : (v : Verdict Span) → Left v Accepted b t → Said v (answer 0 0 0) b t
-      go (accepted σ) h = (refl, h)
-      go (refused x) h = absurd h
-
-  pub said-stopped : (y : Answer) (b′ : List ℕ) → Left v (Stopped y) b t → b′ ≡ zeros size ++ drop size b → Said v y b′ t
-  said-stopped y b′ h e = go v h
-    where
-      go : (v : Verdict Span) → Left v (Stopped y) b t → Said v y b′ t
-      go (accepted σ) h = absurd h
-      go (refused x) h = (h .0, e ∙ ap (λ (l : List ℕ). zeros size ++ l) (h .1))
+      pub says-stopped : (y : Answer) (b b′ : List ℕ) → Left (beginAt s start) (Stopped y) b (drop size a) → b′ ≡ zeros size ++ drop size b → Says s a y b′
+      says-stopped y b b′ h e = rw read-is (go (beginAt s start) h)
+        where
+          go : (v : Verdict Span) → Left v (Stopped y) b (drop size a) → (y ≡ outcomeOf a v .answer) × (b′ ≡ outcomeOf a v .area)
+          go (accepted σ) h = absurd h
+          go (refused x) h = (h .0, e ∙ ap (λ (l : List ℕ). zeros size ++ l) (h .1))

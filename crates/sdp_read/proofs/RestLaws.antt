@@ -11,33 +11,41 @@ use borrow.Author.Tests.{lt-ltb}
 use Rattle.sdp_lines.specs.Lines.{content, width, formOf, nextLine, past, cutForm}
 use Rattle.sdp_lines.specs.declared.Span.{Span}
 use Rattle.sdp_lines.specs.declared.Cursor.{Cursor}
+use Rattle.sdp_lines.specs.declared.Cut.{Cut}
+use Rattle.sdp_cutter.specs.Cutter.{moveBy, moveAt, stands}
+use Rattle.sdp_cutter.specs.declared.Moved.{Moved}
 use Rattle.sdp_lines.specs.declared.Form.{Form}
 use Rattle.sdp_lines.specs.declared.Form.the-variants.{Blank, Good, Bad}
 use Rattle.sdp_strings.specs.Strings.{spanAt}
 use Rattle.sdp_step.specs.Step.{Reading, Stepped, goes, stops, step, fresh}
 use Rattle.sdp_line.specs.Version.{noVersion, badVersion, isZero, openingOf}
 use Rattle.sdp_line.specs.declared.Opening.the-variants as opening
-use Rattle.sdp_read.specs.Run.{Verdict, refused, after, stepForm, run, version, beginForm, begin}
+use Rattle.sdp_read.specs.Run.{Verdict, refused, after, stepForm, run, version as firstLine, beginForm, begin}
 use Rattle.sdp_read.specs.From.{Reached, runAt, beginAt}
-use Rattle.sdp_read.specs.OneLine.{Lined, on, over, steppedTo, lineBy, lineAt, openedTo, versionBy, versionAt}
-use Rattle.sdp_read.specs.declared.Search.{Search}
-use Rattle.sdp_read.specs.declared.Search.the-variants.{On, Told}
-use Rattle.sdp_read.specs.declared.Version.the-variants as found
-use Rattle.sdp_read.proofs.CutLaws.{raw, rest, span, at-cursor, value-is}
+use Rattle.sdp_turn.specs.Turn.{Lined, on, over, stepped, lineOf, openedTo, versionOf}
+use Rattle.sdp_read.specs.From.{lineAt, versionAt}
+use Rattle.sdp_turn.specs.declared.Search.{Search}
+use Rattle.sdp_turn.specs.declared.Search.the-variants.{On, Told}
+use Rattle.sdp_turn.specs.declared.Version.the-variants as version
+use Rattle.sdp_read.proofs.CutLaws.{raw, rest, at-cursor, value-is, then}
 
--- what the text says from there on, after the version and before it
-abbrev pub runOn : List ℕ → Lined → Verdict Span
-runOn s (on ρ d) = runAt s ρ d
-runOn s (over v) = v
+-- what the text says from there on, the next line due at d, after the version and before it
+abbrev pub runOn : List ℕ → Lined → Cursor → Verdict Span
+runOn s (on ρ) d = runAt s ρ d
+runOn s (over v) d = v
 
-abbrev pub searchOn : List ℕ → Search → Verdict Span
-searchOn s (On d) = beginAt s d
-searchOn s (Told (found.Found d)) = runAt s fresh d
-searchOn s (Told (found.Refused x)) = refused x
+abbrev pub searchOn : List ℕ → Search → Cursor → Verdict Span
+searchOn s On d = beginAt s d
+searchOn s (Told version.Found) d = runAt s fresh d
+searchOn s (Told (version.Refused x)) d = refused x
 
 module _ (s : List ℕ) (short : length s ≤ 32768) (c : Cursor) (w : Reached s c) where
   abbrev next : Cursor
   next = past c (raw s c)
+
+  -- where the cutter stands after what was cut
+  abbrev moved : Cut → Moved
+  moved = moveBy (c .at) (c .line)
 
   -- the next line's number does not stay
   next-is : c .line .0 + 1 ≡ nextLine (c .line .0)
@@ -52,37 +60,37 @@ module _ (s : List ℕ) (short : length s ≤ 32768) (c : Cursor) (w : Reached s
   begin-past = ap (λ (n : ℕ). begin spanAt n (c .at .0 + width (raw s c)) (rest s c)) next-is
 
   -- ---- after the version
-  stepped-on : (x : Stepped Span) → after spanAt x (c .line .0) (λ τ. run spanAt τ (c .line .0 + 1) (c .at .0 + width (raw s c)) (rest s c)) ≡ runOn s (steppedTo (c .line .0) next x)
+  stepped-on : (x : Stepped Span) → after spanAt x (c .line .0) (λ τ. run spanAt τ (c .line .0 + 1) (c .at .0 + width (raw s c)) (rest s c)) ≡ runOn s (stepped (c .line .0) x) next
   stepped-on (goes ρ) = run-past ρ
   stepped-on (stops n f) = refl
 
-  pub rest-line : (ρ : Reading Span) → runAt s ρ c ≡ runOn s (lineAt s ρ c)
-  unfolding runAt run lineAt
-  rest-line ρ = at-cursor s c (λ rs k. run spanAt ρ (c .line .0) (c .at .0) rs ≡ runOn s (lineBy s ρ (c .line .0) k)) refl (λ h f e. rw e (form f e))
+  pub rest-line : (ρ : Reading Span) → runAt s ρ c ≡ runOn s (lineAt s ρ c) (then s c)
+  unfolding runAt run lineAt moveAt
+  rest-line ρ = at-cursor s c (λ rs k. run spanAt ρ (c .line .0) (c .at .0) rs ≡ runOn s (lineOf s ρ (moved k .next)) (stands (moved k))) refl (λ h f e. rw e (form f e))
     where
       form : (f : Form) → formOf (content (raw s c)) ≡ f
-          → after spanAt (stepForm spanAt ρ (c .at .0) (content (raw s c)) f) (c .line .0) (λ τ. run spanAt τ (c .line .0 + 1) (c .at .0 + width (raw s c)) (rest s c)) ≡ runOn s (lineBy s ρ (c .line .0) (cutForm c (raw s c) f))
+          → after spanAt (stepForm spanAt ρ (c .at .0) (content (raw s c)) f) (c .line .0) (λ τ. run spanAt τ (c .line .0 + 1) (c .at .0 + width (raw s c)) (rest s c)) ≡ runOn s (lineOf s ρ (moved (cutForm c (raw s c) f) .next)) (stands (moved (cutForm c (raw s c) f)))
       form Blank e = run-past ρ
       form (Bad f) e = refl
       form (Good l) e = rw (value-is s c l e) (stepped-on (step (spanAt (c .at .0 + 2) (drop 2 (content (raw s c)))) ρ (drop 2 (content (raw s c))) l))
 
   -- ---- before it
   opened-on : (p l : ℕ) (v : List ℕ) (k : Verdict Span) → k ≡ runAt s fresh next
-      → version spanAt (c .line .0) p v l k ≡ searchOn s (openedTo next (openingOf (c .line .0) p l v))
+      → firstLine spanAt (c .line .0) p v l k ≡ searchOn s (openedTo (openingOf (c .line .0) p l v)) next
   opened-on p l v k e = go (eqb l 0x76) (isZero v)
     where
       go : (x y : Bool) → cond x (cond y k (refused (badVersion (c .line .0) p (length v)))) (refused noVersion)
-          ≡ searchOn s (openedTo next (cond x (cond y opening.Zero (opening.Refused (badVersion (c .line .0) p (length v)))) (opening.Refused noVersion)))
+          ≡ searchOn s (openedTo (cond x (cond y opening.Zero (opening.Refused (badVersion (c .line .0) p (length v)))) (opening.Refused noVersion))) next
       go true true = e
       go true false = refl
       go false y = refl
 
-  pub rest-version : beginAt s c ≡ searchOn s (versionAt s c)
-  unfolding beginAt begin versionAt
-  rest-version = at-cursor s c (λ rs k. begin spanAt (c .line .0) (c .at .0) rs ≡ searchOn s (versionBy s (c .line .0) k)) refl (λ h f e. rw e (form f e))
+  pub rest-version : beginAt s c ≡ searchOn s (versionAt s c) (then s c)
+  unfolding beginAt begin versionAt moveAt
+  rest-version = at-cursor s c (λ rs k. begin spanAt (c .line .0) (c .at .0) rs ≡ searchOn s (versionOf s (moved k .next)) (stands (moved k))) refl (λ h f e. rw e (form f e))
     where
       form : (f : Form) → formOf (content (raw s c)) ≡ f
-          → beginForm spanAt (c .line .0) (c .at .0) (content (raw s c)) f (begin spanAt (c .line .0 + 1) (c .at .0 + width (raw s c)) (rest s c)) (run spanAt fresh (c .line .0 + 1) (c .at .0 + width (raw s c)) (rest s c)) ≡ searchOn s (versionBy s (c .line .0) (cutForm c (raw s c) f))
+          → beginForm spanAt (c .line .0) (c .at .0) (content (raw s c)) f (begin spanAt (c .line .0 + 1) (c .at .0 + width (raw s c)) (rest s c)) (run spanAt fresh (c .line .0 + 1) (c .at .0 + width (raw s c)) (rest s c)) ≡ searchOn s (versionOf s (moved (cutForm c (raw s c) f) .next)) (stands (moved (cutForm c (raw s c) f)))
       form Blank e = begin-past
       form (Bad f) e = refl
       form (Good l) e = rw (value-is s c l e) (opened-on (c .at .0 + 2) l (drop 2 (content (raw s c))) _ (run-past fresh))

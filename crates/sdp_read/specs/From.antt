@@ -1,22 +1,19 @@
--- Reading from a cursor on: what the loops over the lines promise.
+-- Reading from a cursor on: what the functions promise that are lent the cutter.
 use Prim.Native.Nat.{ℕ, _+_, _≤_}
 use mathlib.Core.Path.{_≡_}
-use mathlib.Core.List.{List, _++_}
+use mathlib.Core.List.{List}
 use lib.ListN.{length, drop}
-use Rattle.sdp_area.specs.Area.{encode, size}
-use Rattle.sdp_lines.specs.Lines.{split, start}
+use Rattle.sdp_lines.specs.Lines.{split}
 use Rattle.sdp_lines.specs.declared.Span.{Span}
 use Rattle.sdp_lines.specs.declared.Cursor.{Cursor}
 use Rattle.sdp_strings.specs.Strings.{spanAt}
 use Rattle.sdp_step.specs.Step.{Reading, fresh}
-use Rattle.sdp_lines.specs.declared.Answer.{Answer}
-use Rattle.sdp_cells.specs.Bytes.{zeros}
-use Rattle.sdp_line.specs.Version.{answer}
-use Rattle.sdp_read.specs.Run.{Verdict, accepted, refused, run, begin}
-use Rattle.sdp_read.specs.declared.Ended.{Ended}
-use Rattle.sdp_read.specs.declared.Ended.the-variants.{Accepted, Stopped}
-use Rattle.sdp_read.specs.declared.Version.{Version}
-use Rattle.sdp_read.specs.declared.Version.the-variants as version
+use Rattle.sdp_cutter.specs.Cutter.{moveAt}
+use Rattle.sdp_turn.specs.Turn.{Lined, lineOf, versionOf}
+use Rattle.sdp_turn.specs.declared.Search.{Search}
+use Rattle.sdp_turn.specs.declared.Version.{Version}
+use Rattle.sdp_turn.specs.declared.Version.the-variants as version
+use Rattle.sdp_read.specs.Run.{Verdict, refused, run, begin}
 
 -- a cursor that cutting from the start leads to: a line takes a byte at least
 pub record Reached (s : List ℕ) (c : Cursor) : Type 0 where
@@ -31,20 +28,16 @@ runAt s ρ c = run spanAt ρ (c .line .0) (c .at .0) (split (drop (c .at .0) s))
 unfoldable pub beginAt : List ℕ → Cursor → Verdict Span
 beginAt s c = begin spanAt (c .line .0) (c .at .0) (split (drop (c .at .0) s))
 
--- what is found at a text's start: where the lines after the version are due, or the whole text's refusal
-abbrev pub Begun : List ℕ → Version → Type 0
-Begun s (version.Found c) = (beginAt s start ≡ runAt s fresh c) × Reached s c
-Begun s (version.Refused x) = beginAt s start ≡ refused x
+-- ---- one line
+-- what the line that stands at a cursor does to a run, and what it says of the version
+unfoldable pub lineAt : List ℕ → Reading Span → Cursor → Lined
+lineAt s ρ c = lineOf s ρ (moveAt s (c .at) (c .line) .next)
 
--- ---- the loop over the lines
--- the answer of the lines, and the area after them: the session, or a refusal after which only the bytes behind count
-abbrev pub Left : Verdict Span → Ended → List ℕ → List ℕ → Type 0
-Left (accepted s) Accepted a t = a ≡ encode s ++ t
-Left (accepted s) (Stopped y) a t = ⊥
-Left (refused x) Accepted a t = ⊥
-Left (refused x) (Stopped y) a t = (y ≡ x) × (drop size a ≡ t)
+unfoldable pub versionAt : List ℕ → Cursor → Search
+versionAt s c = versionOf s (moveAt s (c .at) (c .line) .next)
 
--- the answer of the whole, and the area after it, all zero where the lines are refused
-abbrev pub Said : Verdict Span → Answer → List ℕ → List ℕ → Type 0
-Said (accepted s) y a t = (y ≡ answer 0 0 0) × (a ≡ encode s ++ t)
-Said (refused x) y a t = (y ≡ x) × (a ≡ zeros size ++ t)
+-- ---- the lines
+-- what is found from c on: the lines after the version are due where the cutter then stands, at d; or the refusal
+abbrev pub Begun : List ℕ → Cursor → Version → Cursor → Type 0
+Begun s c version.Found d = (beginAt s c ≡ runAt s fresh d) × Reached s d
+Begun s c (version.Refused x) d = beginAt s c ≡ refused x

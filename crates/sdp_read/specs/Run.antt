@@ -14,22 +14,13 @@ use Rattle.sdp_lines.specs.declared.Form.{Form}
 use Rattle.sdp_lines.specs.declared.Form.the-variants.{Blank, Good, Bad}
 use Rattle.sdp_split.specs.declared.Piece.{Piece}
 use Rattle.sdp_cells.specs.Bytes.{zeros}
-use Rattle.sdp_area.specs.Session.{Session}
 use Rattle.sdp_area.specs.Area.{encode, size}
 use Rattle.sdp_strings.specs.Strings.{spanAt}
 use Rattle.sdp_step.specs.Step.{Reading, Stepped, goes, stops, step, fresh}
 use Rattle.sdp_lines.specs.declared.Answer.{Answer}
--- the answers, and the version line's value, are defined there
+-- the answers, the version line's value and what reading says are defined there
 pub use Rattle.sdp_line.specs.Version.{answer, noVersion, badVersion, isZero}
-
--- what reading a text says: a session, or the refusal
-pub data Verdict (S : Type 0) : Type 0 where
-  accepted : Session S → Verdict S
-  refused : Answer → Verdict S
-
--- a refusal of a line: its number, and its field where it has one
-abbrev pub onLine : {S : Type 0} → ℕ → ℕ → ℕ → Verdict S
-onLine number line field = refused (answer number line field)
+pub use Rattle.sdp_turn.specs.Turn.{Verdict, accepted, refused, onLine}
 
 -- at p v makes the strings of a line whose value is v and stands at place p
 module _ {S : Type 0} (at : ℕ → List ℕ → Piece → S) where

@@ -1,140 +1,57 @@
 // Document 01, module 4: session and media reading, a text line by line.
 ghost use mathlib.Core.Path.{_≡_};
 ghost use mathlib.Core.List.{List, _++_};
-ghost use Prim.Native.Nat.{ℕ, _+_, _≤_};
+ghost use Prim.Native.Nat.{ℕ, _≤_};
 ghost use lib.ListN.{length};
 ghost use Rattle.sdp_area.specs.Session.{empty};
 ghost use Rattle.sdp_area.specs.Area.{encode, size};
+ghost use Rattle.sdp_lines.specs.Lines.{start};
+ghost use Rattle.sdp_cutter.specs.Cutter.{moveAt, standing, due};
 ghost use Rattle.sdp_step.specs.Step.{fresh};
 ghost use Rattle.sdp_line.specs.Version.{answer};
 ghost use Rattle.sdp_read.specs.Run.{readText};
-ghost use Rattle.sdp_read.specs.From.{Reached, runAt, Begun, Left, Said};
-ghost use Rattle.sdp_read.specs.OneLine.{goodLine, lineAt, Turns, Due, Onward, openedLine, versionAt};
+ghost use Rattle.sdp_turn.specs.Turn.{Left, Turns, Passes};
+ghost use Rattle.sdp_read.specs.From.{Reached, lineAt, versionAt, runAt, beginAt, Begun};
 use sdp_area::SIZE;
 use sdp_area::clear;
-use sdp_cutter::Next;
-use sdp_cutter::cut_line;
-use sdp_line::Opening;
-use sdp_line::opening_line;
-use sdp_line::take;
+use sdp_cutter::Cutter;
+use sdp_cutter::next_line;
 use sdp_lines::Answer;
-use sdp_lines::Cursor;
 use sdp_lines::LineNumber;
-use sdp_lines::Span;
-use sdp_lines::fault_number;
+use sdp_lines::Place;
 use sdp_step::Marks;
-use sdp_step::Taken;
+use sdp_turn::Ended;
+use sdp_turn::Search;
+use sdp_turn::Turn;
+use sdp_turn::Version;
+use sdp_turn::search_of;
+use sdp_turn::turn_of;
 
-// How the lines ended.
-pub enum Ended {
-    Accepted,
-    Stopped(Answer),
-}
-
-// A run between two lines: where the next one is due, and what is kept beside the area.
-pub struct Stand {
-    pub due: Cursor,
-    pub marks: Marks,
-}
-
-// What a line did to a run.
-pub enum Turn {
-    Goes(Stand),
-    Over(Ended),
-}
-
-// The version line: where the next line is due, or the refusal.
-pub enum Version {
-    Found(Cursor),
-    Refused(Answer),
-}
-
-// What a line says while the version is looked for.
-pub enum Search {
-    On(Cursor),
-    Told(Version),
-}
-
-// A refusal of a line.
-fn on_line(number: u64, line: LineNumber, field: u64) -> Answer
-    ensures { λ r. ⌜ r ≡ answer number (line .0) field ⌝ }
-{
-    Answer {
-        number,
-        line: line.0 as u64,
-        field,
-        place: 0,
-        len: 0,
-    }
-}
-
-// A line of good form whose value stands in the text; the next line is due at `then`.
-fn good_line(
-    text: &[u8],
-    area: &mut [u8],
-    marks: Marks,
-    number: LineNumber,
-    letter: u8,
-    value: Span,
-    then: Cursor,
-) -> Turn
-    requires { ⌜ (size ≤ length (now area)) × ((length (now text) ≤ 32768) × (value .at .0 + value .len ≤ length (now text))) ⌝ }
-    ensures { λ r. ⌜ Turns (λ ρ. goodLine (now (text .entry)) ρ (number .0) letter value then)
-        marks r (now (area .entry)) (now (area .exit)) × Due then r ⌝ }
-{
-    let at = value.at;
-    let begin = at.0;
-    let end = begin + value.len;
-    match take(area, at, marks, number, letter, &text[begin..end]) {
-        Taken::Kept(marks) => Turn::Goes(Stand { due: then, marks }),
-        Taken::Refused {
-            number: refusal,
-            field,
-        } => Turn::Over(Ended::Stopped(on_line(refusal, number, field))),
-    }
-}
-
-// One line, and what it does to a run.
-fn one_line(text: &[u8], area: &mut [u8], stand: Stand) -> Turn
+// One line, and what it does to a run: the cutter that is lent moves itself on.
+fn one_line(c: &mut Cutter, text: &[u8], area: &mut [u8], marks: Marks) -> Turn
     requires { ⌜ (size ≤ length (now area)) × (length (now text) ≤ 32768) ⌝ }
-    ensures { λ r. ⌜ Turns (λ ρ. lineAt (now (text .entry)) ρ (stand .due))
-        (stand .marks) r (now (area .entry)) (now (area .exit)) × Onward (now (text .entry)) (stand .due) r ⌝ }
+    ensures { λ r. ⌜ (Turns (λ ρ. lineAt (now (text .entry)) ρ (due (now (c .entry))))
+        marks r (now (area .entry)) (now (area .exit))
+        × Passes (moveAt (now (text .entry)) (now (c .entry) .at) (now (c .entry) .line) .next) r)
+        × (now (c .exit) ≡ standing (moveAt (now (text .entry)) (now (c .entry) .at) (now (c .entry) .line))) ⌝ }
 {
-    let due = stand.due;
-    let marks = stand.marks;
-    let moved = cut_line(text, due.at, due.line);
-    let next = moved.next;
-    let then = moved.then();
-    match next {
-        Next::End => Turn::Over(Ended::Accepted),
-        Next::Refused { fault, line } => {
-            Turn::Over(Ended::Stopped(on_line(fault_number(fault), line, 0)))
-        }
-        Next::Empty => Turn::Goes(Stand { due: then, marks }),
-        Next::Found {
-            number,
-            letter,
-            value,
-        } => good_line(text, area, marks, number, letter, value, then),
-    }
+    let next = next_line(c, text);
+    turn_of(text, area, marks, next)
 }
 
-// The lines after the version line.
-fn read_lines(text: &[u8], area: &mut [u8], from: Cursor) -> Ended
-    requires { ⌜ (size ≤ length (now area)) × ((length (now text) ≤ 32768) × Reached (now text) from) ⌝ }
-    ensures { λ r. ⌜ ((t : List ℕ) → now (area .entry) ≡ encode empty ++ t → Left (runAt (now (text .entry)) fresh from) r (now (area .exit)) t) ⌝ }
+// The lines after the version line: the cutter is lent for each.
+fn read_lines(c: &mut Cutter, text: &[u8], area: &mut [u8]) -> Ended
+    requires { ⌜ (size ≤ length (now area)) × ((length (now text) ≤ 32768) × Reached (now text) (due (now c))) ⌝ }
+    ensures { λ r. ⌜ ((t : List ℕ) → now (area .entry) ≡ encode empty ++ t → Left (runAt (now (text .entry)) fresh (due (now (c .entry)))) r (now (area .exit)) t) ⌝ }
 {
-    let mut stand = Stand {
-        due: from,
-        marks: Marks {
-            named: false,
-            zoned: false,
-        },
+    let mut marks = Marks {
+        named: false,
+        zoned: false,
     };
     loop {
-        match one_line(text, area, stand) {
+        match one_line(c, text, area, marks) {
             Turn::Goes(next) => {
-                stand = next;
+                marks = next;
             }
             Turn::Over(ended) => {
                 return ended;
@@ -143,52 +60,23 @@ fn read_lines(text: &[u8], area: &mut [u8], from: Cursor) -> Ended
     }
 }
 
-// The first line that is not empty, of good form; the next line is due at `then`.
-fn opened_line(text: &[u8], number: LineNumber, letter: u8, value: Span, then: Cursor) -> Search
-    requires { ⌜ value .at .0 + value .len ≤ length (now text) ⌝ }
-    ensures { λ r. ⌜ r ≡ openedLine (now (text .entry)) (number .0) letter value then ⌝ }
+// One line while the version is looked for: the cutter that is lent moves itself on.
+fn version_line(c: &mut Cutter, text: &[u8]) -> Search
+    ensures { λ r. ⌜ (r ≡ versionAt (now (text .entry)) (due (now (c .entry))))
+        × (now (c .exit) ≡ standing (moveAt (now (text .entry)) (now (c .entry) .at) (now (c .entry) .line))) ⌝ }
 {
-    let at = value.at;
-    let begin = at.0;
-    let end = begin + value.len;
-    match opening_line(at, number, letter, &text[begin..end]) {
-        Opening::Zero => Search::Told(Version::Found(then)),
-        Opening::Refused(x) => Search::Told(Version::Refused(x)),
-    }
+    let next = next_line(c, text);
+    search_of(text, next)
 }
 
-// One line while the version is looked for.
-fn version_line(text: &[u8], due: Cursor) -> Search
-    ensures { λ r. ⌜ r ≡ versionAt (now (text .entry)) due ⌝ }
+// The version line, past empty lines: the cutter is lent for each.
+fn find_version(c: &mut Cutter, text: &[u8]) -> Version
+    requires { ⌜ (length (now text) ≤ 32768) × Reached (now text) (due (now c)) ⌝ }
+    ensures { λ r. ⌜ Begun (now (text .entry)) (due (now (c .entry))) r (due (now (c .exit))) ⌝ }
 {
-    let moved = cut_line(text, due.at, due.line);
-    let next = moved.next;
-    let then = moved.then();
-    match next {
-        Next::End => Search::Told(Version::Refused(on_line(6, LineNumber(0), 0))),
-        Next::Refused { fault, line } => {
-            Search::Told(Version::Refused(on_line(fault_number(fault), line, 0)))
-        }
-        Next::Empty => Search::On(then),
-        Next::Found {
-            number,
-            letter,
-            value,
-        } => opened_line(text, number, letter, value, then),
-    }
-}
-
-// The version line, past empty lines.
-fn find_version(text: &[u8]) -> Version
-    requires { ⌜ length (now text) ≤ 32768 ⌝ }
-    ensures { λ r. ⌜ Begun (now (text .entry)) r ⌝ }
-{
-    let mut due = Cursor::new();
     loop {
-        match version_line(text, due) {
-            Search::On(next) => {
-                due = next;
-            }
+        match version_line(c, text) {
+            Search::On => {}
             Search::Told(version) => {
                 return version;
             }
@@ -196,28 +84,35 @@ fn find_version(text: &[u8]) -> Version
     }
 }
 
+// All lines: the cutter is made here, and lent to the two loops.
+fn read_text(text: &[u8], area: &mut [u8]) -> Ended
+    requires { ⌜ (size ≤ length (now area)) × (length (now text) ≤ 32768) ⌝ }
+    ensures { λ r. ⌜ ((t : List ℕ) → now (area .entry) ≡ encode empty ++ t → Left (beginAt (now (text .entry)) start) r (now (area .exit)) t) ⌝ }
+{
+    let mut c = Cutter {
+        at: Place(0),
+        line: LineNumber(1),
+    };
+    match find_version(&mut c, text) {
+        Version::Refused(x) => Ended::Stopped(x),
+        Version::Found => read_lines(&mut c, text, area),
+    }
+}
+
 // A refusal of the whole text, or 0.
 fn refusal(number: u64) -> Answer
     ensures { λ r. ⌜ r ≡ answer number 0 0 ⌝ }
 {
-    on_line(number, LineNumber(0), 0)
-}
-
-// The lines after the version line; where one is refused, the area is cleared again.
-fn read_rest(text: &[u8], area: &mut [u8], from: Cursor) -> Answer
-    requires { ⌜ (size ≤ length (now area)) × ((length (now text) ≤ 32768) × Reached (now text) from) ⌝ }
-    ensures { λ r. ⌜ ((t : List ℕ) → now (area .entry) ≡ encode empty ++ t → Said (runAt (now (text .entry)) fresh from) r (now (area .exit)) t) ⌝ }
-{
-    match read_lines(text, area, from) {
-        Ended::Accepted => refusal(0),
-        Ended::Stopped(x) => {
-            clear(area);
-            x
-        }
+    Answer {
+        number,
+        line: 0,
+        field: 0,
+        place: 0,
+        len: 0,
     }
 }
 
-// Reads a text into the area that the caller lends.
+// Reads a text into the area that the caller lends; where a line is refused, the area is cleared again.
 pub fn read(text: &[u8], area: &mut [u8]) -> Answer
     ensures { λ r. ⌜ r ≡ readText (now (text .entry)) (now (area .entry)) .answer ⌝ }
     ensures { λ r. ⌜ now (area .exit) ≡ readText (now (text .entry)) (now (area .entry)) .area ⌝ }
@@ -229,8 +124,11 @@ pub fn read(text: &[u8], area: &mut [u8]) -> Answer
         return refusal(1);
     }
     clear(area);
-    match find_version(text) {
-        Version::Refused(x) => x,
-        Version::Found(c) => read_rest(text, area, c),
+    match read_text(text, area) {
+        Ended::Accepted => refusal(0),
+        Ended::Stopped(x) => {
+            clear(area);
+            x
+        }
     }
 }

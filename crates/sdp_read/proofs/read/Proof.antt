@@ -1,8 +1,7 @@
 -- `sdp_read::read` meets its contract. Assumes nothing.
 use lib.ListN.{drop}
-use native.Mathlib.Omega.{arith}
 use Rattle.sdp_area.specs.Area.{size}
-use Rattle.sdp_read.proofs.ReadLaws.{cleared-empty, says-short, says-long, says-refused, says-rest}
+use Rattle.sdp_read.proofs.ReadLaws.{cleared-empty, says-short, says-long, says-accepted, says-stopped}
 use borrow.Author.Needs.{needs}
 use Rattle.sdp_read.proofs.read.Statement.{statement}
 use Rattle.sdp_read.proofs.read.Tie as tie
@@ -18,27 +17,24 @@ returns-2 c =
     let a = i .before .before .before .args in
     rw (c .refusal2 .ensures) (says-long (a .text .now) (a .area .now) (i .if1 .left) (c .before .if2 .taken))
 
-read-rest-requires : tie.Need-read-rest-requires
-read-rest-requires c κs =
-    let f = c .before .before .before .before in
-    let i = f .before .before .before .before .before in
-    (omega (arith, i .before .if1 .left), (omega (arith, i .if2 .left), (rw (c .before .before .c .given .1) at (f .find-version .ensures)) .1))
-
 returns-3 : tie.Need-returns-3
 returns-3 c =
-    let f = c .before .before .before in
-    let i = f .before .before .before .before .before in
+    let k = c .before .before .before .before .before in
+    let l = k .before .before .before .before in
+    let i = l .before .before in
     let a = i .before .before .before .before .args in
-    says-refused (a .text .now) (a .area .now) (i .before .if1 .left) (i .if2 .left) _ _ (rw (c .before .x .given .1) at (f .find-version .ensures)) (f .before .before .before .clear .ensures)
+    rw (c .refusal3 .ensures) (says-accepted (a .text .now) (a .area .now) (i .before .if1 .left) (i .if2 .left) _
+    (rw (c .before .enum-told .given .1) at (k .read-text .ensures (drop size (a .area .now)) (cleared-empty (a .area .now) _ (l .clear .ensures)))))
 
 returns-4 : tie.Need-returns-4
 returns-4 c =
     let x = c .before .before .before .before .before in
-    let f = x .before .before in
-    let i = f .before .before .before .before .before in
+    let k = x .before .before .before .before in
+    let l = k .before .before .before .before in
+    let i = l .before .before in
     let a = i .before .before .before .before .args in
-    says-rest (a .text .now) (a .area .now) (i .before .if1 .left) (i .if2 .left) _ ((rw (x .c .given .1) at (f .find-version .ensures)) .0) _ _
-    (c .before .before .read-rest .ensures (drop size (a .area .now)) (cleared-empty (a .area .now) _ (f .before .before .before .clear .ensures)))
+    says-stopped (a .text .now) (a .area .now) (i .before .if1 .left) (i .if2 .left) _ _ _
+    (rw (x .x .given .1) at (k .read-text .ensures (drop size (a .area .now)) (cleared-empty (a .area .now) _ (l .clear .ensures)))) (c .before .before .clear2 .ensures)
 
 pub read-spec : {M : Type 1} → statement M
 read-spec =
@@ -51,8 +47,9 @@ read-spec =
     (λ c κs. search needs)
     (λ c κs. search needs)
     (λ c. search needs)
+    (λ c κs. search needs)
     (λ c. search needs)
-    read-rest-requires
+    (λ c κs. search needs)
     (λ c. search needs)
     returns-3
     (λ c. search needs)

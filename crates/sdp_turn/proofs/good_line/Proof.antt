@@ -1,13 +1,12 @@
--- `sdp_read::good_line` meets its contract. Assumes nothing.
-use mathlib.Core.Path.{refl}
+-- `sdp_turn::good_line` meets its contract. Assumes nothing.
 use Rattle.sdp_step.specs.Step.{step}
 use Rattle.sdp_strings.specs.Strings.{spanAt}
 use Rattle.sdp_lines.specs.Strings.{bytesOf}
-use Rattle.sdp_read.proofs.CutLaws.{part-is, part-fits}
-use Rattle.sdp_read.proofs.TurnLaws.{turns-kept, turns-refused}
+use Rattle.sdp_turn.proofs.PartLaws.{part-is, part-fits}
+use Rattle.sdp_turn.proofs.TurnLaws.{turns-kept, turns-refused}
 use borrow.Author.Needs.{needs}
-use Rattle.sdp_read.proofs.good_line.Statement.{statement}
-use Rattle.sdp_read.proofs.good_line.Tie as tie
+use Rattle.sdp_turn.proofs.good_line.Statement.{statement}
+use Rattle.sdp_turn.proofs.good_line.Tie as tie
 
 take-requires : tie.Need-take-requires
 take-requires c κs =
@@ -18,22 +17,17 @@ returns : tie.Need-returns
 returns c =
     let k = c .before .before .before .before .before in
     let a = k .before .before .before .before .before .before .before .args in
-    let v = bytesOf (a .text .now) (a .value) in (
-      turns-kept (λ ρ. step (spanAt (a .value .at .0) v) ρ v (a .letter)) (a .marks) (a .area .now) _ (a .number .0) (a .then) _
-          (rw (c .before .marks .given .1, part-is (a .text .now) (a .value)) at (k .take .ensures)),
-      refl,
-    )
+    let v = bytesOf (a .text .now) (a .value) in
+    turns-kept (λ ρ. step (spanAt (a .value .at .0) v) ρ v (a .letter)) (a .marks) (a .area .now) _ (a .number .0) _
+    (rw (c .before .marks .given .1, part-is (a .text .now) (a .value)) at (k .take .ensures))
 
 returns-2 : tie.Need-returns-2
 returns-2 c =
     let k = c .before .before .before .before .before .before in
     let a = k .before .before .before .before .before .before .before .args in
     let v = bytesOf (a .text .now) (a .value) in
-    rw (c .on-line .ensures) (
-      turns-refused (λ ρ. step (spanAt (a .value .at .0) v) ρ v (a .letter)) (a .marks) (a .area .now) _ (a .number .0) (a .then) _ _
-          (rw (c .before .before .refusal .given .1, part-is (a .text .now) (a .value)) at (k .take .ensures)),
-      tt,
-    )
+    rw (c .on-line .ensures) (turns-refused (λ ρ. step (spanAt (a .value .at .0) v) ρ v (a .letter)) (a .marks) (a .area .now) _ (a .number .0) _ _
+    (rw (c .before .before .refusal .given .1, part-is (a .text .now) (a .value)) at (k .take .ensures)))
 
 pub good-line-spec : {M : Type 1} → statement M
 good-line-spec =

@@ -1,22 +1,22 @@
--- `sdp_read::opened_line` meets its contract. Assumes nothing.
+-- `sdp_turn::opened_line` meets its contract. Assumes nothing.
 use mathlib.Core.Path.{sym, ap, _∙_}
-use Rattle.sdp_read.specs.OneLine.{openedTo}
-use Rattle.sdp_read.proofs.CutLaws.{part-is}
+use Rattle.sdp_turn.specs.Turn.{openedTo}
+use Rattle.sdp_turn.proofs.PartLaws.{part-is}
 use borrow.Author.Needs.{needs}
-use Rattle.sdp_read.proofs.opened_line.Statement.{statement}
-use Rattle.sdp_read.proofs.opened_line.Tie as tie
+use Rattle.sdp_turn.proofs.opened_line.Statement.{statement}
+use Rattle.sdp_turn.proofs.opened_line.Tie as tie
 
 returns : tie.Need-returns
 returns c =
     let k = c .before .before in
     let a = k .before .before .before .before .before .args in
-    ap (openedTo (a .then)) (sym (c .enum-told .given .1) ∙ (rw (part-is (a .text .now) (a .value)) at (k .opening-line .ensures)))
+    ap openedTo (sym (c .enum-told .given .1) ∙ (rw (part-is (a .text .now) (a .value)) at (k .opening-line .ensures)))
 
 returns-2 : tie.Need-returns-2
 returns-2 c =
     let k = c .before .before .before in
     let a = k .before .before .before .before .before .args in
-    ap (openedTo (a .then)) (sym (c .before .x .given .1) ∙ (rw (part-is (a .text .now) (a .value)) at (k .opening-line .ensures)))
+    ap openedTo (sym (c .before .x .given .1) ∙ (rw (part-is (a .text .now) (a .value)) at (k .opening-line .ensures)))
 
 pub opened-line-spec : {M : Type 1} → statement M
 opened-line-spec =
