@@ -18,7 +18,7 @@ use prog.Wp.{Heap, Env, Calls, Loops, Wp, WpFn, Tables, atReturn}
 use ghost.Atoms.{Atoms, sem}
 use contract.Monad.{Fun, fact}
 use contract.Running.{givenOf, tables, tablesOf}
-use types.Kit.{Given, Item, Goal, Soaks, Sq, prop, atRet, ‵, raw, _⊛_, ⋆, some, later, _$_, _∵_, !, qed, by, move, keep, drop, use1, use2, use3, split, join, pick, rewrite, fsplit, fjoin, fpick, fpack, feqL, suffices, frame, await, done}
+use types.Kit.{Given, Item, Goal, Soaks, Sq, prop, atRet, ‵, raw, _⊛_, ⋆, some, later, _$_, _∵_, !, qed, by, move, drop, use1, use2, use3, split, join, pick, rewrite, fsplit, fjoin, fpick, fpack, feqL, suffices, frame, await, done}
 use types.Part.{agg, whole, sub, look-in}
 use types.Match.{vrt, look-tag, in-variant, by-variants}
 use types.Run.{look, init, forget, stop, hop, fld, from, load, lit, addr, of-opd, and-then, no-more, assigns, assigns-last, land, land-last, first, exec, returns, enter, alloc1, alloc0, params1, pass1, pass0, free1, free0}
