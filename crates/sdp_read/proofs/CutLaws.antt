@@ -137,7 +137,7 @@ module _ (s : List ℕ) (c : Cursor) where
       go End h p = absurd p
 
   -- a line that is passed while the version is looked for
-  abbrev pub SearchFine : Search → Cursor → Type 0
+  abbrev SearchFine : Search → Cursor → Type 0
   SearchFine On d = Further s c d
   SearchFine (Told version.Found) d = Further s c d
   SearchFine (Told (version.Refused x)) d = Unit {0}
