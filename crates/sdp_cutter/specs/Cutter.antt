@@ -27,10 +27,6 @@ moveBy p n cut.End = standsAt End (record { at = p; line = n })
 unfoldable pub moveAt : List ℕ → Place → LineNumber → Moved
 moveAt s p n = moveBy p n (cutAt s (record { at = p; line = n }))
 
--- where the next line is due
-abbrev pub stands : Moved → Cursor
-stands m = record { at = m .at; line = m .line }
-
 -- the cutter then
 abbrev pub standing : Moved → Cutter
 standing m = record { at = m .at; line = m .line }

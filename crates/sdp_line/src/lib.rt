@@ -2,6 +2,7 @@
 ghost use mathlib.Core.Path.{_≡_};
 ghost use Prim.Native.Nat.{_+_, _≤_};
 ghost use lib.ListN.{length};
+ghost use Rattle.sdp_numbers.specs.Refusals.{longestText};
 ghost use Rattle.sdp_area.specs.Area.{size};
 ghost use Rattle.sdp_strings.specs.Strings.{spanAt};
 ghost use Rattle.sdp_step.specs.Step.{step};
@@ -24,7 +25,7 @@ pub enum Opening {
 
 // A line is taken apart, and what it says goes into the area.
 fn take_of<'t>(area: &mut [u8], at: Place, marks: Marks, line: Line<'t>) -> Taken
-    requires { ⌜ (size ≤ length (now area)) × (at .0 + length (now (line .value)) ≤ 32768) ⌝ }
+    requires { ⌜ (size ≤ length (now area)) × (at .0 + length (now (line .value)) ≤ longestText) ⌝ }
     ensures { λ r. ⌜ Takes (λ ρ. step (spanAt (at .0) (now (line .entry .value))) ρ (now (line .entry .value)) (line .entry .letter))
         marks r (now (area .entry)) (now (area .exit)) ⌝ }
 {
@@ -40,7 +41,7 @@ pub fn take(
     letter: u8,
     value: &[u8],
 ) -> Taken
-    requires { ⌜ (size ≤ length (now area)) × (at .0 + length (now value) ≤ 32768) ⌝ }
+    requires { ⌜ (size ≤ length (now area)) × (at .0 + length (now value) ≤ longestText) ⌝ }
     ensures { λ r. ⌜ Takes (λ ρ. step (spanAt (at .0) (now (value .entry))) ρ (now (value .entry)) letter)
         marks r (now (area .entry)) (now (area .exit)) ⌝ }
 {

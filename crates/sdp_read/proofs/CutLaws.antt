@@ -24,7 +24,7 @@ use Rattle.sdp_lines.proofs.LineLaws.{split-at-place, content-front, content-le
 use Rattle.sdp_line.specs.Version.{openingOf}
 use Rattle.sdp_line.specs.declared.Opening.{Opening}
 use Rattle.sdp_line.specs.declared.Opening.the-variants as opening
-use Rattle.sdp_cutter.specs.Cutter.{moveBy, moveAt, stands}
+use Rattle.sdp_cutter.specs.Cutter.{moveBy, moveAt, standing, due}
 use Rattle.sdp_cutter.specs.declared.Next.{Next}
 use Rattle.sdp_step.specs.declared.Marks.{Marks}
 use Rattle.sdp_turn.specs.Turn.{Inside, lineOf, Turns, Passes, openedTo, versionOf}
@@ -110,7 +110,7 @@ module _ (s : List ℕ) (c : Cursor) where
 
   -- so it is with what the cutter finds, where it then stands
   abbrev pub then : Cursor
-  then = stands (moveAt s (c .at) (c .line))
+  then = due (standing (moveAt s (c .at) (c .line)))
 
   abbrev pub found : Next
   found = moveAt s (c .at) (c .line) .next
@@ -130,7 +130,7 @@ module _ (s : List ℕ) (c : Cursor) where
   unfolding moveAt
   goes-further m = go (cutAt s c) cut-fine
     where
-      go : (k : Cut) → Fine k → Passes (moveBy (c .at) (c .line) k .next) (Goes m) → Further s c (stands (moveBy (c .at) (c .line) k))
+      go : (k : Cut) → Fine k → Passes (moveBy (c .at) (c .line) k .next) (Goes m) → Further s c (due (standing (moveBy (c .at) (c .line) k)))
       go (Line l v d) h p = h .0
       go (Empty d) h p = h
       go (Refused f n) h p = absurd p
@@ -150,7 +150,7 @@ module _ (s : List ℕ) (c : Cursor) where
       opened d opening.Zero h = h
       opened d (opening.Refused x) h = tt
 
-      go : (k : Cut) → Fine k → SearchFine (versionOf s (moveBy (c .at) (c .line) k .next)) (stands (moveBy (c .at) (c .line) k))
+      go : (k : Cut) → Fine k → SearchFine (versionOf s (moveBy (c .at) (c .line) k .next)) (due (standing (moveBy (c .at) (c .line) k)))
       go (Line l v d) h = opened d (openingOf (c .line .0) (v .at .0) l (bytesOf s v)) (h .0)
       go (Empty d) h = h
       go (Refused f n) h = tt

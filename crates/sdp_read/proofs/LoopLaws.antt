@@ -6,6 +6,7 @@ use mathlib.Core.Path.{_≡_, refl, sym, ap, _∙_}
 use mathlib.Core.Bool.{false}
 use mathlib.Core.List.{List, _++_}
 use lib.ListN.{length}
+use Rattle.sdp_numbers.specs.Refusals.{longestText}
 use Rattle.sdp_lines.specs.Lines.{start}
 use Rattle.sdp_lines.specs.declared.Answer.{Answer}
 use Rattle.sdp_lines.specs.declared.Span.{Span}
@@ -44,7 +45,7 @@ within-empty = record { emails = omega arith; phones = omega arith; connections 
 pub going-begin : (s : List ℕ) (from : Cursor) (a t : List ℕ) → a ≡ encode empty ++ t → Going s from from (record { named = false; zoned = false }) a t
 going-begin s from a t e = record { so-far = fresh; holds = record { marks = refl; bytes = e; within = within-empty; unzoned = λ z. refl }; left = refl }
 
-module _ (s : List ℕ) (short : length s ≤ 32768) (from d : Cursor) (m : Marks) (w : Reached s d) (a a′ t : List ℕ) (g : Going s from d m a t) where
+module _ (s : List ℕ) (short : length s ≤ longestText) (from d : Cursor) (m : Marks) (w : Reached s d) (a a′ t : List ℕ) (g : Going s from d m a t) where
   abbrev lined : Lined
   lined = lineAt s (g .so-far) d
 
@@ -66,7 +67,7 @@ module _ (s : List ℕ) (short : length s ≤ 32768) (from d : Cursor) (m : Mark
       go (over v) e h = rw (left-on (over v) e) h
 
 -- ---- before it
-module _ (s : List ℕ) (short : length s ≤ 32768) (from c : Cursor) (w : Reached s c) (b : beginAt s from ≡ beginAt s c) where
+module _ (s : List ℕ) (short : length s ≤ longestText) (from c : Cursor) (w : Reached s c) (b : beginAt s from ≡ beginAt s c) where
   begun-on : (y : Search) → y ≡ versionAt s c → beginAt s from ≡ searchOn s y (then s c)
   begun-on y e = b ∙ rest-version s short c w ∙ ap (λ (z : Search). searchOn s z (then s c)) (sym e)
 

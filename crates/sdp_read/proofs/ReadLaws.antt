@@ -5,6 +5,7 @@ use mathlib.Core.Path.{_≡_, refl, sym, ap, _∙_}
 use mathlib.Core.List.{List, _++_}
 use lib.ListN.{length, drop}
 use borrow.Author.Tests.{lt-ltb, le-ltb}
+use Rattle.sdp_numbers.specs.Refusals.{longestText}
 use Rattle.sdp_lines.specs.Lines.{start}
 use Rattle.sdp_lines.specs.declared.Span.{Span}
 use Rattle.sdp_cells.specs.Bytes.{zeros}
@@ -35,7 +36,7 @@ module _ (s a : List ℕ) where
     unfolding readText
     says-long h = rw (le-ltb (length a) size fits, lt-ltb 32768 (length s) h) (refl, refl)
 
-    module _ (short : length s ≤ 32768) where
+    module _ (short : length s ≤ longestText) where
       read-is : readText s a ≡ outcomeOf a (beginAt s start)
       unfolding readText lines beginAt
       read-is = rw (le-ltb (length a) size fits, le-ltb 32768 (length s) short)

@@ -8,11 +8,12 @@ use mathlib.Core.List.{List}
 use lib.Dec.{eqb}
 use lib.ListN.{length, drop}
 use borrow.Author.Tests.{lt-ltb}
+use Rattle.sdp_numbers.specs.Refusals.{longestText}
 use Rattle.sdp_lines.specs.Lines.{content, width, formOf, nextLine, past, cutForm}
 use Rattle.sdp_lines.specs.declared.Span.{Span}
 use Rattle.sdp_lines.specs.declared.Cursor.{Cursor}
 use Rattle.sdp_lines.specs.declared.Cut.{Cut}
-use Rattle.sdp_cutter.specs.Cutter.{moveBy, moveAt, stands}
+use Rattle.sdp_cutter.specs.Cutter.{moveBy, moveAt, standing, due}
 use Rattle.sdp_cutter.specs.declared.Moved.{Moved}
 use Rattle.sdp_lines.specs.declared.Form.{Form}
 use Rattle.sdp_lines.specs.declared.Form.the-variants.{Blank, Good, Bad}
@@ -39,7 +40,7 @@ searchOn s On d = beginAt s d
 searchOn s (Told version.Found) d = runAt s fresh d
 searchOn s (Told (version.Refused x)) d = refused x
 
-module _ (s : List ℕ) (short : length s ≤ 32768) (c : Cursor) (w : Reached s c) where
+module _ (s : List ℕ) (short : length s ≤ longestText) (c : Cursor) (w : Reached s c) where
   abbrev next : Cursor
   next = past c (raw s c)
 
@@ -66,10 +67,10 @@ module _ (s : List ℕ) (short : length s ≤ 32768) (c : Cursor) (w : Reached s
 
   pub rest-line : (ρ : Reading Span) → runAt s ρ c ≡ runOn s (lineAt s ρ c) (then s c)
   unfolding runAt run lineAt moveAt
-  rest-line ρ = at-cursor s c (λ rs k. run spanAt ρ (c .line .0) (c .at .0) rs ≡ runOn s (lineOf s ρ (moved k .next)) (stands (moved k))) refl (λ h f e. rw e (form f e))
+  rest-line ρ = at-cursor s c (λ rs k. run spanAt ρ (c .line .0) (c .at .0) rs ≡ runOn s (lineOf s ρ (moved k .next)) (due (standing (moved k)))) refl (λ h f e. rw e (form f e))
     where
       form : (f : Form) → formOf (content (raw s c)) ≡ f
-          → after spanAt (stepForm spanAt ρ (c .at .0) (content (raw s c)) f) (c .line .0) (λ τ. run spanAt τ (c .line .0 + 1) (c .at .0 + width (raw s c)) (rest s c)) ≡ runOn s (lineOf s ρ (moved (cutForm c (raw s c) f) .next)) (stands (moved (cutForm c (raw s c) f)))
+          → after spanAt (stepForm spanAt ρ (c .at .0) (content (raw s c)) f) (c .line .0) (λ τ. run spanAt τ (c .line .0 + 1) (c .at .0 + width (raw s c)) (rest s c)) ≡ runOn s (lineOf s ρ (moved (cutForm c (raw s c) f) .next)) (due (standing (moved (cutForm c (raw s c) f))))
       form Blank e = run-past ρ
       form (Bad f) e = refl
       form (Good l) e = rw (value-is s c l e) (stepped-on (step (spanAt (c .at .0 + 2) (drop 2 (content (raw s c)))) ρ (drop 2 (content (raw s c))) l))
@@ -87,10 +88,10 @@ module _ (s : List ℕ) (short : length s ≤ 32768) (c : Cursor) (w : Reached s
 
   pub rest-version : beginAt s c ≡ searchOn s (versionAt s c) (then s c)
   unfolding beginAt begin versionAt moveAt
-  rest-version = at-cursor s c (λ rs k. begin spanAt (c .line .0) (c .at .0) rs ≡ searchOn s (versionOf s (moved k .next)) (stands (moved k))) refl (λ h f e. rw e (form f e))
+  rest-version = at-cursor s c (λ rs k. begin spanAt (c .line .0) (c .at .0) rs ≡ searchOn s (versionOf s (moved k .next)) (due (standing (moved k)))) refl (λ h f e. rw e (form f e))
     where
       form : (f : Form) → formOf (content (raw s c)) ≡ f
-          → beginForm spanAt (c .line .0) (c .at .0) (content (raw s c)) f (begin spanAt (c .line .0 + 1) (c .at .0 + width (raw s c)) (rest s c)) (run spanAt fresh (c .line .0 + 1) (c .at .0 + width (raw s c)) (rest s c)) ≡ searchOn s (versionOf s (moved (cutForm c (raw s c) f) .next)) (stands (moved (cutForm c (raw s c) f)))
+          → beginForm spanAt (c .line .0) (c .at .0) (content (raw s c)) f (begin spanAt (c .line .0 + 1) (c .at .0 + width (raw s c)) (rest s c)) (run spanAt fresh (c .line .0 + 1) (c .at .0 + width (raw s c)) (rest s c)) ≡ searchOn s (versionOf s (moved (cutForm c (raw s c) f) .next)) (due (standing (moved (cutForm c (raw s c) f))))
       form Blank e = begin-past
       form (Bad f) e = refl
       form (Good l) e = rw (value-is s c l e) (opened-on (c .at .0 + 2) l (drop 2 (content (raw s c))) _ (run-past fresh))

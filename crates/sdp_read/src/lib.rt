@@ -3,6 +3,7 @@ ghost use mathlib.Core.Path.{_≡_};
 ghost use mathlib.Core.List.{List, _++_};
 ghost use Prim.Native.Nat.{ℕ, _≤_};
 ghost use lib.ListN.{length};
+ghost use Rattle.sdp_numbers.specs.Refusals.{longestText};
 ghost use Rattle.sdp_area.specs.Session.{empty};
 ghost use Rattle.sdp_area.specs.Area.{encode, size};
 ghost use Rattle.sdp_lines.specs.Lines.{start};
@@ -29,7 +30,7 @@ use sdp_turn::turn_of;
 
 // One line, and what it does to a run: the cutter that is lent moves itself on.
 fn one_line(c: &mut Cutter, text: &[u8], area: &mut [u8], marks: Marks) -> Turn
-    requires { ⌜ (size ≤ length (now area)) × (length (now text) ≤ 32768) ⌝ }
+    requires { ⌜ (size ≤ length (now area)) × (length (now text) ≤ longestText) ⌝ }
     ensures { λ r. ⌜ (Turns (λ ρ. lineAt (now (text .entry)) ρ (due (now (c .entry))))
         marks r (now (area .entry)) (now (area .exit))
         × Passes (moveAt (now (text .entry)) (now (c .entry) .at) (now (c .entry) .line) .next) r)
@@ -41,7 +42,7 @@ fn one_line(c: &mut Cutter, text: &[u8], area: &mut [u8], marks: Marks) -> Turn
 
 // The lines after the version line: the cutter is lent for each.
 fn read_lines(c: &mut Cutter, text: &[u8], area: &mut [u8]) -> Ended
-    requires { ⌜ (size ≤ length (now area)) × ((length (now text) ≤ 32768) × Reached (now text) (due (now c))) ⌝ }
+    requires { ⌜ (size ≤ length (now area)) × ((length (now text) ≤ longestText) × Reached (now text) (due (now c))) ⌝ }
     ensures { λ r. ⌜ ((t : List ℕ) → now (area .entry) ≡ encode empty ++ t → Left (runAt (now (text .entry)) fresh (due (now (c .entry)))) r (now (area .exit)) t) ⌝ }
 {
     let mut marks = Marks {
@@ -71,7 +72,7 @@ fn version_line(c: &mut Cutter, text: &[u8]) -> Search
 
 // The version line, past empty lines: the cutter is lent for each.
 fn find_version(c: &mut Cutter, text: &[u8]) -> Version
-    requires { ⌜ (length (now text) ≤ 32768) × Reached (now text) (due (now c)) ⌝ }
+    requires { ⌜ (length (now text) ≤ longestText) × Reached (now text) (due (now c)) ⌝ }
     ensures { λ r. ⌜ Begun (now (text .entry)) (due (now (c .entry))) r (due (now (c .exit))) ⌝ }
 {
     loop {
@@ -86,7 +87,7 @@ fn find_version(c: &mut Cutter, text: &[u8]) -> Version
 
 // All lines: the cutter is made here, and lent to the two loops.
 fn read_text(text: &[u8], area: &mut [u8]) -> Ended
-    requires { ⌜ (size ≤ length (now area)) × (length (now text) ≤ 32768) ⌝ }
+    requires { ⌜ (size ≤ length (now area)) × (length (now text) ≤ longestText) ⌝ }
     ensures { λ r. ⌜ ((t : List ℕ) → now (area .entry) ≡ encode empty ++ t → Left (beginAt (now (text .entry)) start) r (now (area .exit)) t) ⌝ }
 {
     let mut c = Cutter {

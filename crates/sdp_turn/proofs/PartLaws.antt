@@ -7,6 +7,7 @@ use mathlib.Core.Path.{_≡_, ap}
 use mathlib.Core.List.{List}
 use lib.ListN.{length, take, drop, length-drop}
 use lib.Seq.{length-take-le}
+use Rattle.sdp_numbers.specs.Refusals.{longestText}
 use Rattle.sdp_lines.specs.Strings.{bytesOf}
 use Rattle.sdp_lines.specs.declared.Span.{Span}
 
@@ -14,8 +15,8 @@ use Rattle.sdp_lines.specs.declared.Span.{Span}
 pub part-is : (s : List ℕ) (x : Span) → take (x .at .0 + x .len - x .at .0) (drop (x .at .0) s) ≡ bytesOf s x
 part-is s x = ap (λ (k : ℕ). take k (drop (x .at .0) s)) (add-sub-cancel-left (x .at .0) (x .len))
 
-pub part-fits : (s : List ℕ) (x : Span) → length s ≤ 32768 → x .at .0 + x .len ≤ length s
-    → x .at .0 + length (take (x .at .0 + x .len - x .at .0) (drop (x .at .0) s)) ≤ 32768
+pub part-fits : (s : List ℕ) (x : Span) → length s ≤ longestText → x .at .0 + x .len ≤ length s
+    → x .at .0 + length (take (x .at .0 + x .len - x .at .0) (drop (x .at .0) s)) ≤ longestText
 part-fits s x short inside =
     let e : length (bytesOf s x) ≡ x .len = length-take-le (x .len) (drop (x .at .0) s) (omega (arith, inside, length-drop (x .at .0) s)) in
     rw (part-is s x, e) (omega (arith, short, inside))

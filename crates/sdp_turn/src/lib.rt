@@ -2,6 +2,7 @@
 ghost use mathlib.Core.Path.{_≡_};
 ghost use Prim.Native.Nat.{_+_, _≤_};
 ghost use lib.ListN.{length};
+ghost use Rattle.sdp_numbers.specs.Refusals.{longestText};
 ghost use Rattle.sdp_area.specs.Area.{size};
 ghost use Rattle.sdp_line.specs.Version.{answer};
 ghost use Rattle.sdp_turn.specs.Turn.{Inside, goodLine, lineOf, Turns, Passes, openedLine, versionOf};
@@ -62,7 +63,7 @@ fn good_line(
     letter: u8,
     value: Span,
 ) -> Turn
-    requires { ⌜ (size ≤ length (now area)) × ((length (now text) ≤ 32768) × (value .at .0 + value .len ≤ length (now text))) ⌝ }
+    requires { ⌜ (size ≤ length (now area)) × ((length (now text) ≤ longestText) × (value .at .0 + value .len ≤ length (now text))) ⌝ }
     ensures { λ r. ⌜ Turns (λ ρ. goodLine (now (text .entry)) ρ (number .0) letter value)
         marks r (now (area .entry)) (now (area .exit)) ⌝ }
 {
@@ -80,7 +81,7 @@ fn good_line(
 
 // What the cutter found, and what it does to a run.
 pub fn turn_of(text: &[u8], area: &mut [u8], marks: Marks, next: Next) -> Turn
-    requires { ⌜ (size ≤ length (now area)) × ((length (now text) ≤ 32768) × Inside (now text) next) ⌝ }
+    requires { ⌜ (size ≤ length (now area)) × ((length (now text) ≤ longestText) × Inside (now text) next) ⌝ }
     ensures { λ r. ⌜ Turns (λ ρ. lineOf (now (text .entry)) ρ next)
         marks r (now (area .entry)) (now (area .exit)) × Passes next r ⌝ }
 {

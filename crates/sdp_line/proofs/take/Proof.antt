@@ -37,6 +37,7 @@ use denote.Triple.Spec.{Meets, tripleOf}
 use denote.Triple.Table.{entered, cited}
 use denote.Triple.Walked.{says, needs, Stays, stay-none, stay-none-slice, gave-slice, walkOf, goes-none, goes-none-slice, goes-gave-slice, Walks, ends-at, walked, walk-meets}
 use denote.Exit.{yes}
+use Rattle.sdp_numbers.specs.Refusals.{longestText}
 use Rattle.sdp_area.specs.Area.{size}
 use Rattle.sdp_strings.specs.Strings.{spanAt}
 use Rattle.sdp_step.specs.Step.{step}
@@ -119,7 +120,7 @@ module _ {M : Type 1} (𝓤 : URA M) (H : Heap 𝓤) (A : Atoms 𝓤) (W : Given
 
   -- what is asked, and what is answered, of a value and a letter
   abbrev Asked : RefT (List ℕ) → Type 0
-  Asked y = (size ≤ length ys) × (p .0 + length (now y) ≤ 32768)
+  Asked y = (size ≤ length ys) × (p .0 + length (now y) ≤ longestText)
 
   abbrev Said : RefT (List ℕ) → ℕ → Taken → List ℕ → Type 0
   Said y l r zs = Takes (λ ρ. step (spanAt (p .0) (now y)) ρ (now y) l) m r ys zs
@@ -198,7 +199,7 @@ module _ {M : Type 1} (𝓤 : URA M) (H : Heap 𝓤) (A : Atoms 𝓤) (W : Given
   take-walks C Λ fm known-new known = walked 𝓤 H A self.ended stayed (self.clauses 𝓤 H A mem run) (WpFn 𝓤 H C Λ code.function)
       (λ κs. (slice-vals, (LL.vals P.the-type P′.the-laws, (LL.vals K.the-type K′.the-laws, (LL.vals N.the-type N′.the-laws, (uint-vals w8, (slice-vals, tt)))))))
       (λ κs. (mut-slice-tells (named 0) (κs .0) u8, (LL.tells P.the-type P′.the-laws, (LL.tells K.the-type K′.the-laws, (LL.tells N.the-type N′.the-laws, (uint-tells w8, (shr-slice-tells (named 1) (κs .1 .0) u8, tt)))))))
-      (λ κs qs bounds a g are. needs 𝓤 ((size ≤ length (a .0 .now)) × (a .1 .0 .0 + length (a .1 .1 .1 .1 .1 .0 .now) ≤ 32768)) _ (λ asked.
+      (λ κs qs bounds a g are. needs 𝓤 ((size ≤ length (a .0 .now)) × (a .1 .0 .0 + length (a .1 .1 .1 .1 .1 .0 .now) ≤ longestText)) _ (λ asked.
       walk 𝓤 H A W mem run (κs .0) (κs .1 .0) (qs .0) (qs .1 .0) (a .0 .ptr .0) (a .0 .ptr .1) (a .0 .name) (a .0 .now) (a .1 .0) (a .1 .1 .0) (a .1 .1 .1 .0) (a .1 .1 .1 .1 .0) (a .1 .1 .1 .1 .1 .0)
       (LL.owed P.the-type P′.the-laws (a .1 .0) _ (are .1 .0) .0 .1) (subst (Is K.the-row (a .1 .1 .0)) (K′.lowers .val-is (a .1 .1 .0) _ (are .1 .1 .0)) (are .1 .1 .0)) (LL.owed N.the-type N′.the-laws (a .1 .1 .1 .0) _ (are .1 .1 .1 .0) .0 .1) (are .1 .1 .1 .1 .0 .1)
       C Λ fm known-new known (are .0 .0 .1) (are .1 .1 .1 .1 .1 .0) asked))

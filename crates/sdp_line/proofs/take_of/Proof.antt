@@ -42,6 +42,7 @@ use denote.Triple.Spec.{Meets, tripleOf}
 use denote.Triple.Table.{entered, cited}
 use denote.Triple.Walked.{says, needs, Stays, stay-none, gave-slice, walkOf, goes-none, goes-gave-slice, Walks, ends-at, walked, walk-meets}
 use denote.Exit.{yes}
+use Rattle.sdp_numbers.specs.Refusals.{longestText}
 use Rattle.sdp_area.specs.Area.{size}
 use Rattle.sdp_strings.specs.Strings.{spanAt}
 use Rattle.sdp_step.specs.Step.{step}
@@ -119,7 +120,7 @@ module _ {M : Type 1} (𝓤 : URA M) (H : Heap 𝓤) (A : Atoms 𝓤) (W : Given
 
   -- what is asked, and what is answered
   abbrev Asked : Type 0
-  Asked = (size ≤ length ys) × (p .0 + length (now (d .value)) ≤ 32768)
+  Asked = (size ≤ length ys) × (p .0 + length (now (d .value)) ≤ longestText)
 
   abbrev Said : Taken → List ℕ → Type 0
   Said r zs = Takes (λ ρ. step (spanAt (p .0) (now (d .value))) ρ (now (d .value)) (d .letter)) m r ys zs
@@ -178,7 +179,7 @@ module _ {M : Type 1} (𝓤 : URA M) (H : Heap 𝓤) (A : Atoms 𝓤) (W : Given
   take-of-walks C Λ fm known = walked 𝓤 H A self.ended stayed (self.clauses 𝓤 H A mem run) (WpFn 𝓤 H C Λ code.function)
       (λ κs. (slice-vals, (LL.vals P.the-type P′.the-laws, (LL.vals K.the-type K′.the-laws, (LL.vals (T.the-type (namedLft 2 1 tt κs)) (T′.the-laws (namedLft 2 1 tt κs)), tt)))))
       (λ κs. (mut-slice-tells (named 0) (κs .0) u8, (LL.tells P.the-type P′.the-laws, (LL.tells K.the-type K′.the-laws, (LL.tells (T.the-type (namedLft 2 1 tt κs)) (T′.the-laws (namedLft 2 1 tt κs)), tt)))))
-      (λ κs qs bounds a g are. needs 𝓤 ((size ≤ length (a .0 .now)) × (a .1 .0 .0 + length (a .1 .1 .1 .0 .value .now) ≤ 32768)) _ (λ asked.
+      (λ κs qs bounds a g are. needs 𝓤 ((size ≤ length (a .0 .now)) × (a .1 .0 .0 + length (a .1 .1 .1 .0 .value .now) ≤ longestText)) _ (λ asked.
       let fields = LL.owed (T.the-type (namedLft 2 1 tt κs)) (T′.the-laws (namedLft 2 1 tt κs)) (a .1 .1 .1 .0) _ (are .1 .1 .1 .0) in
       walk 𝓤 H A W mem run (κs .0) (κs .1 .0) (qs .0) (qs .1 .0) (a .0 .ptr .0) (a .0 .ptr .1) (a .0 .name) (a .0 .now) (a .1 .0) (a .1 .1 .0) (a .1 .1 .1 .0)
       (LL.owed P.the-type P′.the-laws (a .1 .0) _ (are .1 .0) .0 .1) (subst (Is K.the-row (a .1 .1 .0)) (K′.lowers .val-is (a .1 .1 .0) _ (are .1 .1 .0)) (are .1 .1 .0)) (fields .1 .0 .1) C Λ fm known (are .0 .0 .1)

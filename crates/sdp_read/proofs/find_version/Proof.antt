@@ -43,6 +43,7 @@ use denote.Triple.Spec.{Meets, tripleOf}
 use denote.Triple.Table.{entered, cited}
 use denote.Triple.Walked.{says, needs, Stays, stay-ref, stay-none-slice, walkOf, goes-ref, goes-none-slice, Walks, ends-at, walked, walk-meets}
 use denote.Exit.{yes}
+use Rattle.sdp_numbers.specs.Refusals.{longestText}
 use Rattle.sdp_cutter.specs.Cutter.{moveAt, standing, due}
 use Rattle.sdp_cutter.specs.declared.Cutter.{Cutter}
 use Rattle.sdp_read.specs.From.{Reached, beginAt, Begun}
@@ -139,7 +140,7 @@ module _ {M : Type 1} (𝓤 : URA M) (H : Heap 𝓤) (A : Atoms 𝓤) (W : Given
   Nearer-wf = InvImage·wf (λ (i : Stand). length (now s) - i .0 .at .0) (Nat·lt-wfRel .wf)
 
   -- a line that is passed
-  module _ (short : length (now s) ≤ 32768) (t : Stand) (y : Cutter) (e : Said (t .0) On y) where
+  module _ (short : length (now s) ≤ longestText) (t : Stand) (y : Cutter) (e : Said (t .0) On y) where
     skipped : Further (now s) (due (t .0)) (due y) × (beginAt (now s) (due h) ≡ beginAt (now s) (due y))
     skipped = subst (λ (u : Cutter). Further (now s) (due (t .0)) (due u) × (beginAt (now s) (due h) ≡ beginAt (now s) (due u))) (sym (e .1)) (begun-skips (now s) short (due h) (due (t .0)) (t .1 .0) (t .1 .1) (e .0))
 
@@ -153,7 +154,7 @@ module _ {M : Type 1} (𝓤 : URA M) (H : Heap 𝓤) (A : Atoms 𝓤) (W : Given
         omega (arith, f, i)
 
   -- the line that tells
-  told : length (now s) ≤ 32768 → (t : Stand) (r : Version) (y : Cutter) → Said (t .0) (Told r) y → Begun (now s) (due h) r (due y)
+  told : length (now s) ≤ longestText → (t : Stand) (r : Version) (y : Cutter) → Said (t .0) (Told r) y → Begun (now s) (due h) r (due y)
   told short t r y e = subst (λ (u : Cutter). Begun (now s) (due h) r (due u)) (sym (e .1)) (begun-told (now s) short (due h) (due (t .0)) (t .1 .0) (t .1 .1) r (e .0))
 
   module _ (r : Search) (w : Val) (is : Is R.the-row r (w ∷ [])) where
@@ -181,7 +182,7 @@ module _ {M : Type 1} (𝓤 : URA M) (H : Heap 𝓤) (A : Atoms 𝓤) (W : Given
       ∷ ‵ (froom U′.mir l₀ 0) ∷ ‵ (fdies U′.mir l₀) ∷ []
 
   module _ (𝓣 : Tables 𝓤 H) (known : Triple 𝓤 (𝓣 .C #version-line) (VersionLine 𝓤 H A mem run)) where
-    walk : Is (ShrSlice (named 1) κ′ u8) s (v ∷ []) → (length (now s) ≤ 32768) × Reached (now s) (due h) → ent 𝓤 (onEntry 𝓤 H A self.signature (κ, (κ′, tt)) (q, (q′, tt)) a vals) (WpFn 𝓤 H (𝓣 .C) (𝓣 .Λ) code.function (vptr b o ∷ v ∷ []) Post)
+    walk : Is (ShrSlice (named 1) κ′ u8) s (v ∷ []) → (length (now s) ≤ longestText) × Reached (now s) (due h) → ent 𝓤 (onEntry 𝓤 H A self.signature (κ, (κ′, tt)) (q, (q′, tt)) a vals) (WpFn 𝓤 H (𝓣 .C) (𝓣 .Λ) code.function (vptr b o ∷ v ∷ []) Post)
     unfolding afterTurn
     walk s-is asked =
         qed W ((‵ (flft κ q) ⊛ ‵ (flft κ′ q′) ⊛ ‵ ftrue) ∷ ‵ (owns (MutRef (named 0) κ T.the-row ∷ ShrSlice (named 1) κ′ u8 ∷ []) a vals) ∷ []) ∵ enter ! (𝓣 .C) (𝓣 .Λ) code.function (vptr b o ∷ v ∷ []) _ $
@@ -225,7 +226,7 @@ module _ {M : Type 1} (𝓤 : URA M) (H : Heap 𝓤) (A : Atoms 𝓤) (W : Given
 module _ {M : Type 1} (𝓤 : URA M) (H : Heap 𝓤) (A : Atoms 𝓤) (W : Given 𝓤 H A) (mem : Memory → SProp 𝓤) (run : Routine → Fun 𝓤) (𝓣 : Tables 𝓤 H) where
   find-version-walks : Triple 𝓤 (𝓣 .C #version-line) (VersionLine 𝓤 H A mem run) → Walks 𝓤 H A self.ended stayed (WpFn 𝓤 H (𝓣 .C) (𝓣 .Λ) code.function) (self.clauses 𝓤 H A mem run)
   find-version-walks known = walked 𝓤 H A self.ended stayed (self.clauses 𝓤 H A mem run) (WpFn 𝓤 H (𝓣 .C) (𝓣 .Λ) code.function) (λ κs. (ptr-vals, (slice-vals, tt))) (λ κs. (mut-tells (named 0) (κs .0) T.the-row, (shr-slice-tells (named 1) (κs .1 .0) u8, tt)))
-      (λ κs qs bounds a g are. needs 𝓤 ((length (a .1 .0 .now) ≤ 32768) × Reached (a .1 .0 .now) (due (a .0 .now))) _ (walk 𝓤 H A W mem run (κs .0) (κs .1 .0) (qs .0) (qs .1 .0) (a .0 .ptr .0) (a .0 .ptr .1) (a .0 .name) (a .0 .now) (a .1 .0) 𝓣 known (are .1 .0)))
+      (λ κs qs bounds a g are. needs 𝓤 ((length (a .1 .0 .now) ≤ longestText) × Reached (a .1 .0 .now) (due (a .0 .now))) _ (walk 𝓤 H A W mem run (κs .0) (κs .1 .0) (qs .0) (qs .1 .0) (a .0 .ptr .0) (a .0 .ptr .1) (a .0 .name) (a .0 .now) (a .1 .0) 𝓣 known (are .1 .0)))
 
   find-version-meets : Triple 𝓤 (𝓣 .C #version-line) (VersionLine 𝓤 H A mem run) → Meets 𝓤 H A self.signature (WpFn 𝓤 H (𝓣 .C) (𝓣 .Λ) code.function) (self.spec 𝓤 H A mem run)
   find-version-meets known =

@@ -45,6 +45,7 @@ use denote.Triple.Spec.{Meets, tripleOf}
 use denote.Triple.Table.{entered, cited}
 use denote.Triple.Walked.{says, needs, Stays, stay-ref, stay-none-slice, stay-slice, walkOf, goes-ref, goes-none-slice, goes-slice, Walks, ends-at, walked, walk-meets}
 use denote.Exit.{yes}
+use Rattle.sdp_numbers.specs.Refusals.{longestText}
 use Rattle.sdp_area.specs.Session.{empty}
 use Rattle.sdp_area.specs.Area.{encode, size}
 use Rattle.sdp_cutter.specs.Cutter.{moveAt, standing, due}
@@ -98,7 +99,7 @@ record Stand (s : List ℕ) (h : Cutter) (ys : List ℕ) : Type 0 where
 abbrev Said : (s : List ℕ) → Cutter → Marks → List ℕ → Turn → Cutter → List ℕ → Type 0
 Said s z m xs r y zs = (Turns (λ ρ. lineAt s ρ (due z)) m r xs zs × Passes (moveAt s (z .at) (z .line) .next) r) × (y ≡ standing (moveAt s (z .at) (z .line)))
 
-module _ (s : List ℕ) (h : Cutter) (ys : List ℕ) (short : length s ≤ 32768) (t : Stand s h ys) where
+module _ (s : List ℕ) (h : Cutter) (ys : List ℕ) (short : length s ≤ longestText) (t : Stand s h ys) where
   -- a line after which the run goes on
   module _ (n : Marks) (n-is : Is K.the-row n (K′.lowered n ∷ [])) (y : Cutter) (zs : List ℕ) (l : length zs ≡ length (t .area)) (e : Said s (t .cutter) (t .marks) (t .area) (Goes n) y zs) where
     further : Further s (due (t .cutter)) (due y)
@@ -189,7 +190,7 @@ module _ {M : Type 1} (𝓤 : URA M) (H : Heap 𝓤) (A : Atoms 𝓤) (W : Given
   abbrev Tokens : ℕ → ℕ → Item 𝓤
   Tokens ν ν′ = ‵ (flft (ν ∷ []) fullShare) ⊛ ‵ (flft κ′ q′) ⊛ ‵ (flft (ν′ ∷ []) fullShare) ⊛ ‵ ftrue
 
-  goes : (ν ν′ : ℕ) (δ δ′ : GName) (z : Cutter) (m : Marks) (zs : List ℕ) → Is K.the-row m (K′.lowered m ∷ []) → (size ≤ length zs) × (length (now s) ≤ 32768)
+  goes : (ν ν′ : ℕ) (δ δ′ : GName) (z : Cutter) (m : Marks) (zs : List ℕ) → Is K.the-row m (K′.lowered m ∷ []) → (size ≤ length zs) × (length (now s) ≤ longestText)
       → ent 𝓤 (⋆ 𝓤 H A ((Tokens ν ν′ ⊛ ‵ (Cut (ν ∷ []) δ z)) ∷ ‵ Own ∷ ‵ (Area (ν′ ∷ []) δ′ zs) ∷ [])) (OneLine 𝓤 H A mem run .pre (to-callee ν ν′ δ δ′ z m zs))
   goes ν ν′ δ δ′ z m zs m-is asked =
       qed W ((Tokens ν ν′ ⊛ ‵ (Cut (ν ∷ []) δ z)) ∷ ‵ Own ∷ ‵ (Area (ν′ ∷ []) δ′ zs) ∷ []) ∵ says ! asked $ split ! $ frame ! $
@@ -246,7 +247,7 @@ module _ {M : Type 1} (𝓤 : URA M) (H : Heap 𝓤) (A : Atoms 𝓤) (W : Given
       ∷ ‵ (froom E′.mir l₀ 0) ∷ ‵ (fdies E′.mir l₀) ∷ []
 
   module _ (𝓣 : Tables 𝓤 H) (known : Triple 𝓤 (𝓣 .C #one-line) (OneLine 𝓤 H A mem run)) where
-    walk : Is (ShrSlice (named 1) κ′ u8) s (v ∷ []) → Room u8 (length ys) → (size ≤ length ys) × ((length (now s) ≤ 32768) × Reached (now s) (due h))
+    walk : Is (ShrSlice (named 1) κ′ u8) s (v ∷ []) → Room u8 (length ys) → (size ≤ length ys) × ((length (now s) ≤ longestText) × Reached (now s) (due h))
         → ent 𝓤 (onEntry 𝓤 H A self.signature (κ, (κ′, (κ″, tt))) (q, (q′, (q″, tt))) a vals) (WpFn 𝓤 H (𝓣 .C) (𝓣 .Λ) code.function (vptr b o ∷ v ∷ u ∷ []) Post)
     unfolding afterTurn
     walk s-is room asked =
@@ -308,7 +309,7 @@ module _ {M : Type 1} (𝓤 : URA M) (H : Heap 𝓤) (A : Atoms 𝓤) (W : Given
   read-lines-walks : Triple 𝓤 (𝓣 .C #one-line) (OneLine 𝓤 H A mem run) → Walks 𝓤 H A self.ended stayed (WpFn 𝓤 H (𝓣 .C) (𝓣 .Λ) code.function) (self.clauses 𝓤 H A mem run)
   read-lines-walks known = walked 𝓤 H A self.ended stayed (self.clauses 𝓤 H A mem run) (WpFn 𝓤 H (𝓣 .C) (𝓣 .Λ) code.function)
       (λ κs. (ptr-vals, (slice-vals, (slice-vals, tt)))) (λ κs. (mut-tells (named 0) (κs .0) T.the-row, (shr-slice-tells (named 1) (κs .1 .0) u8, (mut-slice-tells (named 2) (κs .1 .1 .0) u8, tt))))
-      (λ κs qs bounds a g are. needs 𝓤 ((size ≤ length (a .1 .1 .0 .now)) × ((length (a .1 .0 .now) ≤ 32768) × Reached (a .1 .0 .now) (due (a .0 .now)))) _
+      (λ κs qs bounds a g are. needs 𝓤 ((size ≤ length (a .1 .1 .0 .now)) × ((length (a .1 .0 .now) ≤ longestText) × Reached (a .1 .0 .now) (due (a .0 .now)))) _
       (walk 𝓤 H A W mem run (κs .0) (κs .1 .0) (κs .1 .1 .0) (qs .0) (qs .1 .0) (qs .1 .1 .0) (a .0 .ptr .0) (a .0 .ptr .1) (a .0 .name) (a .0 .now) (a .1 .0) (a .1 .1 .0 .ptr .0) (a .1 .1 .0 .ptr .1) (a .1 .1 .0 .name) (a .1 .1 .0 .now) 𝓣 known (are .1 .0) (are .1 .1 .0 .0 .1)))
 
   read-lines-meets : Triple 𝓤 (𝓣 .C #one-line) (OneLine 𝓤 H A mem run) → Meets 𝓤 H A self.signature (WpFn 𝓤 H (𝓣 .C) (𝓣 .Λ) code.function) (self.spec 𝓤 H A mem run)

@@ -45,6 +45,7 @@ use denote.Triple.Spec.{Meets, tripleOf}
 use denote.Triple.Table.{entered, cited}
 use denote.Triple.Walked.{says, needs, Stays, stay-none-slice, stay-slice, walkOf, goes-none-slice, goes-slice, Walks, ends-at, walked, walk-meets}
 use denote.Exit.{yes}
+use Rattle.sdp_numbers.specs.Refusals.{longestText}
 use Rattle.sdp_area.specs.Session.{empty}
 use Rattle.sdp_area.specs.Area.{encode, size}
 use Rattle.sdp_lines.specs.Lines.{start}
@@ -188,7 +189,7 @@ module _ {M : Type 1} (𝓤 : URA M) (H : Heap 𝓤) (A : Atoms 𝓤) (W : Given
   abbrev to-find : ℕ → ℕ → GName → FindVersion 𝓤 H A at-mem run .Ghost
   to-find ν l δ = (((ν ∷ [], (κ, tt)), (fullShare, (q, tt)), tt, (lent l δ first-line, (s, tt)), (vptr l 0 ∷ [], (v ∷ [], tt))), tt)
 
-  goes-find : (ν l : ℕ) (δ : GName) → length (now s) ≤ 32768 → ent 𝓤 (⋆ 𝓤 H A ((‵ (flft (ν ∷ []) fullShare) ⊛ ‵ (flft κ q) ⊛ ‵ ftrue) ∷ ‵ (Cut ν l δ first-line) ∷ ‵ Own ∷ [])) (FindVersion 𝓤 H A at-mem run .pre (to-find ν l δ))
+  goes-find : (ν l : ℕ) (δ : GName) → length (now s) ≤ longestText → ent 𝓤 (⋆ 𝓤 H A ((‵ (flft (ν ∷ []) fullShare) ⊛ ‵ (flft κ q) ⊛ ‵ ftrue) ∷ ‵ (Cut ν l δ first-line) ∷ ‵ Own ∷ [])) (FindVersion 𝓤 H A at-mem run .pre (to-find ν l δ))
   goes-find ν l δ short =
       let reached : Reached (now s) (due first-line) = record { inside = omega arith; counted = omega arith } in
       qed W ((‵ (flft (ν ∷ []) fullShare) ⊛ ‵ (flft κ q) ⊛ ‵ ftrue) ∷ ‵ (Cut ν l δ first-line) ∷ ‵ Own ∷ []) ∵ says ! (short, reached) $ frame ! $
@@ -217,7 +218,7 @@ module _ {M : Type 1} (𝓤 : URA M) (H : Heap 𝓤) (A : Atoms 𝓤) (W : Given
   abbrev Tokens : ℕ → ℕ → Item 𝓤
   Tokens ν ν′ = ‵ (flft (ν ∷ []) fullShare) ⊛ ‵ (flft κ q) ⊛ ‵ (flft (ν′ ∷ []) fullShare) ⊛ ‵ ftrue
 
-  goes-rest : (ν ν′ l : ℕ) (δ δ′ : GName) (z : Cutter) → (size ≤ length ys) × ((length (now s) ≤ 32768) × Reached (now s) (due z))
+  goes-rest : (ν ν′ l : ℕ) (δ δ′ : GName) (z : Cutter) → (size ≤ length ys) × ((length (now s) ≤ longestText) × Reached (now s) (due z))
       → ent 𝓤 (⋆ 𝓤 H A ((Tokens ν ν′ ⊛ ‵ (Cut ν l δ z)) ∷ ‵ Own ∷ ‵ (Area (ν′ ∷ []) δ′ ys) ∷ [])) (ReadLines 𝓤 H A at-mem run .pre (to-rest ν ν′ l δ δ′ z))
   goes-rest ν ν′ l δ δ′ z asked =
       qed W ((Tokens ν ν′ ⊛ ‵ (Cut ν l δ z)) ∷ ‵ Own ∷ ‵ (Area (ν′ ∷ []) δ′ ys) ∷ []) ∵ says ! asked $ split ! $ frame ! $
@@ -299,7 +300,7 @@ module _ {M : Type 1} (𝓤 : URA M) (H : Heap 𝓤) (A : Atoms 𝓤) (W : Given
           -- [text's token; the area's token; the area's; text's]
           split ! $ move ! (2 ∷ 1 ∷ []) $ join ! $ move ! (1 ∷ 0 ∷ []) $ join ! $ move ! (0 ∷ 2 ∷ 1 ∷ []) $ by ! (exits x zs e l is)
 
-    walk : Is (ShrSlice (named 0) κ u8) s (v ∷ []) → Room u8 (length ys) → (size ≤ length ys) × (length (now s) ≤ 32768) → ent 𝓤 (onEntry 𝓤 H A self.signature (κ, (κ′, tt)) (q, (q′, tt)) a vals) (WpFn 𝓤 H C Λ code.function (v ∷ u ∷ []) Post)
+    walk : Is (ShrSlice (named 0) κ u8) s (v ∷ []) → Room u8 (length ys) → (size ≤ length ys) × (length (now s) ≤ longestText) → ent 𝓤 (onEntry 𝓤 H A self.signature (κ, (κ′, tt)) (q, (q′, tt)) a vals) (WpFn 𝓤 H C Λ code.function (v ∷ u ∷ []) Post)
     walk s-is room asked =
         qed W ((‵ (flft κ q) ⊛ ‵ (flft κ′ q′) ⊛ ‵ ftrue) ∷ ‵ (owns (ShrSlice (named 0) κ u8 ∷ MutSlice (named 1) κ′ u8 ∷ []) a vals) ∷ []) ∵ enter ! C Λ code.function (v ∷ u ∷ []) _ $
         alloc1 ! (λ l₀. alloc1 ! (λ l₁. alloc1 ! (λ l₂. alloc1 ! (λ l₃. alloc1 ! (λ l₄. alloc1 ! (λ l₅. alloc1 ! (λ l₆. alloc1 ! (λ l₇. alloc1 ! (λ l₈. alloc1 ! (λ l₉. alloc1 ! (λ l₁₀. alloc1 ! (λ l₁₁. alloc1 ! (λ l₁₂. alloc0 ! $ params1 ! $
@@ -365,7 +366,7 @@ module _ {M : Type 1} (𝓤 : URA M) (H : Heap 𝓤) (A : Atoms 𝓤) (W : Given
 module _ {M : Type 1} (𝓤 : URA M) (H : Heap 𝓤) (A : Atoms 𝓤) (W : Given 𝓤 H A) (mem : Memory → SProp 𝓤) (run : Routine → Fun 𝓤) where
   read-text-walks : (C : Calls 𝓤 H) (Λ : Loops 𝓤 H) → FmC 𝓤 H (W .laws) C → Triple 𝓤 (C #find-version) (FindVersion 𝓤 H A mem run) → Triple 𝓤 (C #read-lines) (ReadLines 𝓤 H A mem run) → Walks 𝓤 H A self.ended stayed (WpFn 𝓤 H C Λ code.function) (self.clauses 𝓤 H A mem run)
   read-text-walks C Λ fm known-find known-rest = walked 𝓤 H A self.ended stayed (self.clauses 𝓤 H A mem run) (WpFn 𝓤 H C Λ code.function) (λ κs. (slice-vals, (slice-vals, tt))) (λ κs. (shr-slice-tells (named 0) (κs .0) u8, (mut-slice-tells (named 1) (κs .1 .0) u8, tt)))
-      (λ κs qs bounds a g are. needs 𝓤 ((size ≤ length (a .1 .0 .now)) × (length (a .0 .now) ≤ 32768)) _
+      (λ κs qs bounds a g are. needs 𝓤 ((size ≤ length (a .1 .0 .now)) × (length (a .0 .now) ≤ longestText)) _
       (walk 𝓤 H A W mem run (κs .0) (κs .1 .0) (qs .0) (qs .1 .0) (a .0) (a .1 .0 .ptr .0) (a .1 .0 .ptr .1) (a .1 .0 .name) (a .1 .0 .now) C Λ fm known-find known-rest (are .0) (are .1 .0 .0 .1)))
 
 read-text-meets : {M : Type 1} (𝓤 : URA M) (H : Heap 𝓤) (A : Atoms 𝓤) → Given 𝓤 H A → (mem : Memory → SProp 𝓤) (run : Routine → Fun 𝓤) (𝓣 : Tables 𝓤 H) → Triple 𝓤 (𝓣 .C #find-version) (FindVersion 𝓤 H A mem run) → Triple 𝓤 (𝓣 .C #read-lines) (ReadLines 𝓤 H A mem run)
