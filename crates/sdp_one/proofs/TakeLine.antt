@@ -21,7 +21,7 @@ use Rattle.sdp_take.proofs.take_line.Reads as takeLine
 use Rattle.sdp_line.proofs.take.Reads as lineTake
 use Rattle.sdp_turn.specs.Turn.{Verdict, accepted, refused, Left, Lined, on, over, lineOf, Turned}
 use Rattle.sdp_turn.specs.declared.Ended.{Ended}
-use Rattle.sdp_turn.specs.declared.Ended.the-variants.{Accepted, Stopped}
+use Rattle.sdp_turn.specs.declared.Ended.the-variants.{Accepted, Stopped, Unread}
 use Rattle.sdp_turn.specs.declared.Turn.{Turn}
 use Rattle.sdp_turn.specs.declared.Turn.the-variants.{Goes, Over}
 use Rattle.sdp_turn.proofs.turn_of.Reads as turnOf
@@ -40,9 +40,12 @@ handled-once (stops n f) (Refused i g) (Refused j g′) a a′ t h k = (cc, same
 left-once : (v : Verdict Span) (e e′ : Ended) (a a′ t : List ℕ) → Left v e a t → Left v e′ a′ t → (e ≡ e′) × (seenTurn (Over e) a ≡ seenTurn (Over e′) a′)
 left-once (accepted σ) Accepted Accepted a a′ t h k = (refl, same h k)
 left-once (accepted σ) Accepted (Stopped y) a a′ t h k = absurd k
+left-once (accepted σ) Accepted (Unread y) a a′ t h k = absurd k
 left-once (accepted σ) (Stopped x) e′ a a′ t h k = absurd h
 left-once (refused x) Accepted e′ a a′ t h k = absurd h
 left-once (refused x) (Stopped y) Accepted a a′ t h k = absurd k
+left-once (refused x) (Stopped y) (Unread y′) a a′ t h k = absurd k
+left-once v (Unread y) e′ a a′ t h k = absurd h
 left-once (refused x) (Stopped y) (Stopped y′) a a′ t h k = (ap Stopped (same (h .0) (k .0)), same (h .1) (k .1))
 
 turned-once : (x : Lined) (r r′ : Turn) (a a′ t : List ℕ) → Turned x r a t → Turned x r′ a′ t → (r ≡ r′) × (seenTurn r a ≡ seenTurn r′ a′)

@@ -5,7 +5,7 @@ use lib.ListN.{drop}
 use Rattle.sdp_area.specs.Area.{size}
 use Rattle.sdp_step.specs.declared.Taken.{Taken}
 use Rattle.sdp_step.specs.declared.Taken.the-variants.{Kept, Refused}
-use Rattle.sdp_turn.specs.declared.Ended.the-variants.{Accepted, Stopped}
+use Rattle.sdp_turn.specs.declared.Ended.the-variants.{Accepted, Stopped, Unread}
 use Rattle.sdp_turn.specs.declared.Turn.{Turn}
 use Rattle.sdp_turn.specs.declared.Turn.the-variants.{Goes, Over}
 
@@ -19,3 +19,4 @@ abbrev pub seenTurn : Turn → List ℕ → List ℕ
 seenTurn (Goes m) a = a
 seenTurn (Over Accepted) a = a
 seenTurn (Over (Stopped x)) a = drop size a
+seenTurn (Over (Unread x)) a = a

@@ -16,14 +16,13 @@ use Rattle.sdp_area.specs.Area.{encode}
 use Rattle.sdp_step.specs.Step.{Reading, fresh}
 use Rattle.sdp_step.specs.Hold.{Holds}
 use Rattle.sdp_step.specs.declared.Marks.{Marks}
-use Rattle.sdp_step.proofs.TailLaws.{tail-of}
 use Rattle.sdp_read.specs.Run.{refused}
 use Rattle.sdp_turn.specs.Turn.{Left}
-use Rattle.sdp_read.specs.From.{Reached, runAt, beginAt, Begun}
+use Rattle.sdp_read.specs.From.{Reached, runAt, beginAt, Begun, Ends}
 use Rattle.sdp_turn.specs.Turn.{Lined, on, over, Turned}
 use Rattle.sdp_read.specs.From.{lineAt, versionAt}
 use Rattle.sdp_turn.specs.declared.Ended.{Ended}
-use Rattle.sdp_turn.specs.declared.Ended.the-variants.{Stopped}
+use Rattle.sdp_turn.specs.declared.Ended.the-variants.{Accepted, Stopped, Unread}
 use Rattle.sdp_turn.specs.declared.Turn.the-variants.{Goes, Over}
 use Rattle.sdp_turn.specs.declared.Search.{Search}
 use Rattle.sdp_turn.specs.declared.Search.the-variants.{On, Told}
@@ -79,8 +78,10 @@ module _ (s : List ℕ) (short : length s ≤ longestText) (from c : Cursor) (w 
   begun-told (version.Refused x) e = begun-on (Told (version.Refused x)) e
 
 -- ---- the whole text
-pub text-refused : (s : List ℕ) (x : Answer) → beginAt s start ≡ refused x → (a t : List ℕ) → a ≡ encode empty ++ t → Left (beginAt s start) (Stopped x) a t
-text-refused s x e a t k = rw e (refl, tail-of (going-begin s start a t k .holds))
+pub text-refused : (s : List ℕ) (x : Answer) → beginAt s start ≡ refused x → (a t : List ℕ) → a ≡ encode empty ++ t → Ends (beginAt s start) (Unread x) a t
+text-refused s x e a t k = (e, k)
 
-pub text-found : (s : List ℕ) (d : Cursor) → beginAt s start ≡ runAt s fresh d → (x : Ended) (a t : List ℕ) → Left (runAt s fresh d) x a t → Left (beginAt s start) x a t
-text-found s d e x a t h = rw e h
+pub text-found : (s : List ℕ) (d : Cursor) → beginAt s start ≡ runAt s fresh d → (x : Ended) (a t : List ℕ) → Left (runAt s fresh d) x a t → Ends (beginAt s start) x a t
+text-found s d e Accepted a t h = rw e h
+text-found s d e (Stopped y) a t h = rw e h
+text-found s d e (Unread y) a t h = absurd h

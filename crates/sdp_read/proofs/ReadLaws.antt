@@ -14,9 +14,9 @@ use Rattle.sdp_area.specs.Area.{encode, size}
 use Rattle.sdp_area.proofs.WidthLaws.{encode-empty}
 use Rattle.sdp_read.specs.Run.{Verdict, accepted, refused, answer, lines, outcomeOf, readText}
 use Rattle.sdp_turn.specs.Turn.{Left}
-use Rattle.sdp_read.specs.From.{beginAt}
+use Rattle.sdp_read.specs.From.{beginAt, Ends}
 use Rattle.sdp_lines.specs.declared.Answer.{Answer}
-use Rattle.sdp_turn.specs.declared.Ended.the-variants.{Accepted, Stopped}
+use Rattle.sdp_turn.specs.declared.Ended.the-variants.{Accepted, Stopped, Unread}
 
 -- the answer x and the area b are what readText says
 abbrev pub Says : List ℕ → List ℕ → Answer → List ℕ → Type 0
@@ -48,6 +48,9 @@ module _ (s a : List ℕ) where
           go : (v : Verdict Span) → Left v Accepted b (drop size a) → (answer 0 0 0 ≡ outcomeOf a v .answer) × (b ≡ outcomeOf a v .area)
           go (accepted σ) h = (refl, h)
           go (refused x) h = absurd h
+
+      pub says-unread : (y : Answer) (b : List ℕ) → Ends (beginAt s start) (Unread y) b (drop size a) → Says s a y b
+      says-unread y b h = rw (read-is, h .0) (refl, h .1 ∙ ap (λ (z : List ℕ). z ++ drop size a) encode-empty)
 
       pub says-stopped : (y : Answer) (b b′ : List ℕ) → Left (beginAt s start) (Stopped y) b (drop size a) → b′ ≡ zeros size ++ drop size b → Says s a y b′
       says-stopped y b b′ h e = rw read-is (go (beginAt s start) h)

@@ -1,15 +1,19 @@
 -- Reading from a cursor on: what the functions promise that are lent the cutter.
 use Prim.Native.Nat.{ℕ, _+_, _≤_}
 use mathlib.Core.Path.{_≡_}
-use mathlib.Core.List.{List}
+use mathlib.Core.List.{List, _++_}
 use lib.ListN.{length, drop}
 use Rattle.sdp_lines.specs.Lines.{split}
 use Rattle.sdp_lines.specs.declared.Span.{Span}
 use Rattle.sdp_lines.specs.declared.Cursor.{Cursor}
+use Rattle.sdp_area.specs.Session.{empty}
+use Rattle.sdp_area.specs.Area.{encode}
 use Rattle.sdp_strings.specs.Strings.{spanAt}
 use Rattle.sdp_step.specs.Step.{Reading, fresh}
 use Rattle.sdp_cutter.specs.Cutter.{moveAt}
-use Rattle.sdp_turn.specs.Turn.{Lined, lineOf, versionOf}
+use Rattle.sdp_turn.specs.Turn.{Lined, lineOf, versionOf, Left}
+use Rattle.sdp_turn.specs.declared.Ended.{Ended}
+use Rattle.sdp_turn.specs.declared.Ended.the-variants.{Accepted, Stopped, Unread}
 use Rattle.sdp_turn.specs.declared.Search.{Search}
 use Rattle.sdp_turn.specs.declared.Version.{Version}
 use Rattle.sdp_turn.specs.declared.Version.the-variants as version
@@ -41,3 +45,9 @@ versionAt s c = versionOf s (moveAt s (c .at) (c .line) .next)
 abbrev pub Begun : List ℕ → Cursor → Version → Cursor → Type 0
 Begun s c version.Found d = (beginAt s c ≡ runAt s fresh d) × Reached s d
 Begun s c (version.Refused x) d = beginAt s c ≡ refused x
+
+-- the answer for a whole text, and the area: where the version is refused, it is as it was
+abbrev pub Ends : Verdict Span → Ended → List ℕ → List ℕ → Type 0
+Ends v Accepted a t = Left v Accepted a t
+Ends v (Stopped y) a t = Left v (Stopped y) a t
+Ends v (Unread y) a t = (v ≡ refused y) × (a ≡ encode empty ++ t)

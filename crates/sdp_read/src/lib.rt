@@ -12,7 +12,7 @@ ghost use Rattle.sdp_step.specs.Step.{fresh};
 ghost use Rattle.sdp_line.specs.Version.{answer};
 ghost use Rattle.sdp_read.specs.Run.{readText};
 ghost use Rattle.sdp_turn.specs.Turn.{Left, Turns, Passes};
-ghost use Rattle.sdp_read.specs.From.{Reached, lineAt, versionAt, runAt, beginAt, Begun};
+ghost use Rattle.sdp_read.specs.From.{Reached, lineAt, versionAt, runAt, beginAt, Begun, Ends};
 use sdp_area::SIZE;
 use sdp_area::clear;
 use sdp_cutter::Cutter;
@@ -88,14 +88,14 @@ fn find_version(c: &mut Cutter, text: &[u8]) -> Version
 // All lines: the cutter is made here, and lent to the two loops.
 fn read_text(text: &[u8], area: &mut [u8]) -> Ended
     requires { ⌜ (size ≤ length (now area)) × (length (now text) ≤ longestText) ⌝ }
-    ensures { λ r. ⌜ ((t : List ℕ) → now (area .entry) ≡ encode empty ++ t → Left (beginAt (now (text .entry)) start) r (now (area .exit)) t) ⌝ }
+    ensures { λ r. ⌜ ((t : List ℕ) → now (area .entry) ≡ encode empty ++ t → Ends (beginAt (now (text .entry)) start) r (now (area .exit)) t) ⌝ }
 {
     let mut c = Cutter {
         at: Place(0),
         line: LineNumber(1),
     };
     match find_version(&mut c, text) {
-        Version::Refused(x) => Ended::Stopped(x),
+        Version::Refused(x) => Ended::Unread(x),
         Version::Found => read_lines(&mut c, text, area),
     }
 }
@@ -113,7 +113,7 @@ fn refusal(number: u64) -> Answer
     }
 }
 
-// Reads a text into the area that the caller lends; where a line is refused, the area is cleared again.
+// Reads a text into the area that the caller lends. Where a line after the version line is refused, the area is cleared again.
 pub fn read(text: &[u8], area: &mut [u8]) -> Answer
     ensures { λ r. ⌜ r ≡ readText (now (text .entry)) (now (area .entry)) .answer ⌝ }
     ensures { λ r. ⌜ now (area .exit) ≡ readText (now (text .entry)) (now (area .entry)) .area ⌝ }
@@ -127,6 +127,7 @@ pub fn read(text: &[u8], area: &mut [u8]) -> Answer
     clear(area);
     match read_text(text, area) {
         Ended::Accepted => refusal(0),
+        Ended::Unread(x) => x,
         Ended::Stopped(x) => {
             clear(area);
             x

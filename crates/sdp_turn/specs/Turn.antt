@@ -19,7 +19,7 @@ use Rattle.sdp_line.specs.Version.{answer, noVersion, openingOf}
 use Rattle.sdp_line.specs.declared.Opening.{Opening}
 use Rattle.sdp_line.specs.declared.Opening.the-variants as opening
 use Rattle.sdp_turn.specs.declared.Ended.{Ended}
-use Rattle.sdp_turn.specs.declared.Ended.the-variants.{Accepted, Stopped}
+use Rattle.sdp_turn.specs.declared.Ended.the-variants.{Accepted, Stopped, Unread}
 use Rattle.sdp_turn.specs.declared.Turn.{Turn}
 use Rattle.sdp_turn.specs.declared.Turn.the-variants.{Goes, Over}
 use Rattle.sdp_turn.specs.declared.Search.{Search}
@@ -49,6 +49,7 @@ Left (accepted s) Accepted a t = a ≡ encode s ++ t
 Left (accepted s) (Stopped y) a t = ⊥
 Left (refused x) Accepted a t = ⊥
 Left (refused x) (Stopped y) a t = (y ≡ x) × (drop size a ≡ t)
+Left v (Unread y) a t = ⊥
 
 -- ---- after the version
 -- what a line does to a run: it goes on, or is over

@@ -17,10 +17,11 @@ use sdp_lines::fault_number;
 use sdp_step::Marks;
 use sdp_step::Taken;
 
-// How the lines ended.
+// How the lines ended. Where the version is refused, none was read.
 pub enum Ended {
     Accepted,
     Stopped(Answer),
+    Unread(Answer),
 }
 
 // What a line did to a run: it goes on, with what is kept beside the area, or is over.

@@ -1,7 +1,7 @@
 -- `sdp_read::read` meets its contract. Assumes nothing.
 use lib.ListN.{drop}
 use Rattle.sdp_area.specs.Area.{size}
-use Rattle.sdp_read.proofs.ReadLaws.{cleared-empty, says-short, says-long, says-accepted, says-stopped}
+use Rattle.sdp_read.proofs.ReadLaws.{cleared-empty, says-short, says-long, says-accepted, says-unread, says-stopped}
 use borrow.Author.Needs.{needs}
 use Rattle.sdp_read.proofs.read.Statement.{statement}
 use Rattle.sdp_read.proofs.read.Tie as tie
@@ -28,13 +28,23 @@ returns-3 c =
 
 returns-4 : tie.Need-returns-4
 returns-4 c =
+    let x = c .before in
+    let k = x .before .before .before .before in
+    let l = k .before .before .before .before in
+    let i = l .before .before in
+    let a = i .before .before .before .before .args in
+    says-unread (a .text .now) (a .area .now) (i .before .if1 .left) (i .if2 .left) _ _
+    (rw (x .x .given .1) at (k .read-text .ensures (drop size (a .area .now)) (cleared-empty (a .area .now) _ (l .clear .ensures))))
+
+returns-5 : tie.Need-returns-5
+returns-5 c =
     let x = c .before .before .before .before .before in
     let k = x .before .before .before .before in
     let l = k .before .before .before .before in
     let i = l .before .before in
     let a = i .before .before .before .before .args in
     says-stopped (a .text .now) (a .area .now) (i .before .if1 .left) (i .if2 .left) _ _ _
-    (rw (x .x .given .1) at (k .read-text .ensures (drop size (a .area .now)) (cleared-empty (a .area .now) _ (l .clear .ensures)))) (c .before .before .clear2 .ensures)
+    (rw (x .x2 .given .1) at (k .read-text .ensures (drop size (a .area .now)) (cleared-empty (a .area .now) _ (l .clear .ensures)))) (c .before .before .clear2 .ensures)
 
 pub read-spec : {M : Type 1} → statement M
 read-spec =
@@ -49,8 +59,11 @@ read-spec =
     (λ c. search needs)
     (λ c κs. search needs)
     (λ c. search needs)
+    (λ c. search needs)
     (λ c κs. search needs)
     (λ c. search needs)
     returns-3
     (λ c. search needs)
-    returns-4)
+    returns-4
+    (λ c. search needs)
+    returns-5)

@@ -54,9 +54,9 @@ use Rattle.sdp_cutter.specs.Cutter.{due}
 use Rattle.sdp_cutter.specs.declared.Cutter.{Cutter}
 use Rattle.sdp_step.specs.Step.{fresh}
 use Rattle.sdp_turn.specs.Turn.{Left}
-use Rattle.sdp_read.specs.From.{Reached, runAt, beginAt, Begun}
+use Rattle.sdp_read.specs.From.{Reached, runAt, beginAt, Begun, Ends}
 use Rattle.sdp_turn.specs.declared.Ended.{Ended}
-use Rattle.sdp_turn.specs.declared.Ended.the-variants.{Stopped}
+use Rattle.sdp_turn.specs.declared.Ended.the-variants.{Unread}
 use Rattle.sdp_turn.specs.declared.Version.{Version}
 use Rattle.sdp_turn.specs.declared.Version.the-variants.{Found, Refused}
 use Rattle.sdp_read.proofs.AgainLaws.{SliceLent, lends-slice-again, slice-comes-back}
@@ -126,10 +126,10 @@ module _ (x : Answer) (w : Val) (is : Is U.the-row (Refused x) (w ∷ [])) where
       let k = EL.owed U.the-type U′.the-laws (Refused x) _ is .0 in
       subst (Is Y.the-row x) (Y′.lowers .val-is x _ k) k
 
-  stopped-is : Is E.the-row (Stopped x) (E′.lowered (Stopped x) ∷ [])
-  stopped-is =
-      let k = EL.owes E.the-type E′.the-laws (Stopped x) (EL.owed U.the-type U′.the-laws (Refused x) _ is .0, tt) in
-      subst (Is E.the-row (Stopped x)) (E′.lowers .val-is (Stopped x) _ k) k
+  unread-is : Is E.the-row (Unread x) (E′.lowered (Unread x) ∷ [])
+  unread-is =
+      let k = EL.owes E.the-type E′.the-laws (Unread x) (EL.owed U.the-type U′.the-laws (Refused x) _ is .0, tt) in
+      subst (Is E.the-row (Unread x)) (E′.lowers .val-is (Unread x) _ k) k
 
 module _ {M : Type 1} (𝓤 : URA M) (H : Heap 𝓤) (A : Atoms 𝓤) (W : Given 𝓤 H A) (at-mem : Memory → SProp 𝓤) (run : Routine → Fun 𝓤) (κ κ′ : Lft) (q q′ : Share) (s : RefT (List ℕ)) (b o : ℕ) (γ : GName) (ys : List ℕ) where
   -- the area as it was lent, or at another list or under another name
@@ -160,7 +160,7 @@ module _ {M : Type 1} (𝓤 : URA M) (H : Heap 𝓤) (A : Atoms 𝓤) (W : Given
 
   -- what is ensured
   abbrev Says : Ended → List ℕ → Type 0
-  Says x zs = (t : List ℕ) → ys ≡ encode empty ++ t → Left (beginAt (now s) start) x zs t
+  Says x zs = (t : List ℕ) → ys ≡ encode empty ++ t → Ends (beginAt (now s) start) x zs t
 
   -- a cutter in a local's cell is one that lies in memory, as a lender has it
   lies : (z : Cutter) → Is T.the-row z (T′.lowered z ∷ []) → (l : ℕ) → ent 𝓤 (H .at fullShare T′.mir l 0 (T′.lowered z)) (sem 𝓤 H A (partAt T.the-row fullShare z l 0))
@@ -225,16 +225,16 @@ module _ {M : Type 1} (𝓤 : URA M) (H : Heap 𝓤) (A : Atoms 𝓤) (W : Given
       nothing ! $ move ! (3 ∷ 0 ∷ []) $ fjoin ! $ move ! (2 ∷ 0 ∷ []) $ fjoin ! $ move ! (1 ∷ 0 ∷ []) $ fjoin ! $ done !
 
   -- after it: the lifetimes are ended, and the cutter and the area come back
-  abbrev Ends : Cutter → Ended → List ℕ → Type 0
-  Ends z x zs = (t : List ℕ) → ys ≡ encode empty ++ t → Left (runAt (now s) fresh (due z)) x zs t
+  abbrev Rests : Cutter → Ended → List ℕ → Type 0
+  Rests z x zs = (t : List ℕ) → ys ≡ encode empty ++ t → Left (runAt (now s) fresh (due z)) x zs t
 
   came : {G : Goal 𝓤 H} {Γ : List (Item 𝓤)} → Soaks G → Room u8 (length ys) → (ν ν′ l : ℕ) (δ δ′ : GName) (z : Cutter) (x : Ended) (w : Val)
-      → ((y : Cutter) (zs : List ℕ) → Ends z x zs → length zs ≡ length ys → Is E.the-row x (w ∷ []) → Sq W (‵ (fat fullShare T′.mir l 0 (T′.lowered y)) ∷ (‵ (flft κ q) ⊛ ‵ ftrue) ∷ ‵ (flft κ′ q′) ∷ ‵ (Area κ′ γ zs) ∷ Γ) G)
+      → ((y : Cutter) (zs : List ℕ) → Rests z x zs → length zs ≡ length ys → Is E.the-row x (w ∷ []) → Sq W (‵ (fat fullShare T′.mir l 0 (T′.lowered y)) ∷ (‵ (flft κ q) ⊛ ‵ ftrue) ∷ ‵ (flft κ′ q′) ∷ ‵ (Area κ′ γ zs) ∷ Γ) G)
       → Sq W (((Tokens ν ν′ ⊛ ‵ (E.the-row .own x (w ∷ []))) ⊛ raw (ensured 𝓤 H A rest.ended (rest.clauses 𝓤 H A at-mem run) (ν ∷ [], (κ, (ν′ ∷ [], tt))) (args l δ δ′ z) tt x))
       ∷ ‵ (flent (ν ∷ []) (Body (mem T.the-row) l 0 δ)) ∷ ‵ (SliceLent u8 κ′ (ν′ ∷ []) q′ γ b o δ′ ys) ∷ Γ) G
   came soaks room ν ν′ l δ δ′ z x w k =
-      split ! $ move ! (1 ∷ []) $ use1 W (some (λ (zs : Cutter × (Unit {0} × (List ℕ × Unit {0}))). ‵ (lasts rest.ended (ν ∷ [], (κ, (ν′ ∷ [], tt))) (args l δ δ′ z) zs) ⊛ raw (fact 𝓤 (Ends z x (zs .1 .1 .0))))) (id⊢ 𝓤 _) $ pick ! (λ zs.
-      split ! $ move ! (1 ∷ []) $ heard ! (Ends z x (zs .1 .1 .0)) (λ e. fsplit ! $ move ! (1 ∷ []) $ fsplit ! $ drop ! $ fsplit ! $ fsplit ! $ move ! (1 ∷ []) $ feqL ! (λ c. move ! (1 ∷ []) $ drop ! $
+      split ! $ move ! (1 ∷ []) $ use1 W (some (λ (zs : Cutter × (Unit {0} × (List ℕ × Unit {0}))). ‵ (lasts rest.ended (ν ∷ [], (κ, (ν′ ∷ [], tt))) (args l δ δ′ z) zs) ⊛ raw (fact 𝓤 (Rests z x (zs .1 .1 .0))))) (id⊢ 𝓤 _) $ pick ! (λ zs.
+      split ! $ move ! (1 ∷ []) $ heard ! (Rests z x (zs .1 .1 .0)) (λ e. fsplit ! $ move ! (1 ∷ []) $ fsplit ! $ drop ! $ fsplit ! $ fsplit ! $ move ! (1 ∷ []) $ feqL ! (λ c. move ! (1 ∷ []) $ drop ! $
       -- [the last list; the last cutter; the tokens and the answer's; the lender's part; what is kept of the area; …]
       move ! (2 ∷ []) $ split ! $ move ! (1 ∷ []) $ peeks ! E.the-row (Is E.the-row) (shows 𝓤 H A E.the-row) x (w ∷ []) (λ is. drop ! $
       split ! $ lft-end ! soaks $ move ! (0 ∷ 4 ∷ 3 ∷ []) $ use3 W (later (‵ (partAt T.the-row fullShare (zs .0) l 0))) (ref-back 𝓤 H A W T.the-row (ν ∷ []) δ (zs .0) l 0) $ await ! soaks $
@@ -356,9 +356,9 @@ module _ {M : Type 1} (𝓤 : URA M) (H : Heap 𝓤) (A : Atoms 𝓤) (W : Given
               land ! (from ! (stop !)) (init ! 15 refl (EL.lawful U.the-type U′.the-laws 𝓤 H A W tt .typed (Refused x) _ is .0)) $ rewrite ! 15 (λ (k : Val). ‵ (fat fullShare U′.mir l₇ 0 k)) (version-w (Refused x) w is) refl $
               first ! $ by-variants ! 15 (whole !) (load ! (from ! (vrt ! refl (fld ! refl (stop !)))) (look-tag ! 15 (whole !))) tt (
                 (λ k. assigns ! (of-opd ! (load ! (from ! (vrt ! refl (fld ! refl (stop !)))) (look-in ! 15 (in-variant ! 1 0 refl refl (whole !))))) (from ! (stop !)) (init ! 21 refl (LL.lawful Y.the-type Y′.the-laws 𝓤 H A W .typed x _ (refusal-is x w is) .0)) $
-                    assigns-last ! (agg ! (and-then ! (lit ! tt) (and-then ! (load ! (from ! (stop !)) (look ! 21 refl)) (no-more !)))) (from ! (stop !)) (init ! 11 refl (EL.lawful E.the-type E′.the-laws 𝓤 H A W tt .typed (Stopped x) _ (stopped-is x w is) .0)) $
+                    assigns-last ! (agg ! (and-then ! (lit ! tt) (and-then ! (load ! (from ! (stop !)) (look ! 21 refl)) (no-more !)))) (from ! (stop !)) (init ! 11 refl (EL.lawful E.the-type E′.the-laws 𝓤 H A W tt .typed (Unread x) _ (unread-is x w is) .0)) $
                     forget ! 0 refl $ forget ! 13 refl $ forget ! 15 refl $ forget ! 17 refl $ forget ! 19 refl $ forget ! 21 refl $
-                    leaves l₀ l₁ l₂ l₃ l₄ l₅ l₆ l₇ l₈ l₉ l₁₀ l₁₁ l₁₂ (Stopped x) ys (text-refused (now s) x e ys) refl (stopped-is x w is)),
+                    leaves l₀ l₁ l₂ l₃ l₄ l₅ l₆ l₇ l₈ l₉ l₁₀ l₁₁ l₁₂ (Unread x) ys (text-refused (now s) x e ys) refl (unread-is x w is)),
                 ((λ k. absurd (omega (arith, k))), tt),
               )))
         ])))))))))))))))))
