@@ -75,16 +75,9 @@ pub fn read(text: &[u8]) -> Result<Session, Refusal> {
     if table.is_none() {
         return answer;
     }
-    // The records only grow with the lines: halve to the first line after which they don't fit.
-    let (mut fits, mut over) = (0, accepted);
-    while over - fits > 1 {
-        let middle = fits + (over - fits) / 2;
-        if full_after(text, &ends, middle).is_some() {
-            over = middle;
-        } else {
-            fits = middle;
-        }
-    }
+    // The records only grow with the lines.
+    let lines: Vec<usize> = (1..=accepted).collect();
+    let over = lines[lines.partition_point(|&line| full_after(text, &ends, line).is_none())];
     let table = full_after(text, &ends, over).expect("after this line a table is too small");
     Err(Refusal::at_field(21, over, table))
 }
