@@ -1,4 +1,4 @@
--- A `&κ mut [T]` that is lent again for a lifetime κ′ of a call, and comes back: `denote.Lend`'s `lends-again` and `comes-back`, of a slice whose machine value, a pointer and the count n, stays.
+-- A `&κ mut [T]` that is lent again for a lifetime κ′ of a call, and comes back: `denote.Lend`'s `lends-again` and `comes-back`, of a slice whose machine value, a pointer and the count n, stays. After `Again.antt` of the kit's example `writer`, which offers itself for copying; there n is the length of the list that is held.
 --     SliceLent            what the holder keeps while the slice is lent again under the name γ₁: the lender's part at κ′, and its own borrow at κ, open, with both halves of its ghost variable
 --     lends-slice-again    own (the `&κ mut [T]` ((b, o), γ, ys)) ∗ [κ]_q  ⊢ ⇛ ∃ γ₁. own (the `&κ′ mut [T]` ((b, o), γ₁, ys)) ∗ SliceLent γ₁
 --     slice-comes-back     given `Room` and that zs is as long as ys:  [†κ′] ∗ SliceLent γ₁ ∗ finally γ₁ zs  ⊢ ⇛ (own (the `&κ mut [T]` ((b, o), γ, zs)) ∗ [κ]_q)

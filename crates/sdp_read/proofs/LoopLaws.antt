@@ -16,11 +16,9 @@ use Rattle.sdp_area.specs.Area.{encode}
 use Rattle.sdp_step.specs.Step.{Reading, fresh}
 use Rattle.sdp_step.specs.Hold.{Holds}
 use Rattle.sdp_step.specs.declared.Marks.{Marks}
+use Rattle.sdp_turn.specs.Turn.{Left, Lined, on, over, Turned}
 use Rattle.sdp_read.specs.Run.{refused}
-use Rattle.sdp_turn.specs.Turn.{Left}
-use Rattle.sdp_read.specs.From.{Reached, runAt, beginAt, Begun, Ends}
-use Rattle.sdp_turn.specs.Turn.{Lined, on, over, Turned}
-use Rattle.sdp_read.specs.From.{lineAt, versionAt}
+use Rattle.sdp_read.specs.From.{Reached, runAt, beginAt, lineAt, versionAt, Begun, Ends}
 use Rattle.sdp_turn.specs.declared.Ended.{Ended}
 use Rattle.sdp_turn.specs.declared.Ended.the-variants.{Accepted, Stopped, Unread}
 use Rattle.sdp_turn.specs.declared.Turn.the-variants.{Goes, Over}

@@ -21,10 +21,9 @@ use Rattle.sdp_strings.specs.Strings.{spanAt}
 use Rattle.sdp_step.specs.Step.{Reading, Stepped, goes, stops, step, fresh}
 use Rattle.sdp_line.specs.Version.{noVersion, badVersion, isZero, openingOf}
 use Rattle.sdp_line.specs.declared.Opening.the-variants as opening
-use Rattle.sdp_read.specs.Run.{Verdict, refused, after, stepForm, run, version as firstLine, beginForm, begin}
-use Rattle.sdp_read.specs.From.{Reached, runAt, beginAt}
 use Rattle.sdp_turn.specs.Turn.{Lined, on, over, stepped, lineOf, openedTo, versionOf}
-use Rattle.sdp_read.specs.From.{lineAt, versionAt}
+use Rattle.sdp_read.specs.Run.{Verdict, refused, after, stepForm, run, version as firstLine, beginForm, begin}
+use Rattle.sdp_read.specs.From.{Reached, runAt, beginAt, lineAt, versionAt}
 use Rattle.sdp_turn.specs.declared.Search.{Search}
 use Rattle.sdp_turn.specs.declared.Search.the-variants.{On, Told}
 use Rattle.sdp_turn.specs.declared.Version.the-variants as version

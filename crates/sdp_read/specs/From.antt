@@ -33,10 +33,11 @@ unfoldable pub beginAt : List ℕ → Cursor → Verdict Span
 beginAt s c = begin spanAt (c .line .0) (c .at .0) (split (drop (c .at .0) s))
 
 -- ---- one line
--- what the line that stands at a cursor does to a run, and what it says of the version
+-- what the line that stands at a cursor does to a run
 unfoldable pub lineAt : List ℕ → Reading Span → Cursor → Lined
 lineAt s ρ c = lineOf s ρ (moveAt s (c .at) (c .line) .next)
 
+-- and what it says of the version
 unfoldable pub versionAt : List ℕ → Cursor → Search
 versionAt s c = versionOf s (moveAt s (c .at) (c .line) .next)
 

@@ -43,7 +43,8 @@ fn one_line(c: &mut Cutter, text: &[u8], area: &mut [u8], marks: Marks) -> Turn
 // The lines after the version line: the cutter is lent for each.
 fn read_lines(c: &mut Cutter, text: &[u8], area: &mut [u8]) -> Ended
     requires { ⌜ (size ≤ length (now area)) × ((length (now text) ≤ longestText) × Reached (now text) (due (now c))) ⌝ }
-    ensures { λ r. ⌜ ((t : List ℕ) → now (area .entry) ≡ encode empty ++ t → Left (runAt (now (text .entry)) fresh (due (now (c .entry)))) r (now (area .exit)) t) ⌝ }
+    ensures { λ r. ⌜ ((t : List ℕ) → now (area .entry) ≡ encode empty ++ t
+        → Left (runAt (now (text .entry)) fresh (due (now (c .entry)))) r (now (area .exit)) t) ⌝ }
 {
     let mut marks = Marks {
         named: false,
@@ -88,7 +89,8 @@ fn find_version(c: &mut Cutter, text: &[u8]) -> Version
 // All lines: the cutter is made here, and lent to the two loops.
 fn read_text(text: &[u8], area: &mut [u8]) -> Ended
     requires { ⌜ (size ≤ length (now area)) × (length (now text) ≤ longestText) ⌝ }
-    ensures { λ r. ⌜ ((t : List ℕ) → now (area .entry) ≡ encode empty ++ t → Ends (beginAt (now (text .entry)) start) r (now (area .exit)) t) ⌝ }
+    ensures { λ r. ⌜ ((t : List ℕ) → now (area .entry) ≡ encode empty ++ t
+        → Ends (beginAt (now (text .entry)) start) r (now (area .exit)) t) ⌝ }
 {
     let mut c = Cutter {
         at: Place(0),

@@ -46,8 +46,7 @@ use denote.Exit.{yes}
 use Rattle.sdp_numbers.specs.Refusals.{longestText}
 use Rattle.sdp_cutter.specs.Cutter.{moveAt, standing, due}
 use Rattle.sdp_cutter.specs.declared.Cutter.{Cutter}
-use Rattle.sdp_read.specs.From.{Reached, beginAt, Begun}
-use Rattle.sdp_read.specs.From.{versionAt}
+use Rattle.sdp_read.specs.From.{Reached, beginAt, versionAt, Begun}
 use Rattle.sdp_turn.specs.declared.Search.{Search}
 use Rattle.sdp_turn.specs.declared.Search.the-variants.{On, Told}
 use Rattle.sdp_turn.specs.declared.Version.{Version}

@@ -52,10 +52,8 @@ use Rattle.sdp_cutter.specs.Cutter.{moveAt, standing, due}
 use Rattle.sdp_cutter.specs.declared.Cutter.{Cutter}
 use Rattle.sdp_step.specs.Step.{fresh}
 use Rattle.sdp_step.specs.declared.Marks.{Marks}
-use Rattle.sdp_turn.specs.Turn.{Left}
-use Rattle.sdp_read.specs.From.{Reached, runAt}
-use Rattle.sdp_turn.specs.Turn.{Turns, Passes}
-use Rattle.sdp_read.specs.From.{lineAt}
+use Rattle.sdp_turn.specs.Turn.{Left, Turns, Passes}
+use Rattle.sdp_read.specs.From.{Reached, runAt, lineAt}
 use Rattle.sdp_turn.specs.declared.Ended.{Ended}
 use Rattle.sdp_turn.specs.declared.Turn.{Turn}
 use Rattle.sdp_turn.specs.declared.Turn.the-variants.{Goes, Over}
