@@ -1,13 +1,75 @@
--- Laws of allToken over the rest of a list from an index.
--- Assumes nothing.
-use Prim.Native.Nat.{ℕ, _+_, _<_, _≤_}
+-- The paper's ranges of token characters are the RFC's list; token characters are below 80 hexadecimal; allToken over the rest of a
+-- list from an index. Assumes nothing.
+use Prim.Native.Nat.{ℕ, zero, suc, _+_, _-_, _<_, _≤_, zero-le}
+use native.Mathlib.Decide.{decLt}
 use native.Mathlib.Numerals.{add-one}
-use mathlib.Core.Path.{_≡_}
-use mathlib.Core.Bool.{true, false}
-use mathlib.Core.List.{List}
+use native.Mathlib.Omega.{arith}
+use mathlib.Core.Path.{_≡_, refl, sym, subst, _∙_}
+use mathlib.Core.Bool.{Bool, true, false, _&&_, Bool·beq, and-false, false≢true}
+use mathlib.Core.List.{List, [], _∷_}
+use borrow.Author.Tests.{ne-eqb, lt-leb, le-leb, ltb-true}
+use lib.Dec.{ltb, eqb, lit<, lit≤}
 use lib.ListN.{length, getD, drop, drop-of-length-le}
 use lib.Seq.{drop-cons}
-use Rattle.sdp_bytes.specs.Token.{tokenChar, allToken}
+use Rattle.sdp_bytes.specs.Ranges.{Range, _to_, within, inSome}
+use Rattle.sdp_bytes.specs.Token.{tokenChar, tokenRanges, allToken}
+use Rattle.sdp_bytes.proofs.ScanLaws.{and-left, and-right}
+
+beq-true : (a b : Bool) → Bool·beq a b ≡ true → a ≡ b
+beq-true true true e = refl
+beq-true true false e = sym e
+beq-true false true e = e
+beq-true false false e = refl
+
+-- two tests say the same of k numbers from lo on: where both can be computed, so can this
+unfoldable pub agree : (ℕ → Bool) → (ℕ → Bool) → ℕ → ℕ → Bool
+agree p q lo zero = true
+agree p q lo (suc k) = Bool·beq (p lo) (q lo) && agree p q (suc lo) k
+
+agree-at : (p q : ℕ → Bool) (k lo b : ℕ) → lo ≤ b → b < lo + k → agree p q lo k ≡ true → p b ≡ q b
+unfolding agree
+agree-at p q zero lo b h l e = absurd (omega arith)
+agree-at p q (suc k) lo b h l e = elim (decLt lo b) [
+  | yes m ↦ agree-at p q k (suc lo) b m (omega arith) (and-right (Bool·beq (p lo) (q lo)) (agree p q (suc lo) k) e)
+  | no m ↦ subst (λ (n : ℕ). p n ≡ q n) (omega arith) (beq-true (p lo) (q lo) (and-left (Bool·beq (p lo) (q lo)) (agree p q (suc lo) k) e))
+]
+
+module _ (b : ℕ) (h : 0x80 ≤ b) where
+  other : (c : ℕ) → c < 0x80 → eqb b c ≡ false
+  other c l = ne-eqb b c (λ e. omega arith)
+
+  outside : (lo hi : ℕ) → lo ≤ 0x80 → hi < 0x80 → within (lo to hi) b ≡ false
+  outside lo hi k l = rw (le-leb lo b (omega arith), lt-leb b hi (omega arith))
+
+  not-token : tokenChar b ≡ false
+  not-token =
+      rw (outside 0x41 0x5a (lit≤ tt) (lit< tt), outside 0x61 0x7a (lit≤ tt) (lit< tt), outside 0x30 0x39 (lit≤ tt) (lit< tt), other 0x21 (lit< tt), other 0x23 (lit< tt), other 0x24 (lit< tt), other 0x25 (lit< tt), other 0x26 (lit< tt), other 0x27 (lit< tt), other 0x2a (lit< tt), other 0x2b (lit< tt), other 0x2d (lit< tt), other 0x2e (lit< tt), other 0x5e (lit< tt), other 0x5f (lit< tt), other 0x60 (lit< tt), other 0x7b (lit< tt), other 0x7c (lit< tt), other 0x7d (lit< tt), other 0x7e (lit< tt))
+
+-- every range ends below n: where the ranges are known, this computes
+unfoldable below : ℕ → List Range → Bool
+below n [] = true
+below n ((lo to hi) ∷ rs) = ltb hi n && below n rs
+
+above : (n b : ℕ) → n ≤ b → (rs : List Range) → below n rs ≡ true → inSome rs b ≡ false
+unfolding below inSome
+above n b h [] e = refl
+above n b h ((lo to hi) ∷ rs) e =
+    rw (lt-leb b hi (omega (arith, ltb-true hi n (and-left (ltb hi n) (below n rs) e))), and-false, above n b h rs (and-right (ltb hi n) (below n rs) e))
+
+-- the paper's seven ranges and the RFC's list are the same set: computed below 80 hexadecimal, empty from there on
+pub ranges-are-token : (b : ℕ) → inSome tokenRanges b ≡ tokenChar b
+unfolding agree below inSome
+ranges-are-token b = elim (decLt b 0x80) [
+  | yes h ↦ agree-at (inSome tokenRanges) tokenChar 0x80 0 b zero-le h refl
+  | no h ↦ above 0x80 b (omega arith) tokenRanges refl ∙ sym (not-token b (omega arith))
+]
+
+-- a test that says what the ranges say of the numbers from lo on below hi says there what the RFC says
+pub between : (q : ℕ → Bool) (lo hi b : ℕ) → lo ≤ b → b < hi → agree q (inSome tokenRanges) lo (hi - lo) ≡ true → q b ≡ tokenChar b
+between q lo hi b h l e = agree-at q (inSome tokenRanges) (hi - lo) lo b h (omega arith) e ∙ ranges-are-token b
+
+pub token-small : (b : ℕ) → tokenChar b ≡ true → b < 0x80
+token-small b e = elim (decLt b 0x80) [ yes h ↦ h | no h ↦ absurd (false≢true (sym (not-token b (omega arith)) ∙ e)) ]
 
 module _ (s : List ℕ) (i : ℕ) where
   pub token-next : i < length s → tokenChar (getD s i 0) ≡ true → allToken (drop i s) ≡ allToken (drop (i + 1) s)

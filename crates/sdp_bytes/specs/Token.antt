@@ -4,7 +4,7 @@ use mathlib.Core.Bool.{Bool, true, false, _&&_, _||_}
 use mathlib.Core.List.{List, [], _∷_}
 use lib.ListN.{length}
 use lib.Dec.{ltb, eqb}
-use Rattle.sdp_bytes.specs.Ranges.{_to_, within}
+use Rattle.sdp_bytes.specs.Ranges.{Range, _to_, within}
 
 -- RFC 5234, appendix B.1: ALPHA = %x41-5A / %x61-7A
 abbrev pub alpha : ℕ → Bool
@@ -23,6 +23,11 @@ mark b =
 -- token-char = ALPHA / DIGIT / "!" / "#" / .. / "~"
 abbrev pub tokenChar : ℕ → Bool
 tokenChar b = alpha b || digit b || mark b
+
+-- document 01, "Fields": bytes 21, 23-27, 2A-2B, 2D-2E, 30-39, 41-5A, 5E-7E hexadecimal. The code has these; that they are the
+-- RFC's characters is the theorem `ranges-are-token`.
+abbrev pub tokenRanges : List Range
+tokenRanges = 0x21 to 0x21 ∷ 0x23 to 0x27 ∷ 0x2a to 0x2b ∷ 0x2d to 0x2e ∷ 0x30 to 0x39 ∷ 0x41 to 0x5a ∷ 0x5e to 0x7e ∷ []
 
 -- every byte is a token character
 unfoldable pub allToken : List ℕ → Bool

@@ -1,49 +1,16 @@
 // The token test of RFC 8866.
 ghost use mathlib.Core.Path.{_≡_};
-ghost use Rattle.sdp_bytes.specs.Token.{alpha, digit, mark, tokenChar, isToken};
+ghost use Rattle.sdp_bytes.specs.Token.{tokenChar, isToken};
 
-// A to Z, a to z.
-fn alpha(b: u8) -> bool
-    ensures { λ r. ⌜ r ≡ alpha b ⌝ }
-{
-    ((b'A' <= b) & (b <= b'Z')) | ((b'a' <= b) & (b <= b'z'))
-}
-
-// 0 to 9.
-fn digit(b: u8) -> bool
-    ensures { λ r. ⌜ r ≡ digit b ⌝ }
-{
-    (b'0' <= b) & (b <= b'9')
-}
-
-// One of the other characters of a token.
-fn mark(b: u8) -> bool
-    ensures { λ r. ⌜ r ≡ mark b ⌝ }
-{
-    (b == b'!')
-        | (b == b'#')
-        | (b == b'$')
-        | (b == b'%')
-        | (b == b'&')
-        | (b == b'\'')
-        | (b == b'*')
-        | (b == b'+')
-        | (b == b'-')
-        | (b == b'.')
-        | (b == b'^')
-        | (b == b'_')
-        | (b == b'`')
-        | (b == b'{')
-        | (b == b'|')
-        | (b == b'}')
-        | (b == b'~')
-}
-
-// Whether b is a token character.
+// Whether b is a token character: the seven ranges of document 01, in its order.
 pub fn token_char(b: u8) -> bool
     ensures { λ r. ⌜ r ≡ tokenChar b ⌝ }
 {
-    alpha(b) | digit(b) | mark(b)
+    match b {
+        0x21 | 0x23..=0x27 | 0x2a..=0x2b | 0x2d..=0x2e | 0x30..=0x39 | 0x41..=0x5a | 0x5e..=0x7e =>
+            true,
+        _ => false,
+    }
 }
 
 // Whether s is a token: at least one byte, each a token character.
