@@ -1,11 +1,11 @@
 -- The paper's ranges of token characters are the RFC's list; token characters are below 80 hexadecimal; allToken over the rest of a
 -- list from an index. Assumes nothing.
-use Prim.Native.Nat.{ℕ, zero, suc, _+_, _-_, _<_, _≤_, zero-le}
+use Prim.Native.Nat.{ℕ, zero, suc, _+_, _<_, _≤_}
 use native.Mathlib.Decide.{decLt}
 use native.Mathlib.Numerals.{add-one}
 use native.Mathlib.Omega.{arith}
 use mathlib.Core.Path.{_≡_, refl, sym, subst, _∙_}
-use mathlib.Core.Bool.{Bool, true, false, _&&_, Bool·beq, and-false, false≢true}
+use mathlib.Core.Bool.{Bool, true, false, _&&_, _||_, Bool·beq, and-false, or-assoc, or-false, false≢true}
 use mathlib.Core.List.{List, [], _∷_}
 use borrow.Author.Tests.{ne-eqb, lt-leb, le-leb, ltb-true}
 use lib.Dec.{ltb, eqb, lit<, lit≤}
@@ -21,17 +21,17 @@ beq-true true false e = sym e
 beq-true false true e = e
 beq-true false false e = refl
 
--- two tests say the same of k numbers from lo on: where both can be computed, so can this
-unfoldable pub agree : (ℕ → Bool) → (ℕ → Bool) → ℕ → ℕ → Bool
-agree p q lo zero = true
-agree p q lo (suc k) = Bool·beq (p lo) (q lo) && agree p q (suc lo) k
+-- two tests say the same of every number below n: where both can be computed, so can this
+unfoldable agree : (ℕ → Bool) → (ℕ → Bool) → ℕ → Bool
+agree p q zero = true
+agree p q (suc n) = Bool·beq (p n) (q n) && agree p q n
 
-agree-at : (p q : ℕ → Bool) (k lo b : ℕ) → lo ≤ b → b < lo + k → agree p q lo k ≡ true → p b ≡ q b
+agree-at : (p q : ℕ → Bool) (n : ℕ) → agree p q n ≡ true → (b : ℕ) → b < n → p b ≡ q b
 unfolding agree
-agree-at p q zero lo b h l e = absurd (omega arith)
-agree-at p q (suc k) lo b h l e = elim (decLt lo b) [
-  | yes m ↦ agree-at p q k (suc lo) b m (omega arith) (and-right (Bool·beq (p lo) (q lo)) (agree p q (suc lo) k) e)
-  | no m ↦ subst (λ (n : ℕ). p n ≡ q n) (omega arith) (beq-true (p lo) (q lo) (and-left (Bool·beq (p lo) (q lo)) (agree p q (suc lo) k) e))
+agree-at p q zero e b h = absurd (omega arith)
+agree-at p q (suc n) e b h = elim (decLt b n) [
+  | yes l ↦ agree-at p q n (and-right (Bool·beq (p n) (q n)) (agree p q n) e) b l
+  | no l ↦ subst (λ (m : ℕ). p m ≡ q m) (omega arith) (beq-true (p n) (q n) (and-left (Bool·beq (p n) (q n)) (agree p q n) e))
 ]
 
 module _ (b : ℕ) (h : 0x80 ≤ b) where
@@ -60,13 +60,22 @@ above n b h ((lo to hi) ∷ rs) e =
 pub ranges-are-token : (b : ℕ) → inSome tokenRanges b ≡ tokenChar b
 unfolding agree below inSome
 ranges-are-token b = elim (decLt b 0x80) [
-  | yes h ↦ agree-at (inSome tokenRanges) tokenChar 0x80 0 b zero-le h refl
+  | yes h ↦ agree-at (inSome tokenRanges) tokenChar 0x80 refl b h
   | no h ↦ above 0x80 b (omega arith) tokenRanges refl ∙ sym (not-token b (omega arith))
 ]
 
--- a test that says what the ranges say of the numbers from lo on below hi says there what the RFC says
-pub between : (q : ℕ → Bool) (lo hi b : ℕ) → lo ≤ b → b < hi → agree q (inSome tokenRanges) lo (hi - lo) ≡ true → q b ≡ tokenChar b
-between q lo hi b h l e = agree-at q (inSome tokenRanges) (hi - lo) lo b h (omega arith) e ∙ ranges-are-token b
+-- tests joined from the left, as code joins them, t being what was joined so far
+unfoldable pub joined : Bool → List Range → ℕ → Bool
+joined t [] b = t
+joined t (r ∷ rs) b = joined (t || within r b) rs b
+
+joined-is : (t : Bool) (rs : List Range) (b : ℕ) → joined t rs b ≡ (t || inSome rs b)
+unfolding joined inSome
+joined-is t [] b = sym (or-false t)
+joined-is t (r ∷ rs) b = joined-is (t || within r b) rs b ∙ or-assoc t (within r b) (inSome rs b)
+
+pub joined-token : (b : ℕ) → joined false tokenRanges b ≡ tokenChar b
+joined-token b = joined-is false tokenRanges b ∙ ranges-are-token b
 
 pub token-small : (b : ℕ) → tokenChar b ≡ true → b < 0x80
 token-small b e = elim (decLt b 0x80) [ yes h ↦ h | no h ↦ absurd (false≢true (sym (not-token b (omega arith)) ∙ e)) ]

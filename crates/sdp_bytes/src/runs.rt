@@ -9,7 +9,7 @@ ghost use Rattle.sdp_bytes.specs.Runs.{run, runLen};
 use sdp_cells::get2;
 
 // Whether b is one of lo..=hi.
-fn inside(b: u8, lo: u8, hi: u8) -> bool
+pub(crate) fn inside(b: u8, lo: u8, hi: u8) -> bool
     ensures { λ r. ⌜ r ≡ within (lo to hi) b ⌝ }
 {
     (lo <= b) & (b <= hi)

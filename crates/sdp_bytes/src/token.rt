@@ -1,16 +1,19 @@
 // The token test of RFC 8866.
 ghost use mathlib.Core.Path.{_≡_};
 ghost use Rattle.sdp_bytes.specs.Token.{tokenChar, isToken};
+use super::runs::inside;
 
 // Whether b is a token character: the seven ranges of document 01, in its order.
 pub fn token_char(b: u8) -> bool
     ensures { λ r. ⌜ r ≡ tokenChar b ⌝ }
 {
-    match b {
-        0x21 | 0x23..=0x27 | 0x2a..=0x2b | 0x2d..=0x2e | 0x30..=0x39 | 0x41..=0x5a | 0x5e..=0x7e =>
-            true,
-        _ => false,
-    }
+    inside(b, 0x21, 0x21) // !
+        | inside(b, 0x23, 0x27) // # $ % & '
+        | inside(b, 0x2a, 0x2b) // * +
+        | inside(b, 0x2d, 0x2e) // - .
+        | inside(b, 0x30, 0x39) // 0 to 9
+        | inside(b, 0x41, 0x5a) // A to Z
+        | inside(b, 0x5e, 0x7e) // ^ _ ` a to z { | } ~
 }
 
 // Whether s is a token: at least one byte, each a token character.
