@@ -7,11 +7,11 @@ use native.Mathlib.Omega.{arith}
 use mathlib.Core.Path.{_≡_, refl, sym, subst, _∙_}
 use mathlib.Core.Bool.{Bool, true, false, _&&_, _||_, Bool·beq, and-false, or-assoc, or-false, false≢true}
 use mathlib.Core.List.{List, [], _∷_}
-use borrow.Author.Tests.{ne-eqb, lt-leb, le-leb, ltb-true}
-use lib.Dec.{ltb, eqb, lit<, lit≤}
+use borrow.Author.Tests.{ne-eqb, lt-leb, ltb-true}
+use lib.Dec.{ltb, leb, eqb}
 use lib.ListN.{length, getD, drop, drop-of-length-le}
 use lib.Seq.{drop-cons}
-use Rattle.sdp_bytes.specs.Ranges.{Range, _to_, within, inSome}
+use Rattle.sdp_bytes.specs.Ranges.{Range, within, inSome}
 use Rattle.sdp_bytes.specs.Token.{tokenChar, tokenRanges, allToken}
 use Rattle.sdp_bytes.proofs.ScanLaws.{and-left, and-right}
 
@@ -34,34 +34,27 @@ agree-at p q (suc n) e b h = elim (decLt b n) [
   | no l ↦ subst (λ (m : ℕ). p m ≡ q m) (omega arith) (beq-true (p n) (q n) (and-left (Bool·beq (p n) (q n)) (agree p q n) e))
 ]
 
+-- from 80 hexadecimal on there is none, by either
 module _ (b : ℕ) (h : 0x80 ≤ b) where
-  other : (c : ℕ) → c < 0x80 → eqb b c ≡ false
-  other c l = ne-eqb b c (λ e. omega arith)
+  other : (c : ℕ) → ltb c 0x80 ≡ true → eqb b c ≡ false
+  other c l = ne-eqb b c (λ e. omega (arith, ltb-true c 0x80 l))
 
-  outside : (lo hi : ℕ) → lo ≤ 0x80 → hi < 0x80 → within (lo to hi) b ≡ false
-  outside lo hi k l = rw (le-leb lo b (omega arith), lt-leb b hi (omega arith))
+  past : (hi : ℕ) → ltb hi 0x80 ≡ true → leb b hi ≡ false
+  past hi l = lt-leb b hi (omega (arith, ltb-true hi 0x80 l))
 
   not-token : tokenChar b ≡ false
-  not-token =
-      rw (outside 0x41 0x5a (lit≤ tt) (lit< tt), outside 0x61 0x7a (lit≤ tt) (lit< tt), outside 0x30 0x39 (lit≤ tt) (lit< tt), other 0x21 (lit< tt), other 0x23 (lit< tt), other 0x24 (lit< tt), other 0x25 (lit< tt), other 0x26 (lit< tt), other 0x27 (lit< tt), other 0x2a (lit< tt), other 0x2b (lit< tt), other 0x2d (lit< tt), other 0x2e (lit< tt), other 0x5e (lit< tt), other 0x5f (lit< tt), other 0x60 (lit< tt), other 0x7b (lit< tt), other 0x7c (lit< tt), other 0x7d (lit< tt), other 0x7e (lit< tt))
+  not-token = simp (other, past, and-false)
 
--- every range ends below n: where the ranges are known, this computes
-unfoldable below : ℕ → List Range → Bool
-below n [] = true
-below n ((lo to hi) ∷ rs) = ltb hi n && below n rs
+  not-in-ranges : inSome tokenRanges b ≡ false
+  unfolding inSome
+  not-in-ranges = simp (past, and-false)
 
-above : (n b : ℕ) → n ≤ b → (rs : List Range) → below n rs ≡ true → inSome rs b ≡ false
-unfolding below inSome
-above n b h [] e = refl
-above n b h ((lo to hi) ∷ rs) e =
-    rw (lt-leb b hi (omega (arith, ltb-true hi n (and-left (ltb hi n) (below n rs) e))), and-false, above n b h rs (and-right (ltb hi n) (below n rs) e))
-
--- the paper's seven ranges and the RFC's list are the same set: computed below 80 hexadecimal, empty from there on
+-- the paper's seven ranges and the RFC's list are the same set: below 80 hexadecimal this computes
 pub ranges-are-token : (b : ℕ) → inSome tokenRanges b ≡ tokenChar b
-unfolding agree below inSome
+unfolding agree inSome
 ranges-are-token b = elim (decLt b 0x80) [
   | yes h ↦ agree-at (inSome tokenRanges) tokenChar 0x80 refl b h
-  | no h ↦ above 0x80 b (omega arith) tokenRanges refl ∙ sym (not-token b (omega arith))
+  | no h ↦ not-in-ranges b (omega arith) ∙ sym (not-token b (omega arith))
 ]
 
 -- tests joined from the left, as code joins them, t being what was joined so far
