@@ -6,14 +6,14 @@ use Rattle.sdp_numbers.specs.Refusals as refusals
 use Rattle.sdp_numbers.specs.Fields as fields
 use Rattle.sdp_numbers.specs.Tables as tables
 
--- the refusals, in the order of the paper's table
+-- the refusals, in the order of the paper's table, then P3's
 abbrev pub allRefusals : List ℕ
 allRefusals =
     refusals.textTooLong ∷ refusals.areaTooShort ∷ refusals.nulOrCr ∷ refusals.noEquals ∷ refusals.notSecond ∷
     refusals.noVersion ∷ refusals.versionNotZero ∷ refusals.encoding ∷ refusals.format ∷ refusals.missingField ∷
     refusals.trailingData ∷ refusals.secondOrigin ∷ refusals.secondName ∷ refusals.secondDescription ∷ refusals.secondUri ∷
     refusals.secondConnection ∷ refusals.secondZones ∷ refusals.secondTitle ∷ refusals.secondKey ∷ refusals.repeatWithoutTime ∷
-    refusals.tableFull ∷ refusals.outputTooShort ∷ refusals.badSession ∷ []
+    refusals.tableFull ∷ refusals.outputTooShort ∷ refusals.badSession ∷ refusals.adjustmentsFall ∷ refusals.tooManyStarts ∷ []
 
 -- the fields, in the order of its list
 abbrev pub allFields : List ℕ
@@ -38,9 +38,9 @@ allLimits =
     tables.mostEmails ∷ tables.mostPhones ∷ tables.mostMediaConnections ∷ tables.mostBandwidths ∷ tables.mostTimes ∷
     tables.mostRepeats ∷ tables.mostOffsets ∷ tables.mostZones ∷ tables.mostAttributes ∷ tables.mostMedias ∷ []
 
--- 1 to 23, 1 to 38, 1 to 10, the limits of the tables and of a text
+-- 1 to 23, 28 and 29, 1 to 38, 1 to 10, the limits of the tables, of a text and of a list of starts
 pub record Numbered : Type 0 where
-  pub refusals-run : allRefusals ≡ 1 ∷ 2 ∷ 3 ∷ 4 ∷ 5 ∷ 6 ∷ 7 ∷ 8 ∷ 9 ∷ 10 ∷ 11 ∷ 12 ∷ 13 ∷ 14 ∷ 15 ∷ 16 ∷ 17 ∷ 18 ∷ 19 ∷ 20 ∷ 21 ∷ 22 ∷ 23 ∷ []
+  pub refusals-run : allRefusals ≡ 1 ∷ 2 ∷ 3 ∷ 4 ∷ 5 ∷ 6 ∷ 7 ∷ 8 ∷ 9 ∷ 10 ∷ 11 ∷ 12 ∷ 13 ∷ 14 ∷ 15 ∷ 16 ∷ 17 ∷ 18 ∷ 19 ∷ 20 ∷ 21 ∷ 22 ∷ 23 ∷ 28 ∷ 29 ∷ []
   pub fields-run :
       allFields
       ≡ 1 ∷ 2 ∷ 3 ∷ 4 ∷ 5 ∷ 6 ∷ 7 ∷ 8 ∷ 9 ∷ 10 ∷ 11 ∷ 12 ∷ 13 ∷ 14 ∷ 15 ∷ 16 ∷ 17 ∷ 18 ∷ 19 ∷
@@ -48,3 +48,4 @@ pub record Numbered : Type 0 where
   pub tables-run : allTables ≡ 1 ∷ 2 ∷ 3 ∷ 4 ∷ 5 ∷ 6 ∷ 7 ∷ 8 ∷ 9 ∷ 10 ∷ []
   pub limits-are : allLimits ≡ 16 ∷ 16 ∷ 64 ∷ 64 ∷ 32 ∷ 64 ∷ 256 ∷ 64 ∷ 512 ∷ 32 ∷ []
   pub longest-is : refusals.longestText ≡ 32768
+  pub starts-are : refusals.mostStarts ≡ 256

@@ -1,4 +1,5 @@
--- Document 01, "Refusal numbers", in the paper's order. Acceptance is 0. A later request adds its numbers at the end.
+-- Document 01, "Refusal numbers", in the paper's order, then those of document 02. Acceptance is 0. A later request adds its numbers at the
+-- end.
 use Prim.Native.Nat.{ℕ}
 
 -- the longest text that is not refused for its length
@@ -86,3 +87,16 @@ outputTooShort = 22
 -- "bad session, writing"
 abbrev pub badSession : ℕ
 badSession = 23
+
+-- ---- document 02, P3
+-- "28 adjustment times fall"
+abbrev pub adjustmentsFall : ℕ
+adjustmentsFall = 28
+
+-- "29 more than 256 starts"
+abbrev pub tooManyStarts : ℕ
+tooManyStarts = 29
+
+-- the longest list of starts
+abbrev pub mostStarts : ℕ
+mostStarts = 256

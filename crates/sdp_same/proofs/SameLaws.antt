@@ -18,8 +18,10 @@ use Rattle.sdp_area.proofs.WidthLaws.{length-encode}
 use Rattle.sdp_strings.specs.Strings.{spanAt}
 use Rattle.sdp_read.specs.Run as reader
 use Rattle.sdp_read.specs.Run.{Verdict, accepted, refused, answer, outcomeOf, lines, readText}
+use Rattle.sdp_decode.specs.Rows.{each}
 use Rattle.sdp_row.specs.Written as form
-use Rattle.sdp_row.specs.Written.{line, originLine, nameLine, stringLine, optional, headLines, contactLines, closingLines, mediaLines, each, written}
+use Rattle.sdp_row.specs.Written.{line, originLine, nameLine, stringLine, optional, headLines, contactLines, closingLines, mediaLines, written}
+use Rattle.sdp_unfit.proofs.UnfitLaws.{fit}
 use Rattle.sdp_write.specs.Write as writer
 use Rattle.sdp_write.specs.Write.{Outcome, textOf, fill, writeText}
 use Rattle.sdp_same.specs.Fits.{nameOf, named}
@@ -87,7 +89,7 @@ module _ (t : List ℕ) (short : length t ≤ 32768) (s : Session Span) (read : 
   unfolding writer.writeText
   write-is x o =
       let l : size ≤ length (encode s ++ x) = omega (arith, length-append (encode s) x, length-encode s) in
-      rw (le-ltb (length (encode s ++ x)) size l, le-ltb 32768 (length t) short, well-formed t short s (read-sound t s read) x, text-is x)
+      rw (fit t (encode s ++ x) l short (well-formed t short s (read-sound t s read) x), text-is x)
 
   accepted-written : (a o : List ℕ) → size ≤ length a → ReadThenWritten t a o
   accepted-written a o h =

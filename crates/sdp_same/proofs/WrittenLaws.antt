@@ -4,8 +4,10 @@ use mathlib.Core.Path.{_≡_, refl, ap}
 use mathlib.Core.List.{List, [], _∷_, _++_, map}
 use mathlib.Core.Option.{Option, none, some, Option·map}
 use Rattle.sdp_area.specs.Session.{Origin, Bandwidth, Key, MediaConnection, Attribute, Media, Head, Tables, Session}
+use Rattle.sdp_decode.specs.Rows as rows
+use Rattle.sdp_decode.specs.Rows.{each, mine}
 use Rattle.sdp_row.specs.Written as form
-use Rattle.sdp_row.specs.Written.{line, text, zonesLine, each, mine, optional, usernameText, originLine, nameLine, pairLine, stringLine, keyLine, bandwidthsOf, attributesOf, connectionsOf, mediaLine, mediaLines, headLines, contactLines, closingLines, written}
+use Rattle.sdp_row.specs.Written.{line, text, zonesLine, optional, usernameText, originLine, nameLine, pairLine, stringLine, keyLine, bandwidthsOf, attributesOf, connectionsOf, mediaLine, mediaLines, headLines, contactLines, closingLines, written}
 use Rattle.sdp_same.specs.Said.{saidOrigin, saidConnection, saidKey, saidMediaConnection, saidBandwidth, saidAttribute, saidMedia, saidHead, saidTables, said}
 
 behind : (a : List ℕ) {b b′ : List ℕ} → b ≡ b′ → a ++ b ≡ a ++ b′
@@ -17,7 +19,7 @@ join p q = λ i. p i ++ q i
 -- ---- rows and what may be absent: g writes of h x what f writes of x
 module _ {X Y : Type 0} (h : X → Y) where
   each-said : (f : ℕ → X → List ℕ) (g : ℕ → Y → List ℕ) → ((k : ℕ) (x : X) → f k x ≡ g k (h x)) → (xs : List X) (n : ℕ) → each f n xs ≡ each g n (map h xs)
-  unfolding form.each
+  unfolding rows.each
   each-said f g e [] n = refl
   each-said f g e (x ∷ xs) n = join (e n x) (each-said f g e xs (n + 1))
 

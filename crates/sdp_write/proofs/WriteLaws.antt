@@ -1,18 +1,19 @@
 -- The whole: the answers by cases, and what the two passes leave. Assumes nothing.
 use mathlib.Core.Path.{_≡_, sym, ap, _∙_}
-use mathlib.Core.Bool.{true, false, _&&_}
+use mathlib.Core.Bool.{true, _&&_}
 use mathlib.Core.List.{List, _++_}
 use Prim.Native.Nat.{ℕ, _+_, _≤_, _<_, _^_}
 use native.Mathlib.Omega.{arith}
 use lib.ListN.{length, drop}
-use borrow.Author.Tests.{lt-ltb, le-ltb}
+use borrow.Author.Tests.{lt-ltb, le-ltb, ne-eqb}
 use Rattle.sdp_lines.specs.declared.Answer.{Answer}
-use Rattle.sdp_area.specs.Area.{size}
 use Rattle.sdp_put.specs.Out.{put, Put}
 use Rattle.sdp_put.proofs.OutLaws.{put-out, put-room}
 use Rattle.sdp_bytes.proofs.ScanLaws.{and-left, and-right}
 use Rattle.sdp_valid.specs.Judge as judge
-use Rattle.sdp_valid.specs.Judge.{owners, smallCounts, largeCounts, fineHead, fineTables, wellFormed}
+use Rattle.sdp_valid.specs.Judge.{owners, smallCounts, largeCounts, fineHead, fineTables}
+use Rattle.sdp_unfit.specs.Unfit.{unfit}
+use Rattle.sdp_unfit.proofs.UnfitLaws.{fit-formed}
 use Rattle.sdp_write.specs.Write.{Outcome, answer, textOf, writeText}
 
 -- what an answer and an output must be, by a case of the outcome
@@ -21,33 +22,23 @@ settled r o′ x y e p q = (p ∙ sym (ap (λ (z : Outcome). z .answer) e), q �
 
 -- ---- the answers
 module _ (t a o : List ℕ) where
-  pub area-short : length a < size → writeText t a o ≡ record { answer = answer 2 0; out = o }
+  pub not-written : (n : ℕ) → n ≡ unfit t a → (n ≡ 0 → ⊥) → writeText t a o ≡ record { answer = answer n 0; out = o }
   unfolding writeText
-  area-short h = rw (lt-ltb (length a) size h)
+  not-written n e h = rw (← e, ne-eqb n 0 h)
 
-  module _ (p : size ≤ length a) where
-    pub text-long : 32768 < length t → writeText t a o ≡ record { answer = answer 1 0; out = o }
+  module _ (f : unfit t a ≡ 0) (n : ℕ) (e : n ≡ length (textOf t a)) where
+    pub out-short : length o < n → writeText t a o ≡ record { answer = answer 22 n; out = o }
     unfolding writeText
-    text-long h = rw (le-ltb (length a) size p, lt-ltb 32768 (length t) h)
+    out-short h = rw (f, ← e, lt-ltb (length o) n h)
 
-    module _ (q : length t ≤ 32768) where
-      pub bad-session : wellFormed a t ≡ false → writeText t a o ≡ record { answer = answer 23 0; out = o }
-      unfolding writeText
-      bad-session h = rw (le-ltb (length a) size p, le-ltb 32768 (length t) q, h)
+    pub all-written : n ≤ length o → writeText t a o ≡ record { answer = answer 0 n; out = textOf t a ++ drop n o }
+    unfolding writeText
+    all-written h = rw (f, ← e, le-ltb (length o) n h)
 
-      module _ (f : wellFormed a t ≡ true) (n : ℕ) (e : n ≡ length (textOf t a)) where
-        pub out-short : length o < n → writeText t a o ≡ record { answer = answer 22 n; out = o }
-        unfolding writeText
-        out-short h = rw (le-ltb (length a) size p, le-ltb 32768 (length t) q, f, ← e, lt-ltb (length o) n h)
-
-        pub all-written : n ≤ length o → writeText t a o ≡ record { answer = answer 0 n; out = textOf t a ++ drop n o }
-        unfolding writeText
-        all-written h = rw (le-ltb (length a) size p, le-ltb 32768 (length t) q, f, ← e, le-ltb (length o) n h)
-
--- the owners of a session that `judge` found well formed
-pub well-owned : (a t : List ℕ) → wellFormed a t ≡ true → owners a ≡ true
+-- the owners of a session that fits
+pub well-owned : (a t : List ℕ) → unfit t a ≡ 0 → owners a ≡ true
 unfolding judge.wellFormed
-well-owned a t h = and-left (owners a) (fineHead a t && fineTables a t) (and-right (largeCounts a) _ (and-right (smallCounts a) _ h))
+well-owned a t f = and-left (owners a) (fineHead a t && fineTables a t) (and-right (largeCounts a) _ (and-right (smallCounts a) _ (fit-formed t a f)))
 
 -- ---- one pass, where there is room
 pub fits : (o o₁ w : List ℕ) (end room : ℕ) → length w ≤ room → room ≤ length o → length o < 2 ^ 63 → Put o 0 w o₁ end

@@ -3,14 +3,12 @@ use Prim.Native.Nat.{ℕ}
 use mathlib.Core.Bool.{cond}
 use mathlib.Core.List.{List, _++_}
 use lib.ListN.{length, take, drop}
-use lib.Dec.{ltb}
+use lib.Dec.{ltb, eqb}
 use Rattle.sdp_numbers.specs.Refusals as refusals
-use Rattle.sdp_numbers.specs.Refusals.{longestText}
 use Rattle.sdp_lines.specs.Strings.{bytesOf}
 use Rattle.sdp_lines.specs.declared.Answer.{Answer}
-use Rattle.sdp_area.specs.Area.{size}
 use Rattle.sdp_decode.specs.Decode.{decode}
-use Rattle.sdp_valid.specs.Judge.{wellFormed}
+use Rattle.sdp_unfit.specs.Unfit.{unfit}
 use Rattle.sdp_row.specs.Written.{written}
 
 -- "Acceptance is 0, for writing with the length"; "22 output too short: length needed"
@@ -40,6 +38,4 @@ fill w o =
 -- "for writing 2, 1, 23, 22"; "a refusal leaves the output as found"
 unfoldable pub writeText : List ℕ → List ℕ → List ℕ → Outcome
 writeText t a o =
-    cond (ltb (length a) size) (record { answer = answer refusals.areaTooShort 0; out = o })
-    (cond (ltb longestText (length t)) (record { answer = answer refusals.textTooLong 0; out = o })
-    (cond (wellFormed a t) (fill (textOf t a) o) (record { answer = answer refusals.badSession 0; out = o })))
+    cond (eqb (unfit t a) 0) (fill (textOf t a) o) (record { answer = answer (unfit t a) 0; out = o })

@@ -10,7 +10,6 @@ ghost use Rattle.sdp_row.specs.Written.{headLines, written};
 ghost use Rattle.sdp_write.specs.Write.{answer, writeText};
 use sdp_area::DESCRIPTION;
 use sdp_area::NAME;
-use sdp_area::SIZE;
 use sdp_area::URI;
 use sdp_lines::Answer;
 use sdp_put::put_all;
@@ -21,7 +20,7 @@ use sdp_row::put_string_line;
 use sdp_tables::put_closing;
 use sdp_tables::put_contact;
 use sdp_tables::put_medias;
-use sdp_valid::judge;
+use sdp_unfit::unfit;
 
 // v, o, s, i, u.
 fn put_head(out: &mut [u8], at: usize, text: &[u8], area: &[u8]) -> usize
@@ -61,14 +60,9 @@ pub fn write(text: &[u8], area: &[u8], out: &mut [u8]) -> Answer
     ensures { λ r. ⌜ r ≡ writeText (now (text .entry)) (now (area .entry)) (now (out .entry)) .answer ⌝ }
     ensures { λ r. ⌜ now (out .exit) ≡ writeText (now (text .entry)) (now (area .entry)) (now (out .entry)) .out ⌝ }
 {
-    if area.len() < SIZE {
-        return told(2, 0);
-    }
-    if 32768 < text.len() {
-        return told(1, 0);
-    }
-    if !judge(text, area) {
-        return told(23, 0);
+    let number = unfit(text, area);
+    if number != 0 {
+        return told(number, 0);
     }
     let full = out.len();
     if room_for(area) <= full {
