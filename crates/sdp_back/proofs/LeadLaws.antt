@@ -19,8 +19,10 @@ use Rattle.sdp_step.specs.Step.{Reading, goes, step, fresh}
 use Rattle.sdp_read.specs.Run as reader
 use Rattle.sdp_read.specs.Run.{accepted, run, lines}
 use Rattle.sdp_put.specs.Strings.{dropped}
+use Rattle.sdp_decode.specs.Rows as rows
+use Rattle.sdp_decode.specs.Rows.{each, mine}
 use Rattle.sdp_row.specs.Written as form
-use Rattle.sdp_row.specs.Written.{ending, line, each, mine, optional}
+use Rattle.sdp_row.specs.Written.{ending, line, optional}
 use Rattle.sdp_same.specs.Fits.{IfGiven, Each}
 use Rattle.sdp_same.specs.Sound.{Rising}
 use Rattle.sdp_same.specs.Said.{bytesAt}
@@ -106,7 +108,7 @@ begin-leads rest s h = rw (line-split 0x76 (0x30 ∷ []) refl refl rest, chop-cr
 module _ {X : Type 0} (P : X → Type 0) (cap : ℕ) (f : ℕ → X → List ℕ) (at : List X → Reading (List ℕ)) where
   rows-after : ((xs : List X) (x : X) → P x → length xs < cap → Leads (at xs) (f (length xs + 1) x) (at (xs ++ (x ∷ []))))
       → (xs ys : List X) → Each P ys → length xs + length ys ≤ cap → Leads (at xs) (each f (length xs + 1) ys) (at (xs ++ ys))
-  unfolding form.each
+  unfolding rows.each
   rows-after go xs [] h l = rw (append-nil xs) stay
   rows-after go xs (y ∷ ys) h l =
       let n : length (xs ++ (y ∷ [])) ≡ length xs + 1 = length-append xs (y ∷ []) in
@@ -139,13 +141,13 @@ module _ {X : Type 0} (owner : X → ℕ) where
     owned k xs = each (λ k x. mine n (owner x) (f k x)) k xs
 
     none-owned : (k most lo : ℕ) (xs : List X) → Rising owner most lo xs → n < lo → owned k xs ≡ []
-    unfolding form.each form.mine
+    unfolding rows.each rows.mine
     none-owned k most lo [] r h = refl
     none-owned k most lo (x ∷ xs) r h = let l = r .0 in rw (ne-eqb (owner x) n (λ e. omega arith)) (none-owned (k + 1) most (owner x) xs (r .2) (omega arith))
 
     from-lead : ((xs : List X) (x : X) → P x → owner x ≡ n → length xs < cap → Leads (at xs) (f (length xs + 1) x) (at (xs ++ (x ∷ []))))
         → (xs ys : List X) (most lo : ℕ) → Rising owner most lo ys → Each P ys → length xs + length ys ≤ cap → Leads (at (xs ++ below n ys)) (owned (length xs + 1) ys) (at (xs ++ below (n + 1) ys))
-    unfolding form.each form.mine below
+    unfolding rows.each rows.mine below
     from-lead go xs [] most lo r h l = stay
     from-lead go xs (y ∷ ys) most lo r h l =
         by (ltb (owner y) n) (eqb (owner y) n) refl refl

@@ -9,8 +9,10 @@ use lib.Dec.{ltb, eqb}
 use borrow.Author.Tests.{ltb-true, ltb-false, lt-ltb, le-ltb, eqb-true, eqb-false, ne-eqb}
 use Rattle.sdp_area.specs.Session.{Repeat, Offset}
 use Rattle.sdp_put.specs.Digits.{timeText}
+use Rattle.sdp_decode.specs.Rows as rows
+use Rattle.sdp_decode.specs.Rows.{each, mine}
 use Rattle.sdp_row.specs.Written as form
-use Rattle.sdp_row.specs.Written.{line, spaced, each, mine, repeatLine}
+use Rattle.sdp_row.specs.Written.{line, spaced, repeatLine}
 use Rattle.sdp_same.specs.Fits.{Each, FitOffset}
 use Rattle.sdp_same.specs.Sound.{Rising}
 use Rattle.sdp_back.proofs.WordLaws.{tails}
@@ -31,7 +33,7 @@ module _ (k : ℕ) where
   values (o ∷ os) = cond (eqb (o .owner) k) (o .offset ∷ values os) (values os)
 
   values-text : (os : List Offset) (j : ℕ) → each (λ i o. mine k (o .owner) (spaced (timeText (o .offset)))) j os ≡ tails (map timeText (values os))
-  unfolding values form.each form.mine tails
+  unfolding values rows.each rows.mine tails
   values-text [] j = refl
   values-text (o ∷ os) j = go (eqb (o .owner) k) (values-text os (j + 1))
     where

@@ -19,8 +19,10 @@ use Rattle.sdp_area.specs.Session.{Time, Zone}
 use Rattle.sdp_step.specs.Step.{timeIn, zoneIn}
 use Rattle.sdp_put.specs.Digits.{digits, timeText, offsetText}
 use Rattle.sdp_put.proofs.DigitLaws.{offset-minus, offset-plain}
+use Rattle.sdp_decode.specs.Rows as rows
+use Rattle.sdp_decode.specs.Rows.{each}
 use Rattle.sdp_row.specs.Written as form
-use Rattle.sdp_row.specs.Written.{spaced, each, timeValue, signedText, zoneText}
+use Rattle.sdp_row.specs.Written.{spaced, timeValue, signedText, zoneText}
 use Rattle.sdp_same.specs.Fits.{Each, FitTime, FitZone}
 use Rattle.sdp_back.proofs.ByteLaws.{every, bare}
 use Rattle.sdp_back.proofs.NumberLaws.{number-back, time-back, offset-back}
@@ -131,7 +133,7 @@ pairs-back (z ∷ zs) h =
 
 -- the pairs after the first have a space before them
 later-text : (k : ℕ) (zs : List Zone) → 1 < k → each zoneText k zs ≡ tails (pairWords zs)
-unfolding form.each form.zoneText tails
+unfolding rows.each form.zoneText tails
 later-text k [] h = refl
 later-text k (z ∷ zs) h = rw (ne-eqb k 1 (λ e. omega arith), later-text (k + 1) zs (omega arith)) (ap (λ (l : List ℕ). 0x20 ∷ l) (append-assoc (digits (z .adjustmentTime)) (spaced (signedText (z .offset))) (tails (pairWords zs))))
 
@@ -139,7 +141,7 @@ abbrev pub zonesValue : Zone → List Zone → List ℕ
 zonesValue z zs = each zoneText 1 (z ∷ zs)
 
 pub zones-line-back : (z : Zone) (zs : List Zone) → Each FitZone (z ∷ zs) → Backs zonesOf (λ v. map zoneIn) (zonesValue z zs) (z ∷ zs)
-unfolding form.each form.zoneText tails lists.zonesOf
+unfolding rows.each form.zoneText tails lists.zonesOf
 zones-line-back z zs h =
     let q : zonesValue z zs ≡ digits (z .adjustmentTime) ++ tails (signedText (z .offset) ∷ pairWords zs) = rw (later-text 2 zs (omega arith)) (append-assoc (digits (z .adjustmentTime)) (spaced (signedText (z .offset))) (tails (pairWords zs))) in
     let w : Each Word (signedText (z .offset) ∷ pairWords zs) = (signed-word (z .offset), pairs-words zs) in

@@ -17,8 +17,10 @@ use Rattle.sdp_read.specs.Run as reader
 use Rattle.sdp_read.specs.Run.{accepted, run, lines}
 use Rattle.sdp_put.specs.Digits as digit
 use Rattle.sdp_put.specs.Strings as strings
+use Rattle.sdp_decode.specs.Rows as rows
+use Rattle.sdp_decode.specs.Rows.{each, mine}
 use Rattle.sdp_row.specs.Written as form
-use Rattle.sdp_row.specs.Written.{line, each, mine, optional, stringLine, originLine, nameLine, bandwidthLine, connectionLine, pairLine, mediaLines, repeatLine, timeLines, timesLines, zonesLine, headLines, contactLines, closingLines, written}
+use Rattle.sdp_row.specs.Written.{line, optional, stringLine, originLine, nameLine, bandwidthLine, connectionLine, pairLine, mediaLines, repeatLine, timeLines, timesLines, zonesLine, headLines, contactLines, closingLines, written}
 use Rattle.sdp_bound.specs.Kept.{id}
 use Rattle.sdp_same.specs.Fits.{IfGiven, Each, FitTime, FitRepeat, FitOffset, FitZone}
 use Rattle.sdp_same.specs.Sound.{Rising}
@@ -134,7 +136,7 @@ module _ (s : Session (List ℕ)) (plain : Plain s) (ordered : Ordered s) where
 
   -- no times are written as one
   times-text : (ts : List Time) → Rising (λ (r : Repeat). r .owner) (length ts) 1 (T .repeats) → timesLines (T .repeats) (T .offsets) ts ≡ each (timeLines (T .repeats) (T .offsets)) 1 (timesAgain ts)
-  unfolding form.timesLines form.each form.timeLines digit.digits digit.digitsIn
+  unfolding form.timesLines rows.each form.timeLines digit.digits digit.digitsIn
   times-text (t ∷ ts) r = refl
   times-text [] r =
       let e : T .repeats ≡ [] = sym (below-all (λ (r : Repeat). r .owner) 1 0 1 (T .repeats) r (lit< tt)) ∙ below-none (λ (r : Repeat). r .owner) 1 0 1 (T .repeats) r (omega arith) in

@@ -9,6 +9,7 @@ use Rattle.sdp_area.specs.Session.{empty}
 use Rattle.sdp_roles.specs.Roles
 use Rattle.sdp_read.specs.Run
 use Rattle.sdp_read.specs.Run.{accepted, lines}
+use Rattle.sdp_decode.specs.Rows as rows
 use Rattle.sdp_row.specs.Written
 use Rattle.sdp_row.specs.Written.{written}
 use Rattle.sdp_same.specs.Said.{bytesAt}
@@ -20,7 +21,7 @@ abbrev version : List ℕ
 version = 0x76 ∷ 0x3d ∷ 0x30 ∷ []
 
 pub version-bound : (lines bytesAt version ≡ accepted empty) × (length (written id empty) ≡ bound version)
-unfolding kept keptLines usedFrom Run.lines Run.begin Run.run Lines.split Lines.content Lines.chop Lines.formOf Lines.hasNulOrCr Lines.plainForm Runs.indexOf Written.written Written.headLines Written.contactLines Written.closingLines Written.originLine Written.line Written.each Written.timesLines Written.zonesLine
+unfolding kept keptLines usedFrom Run.lines Run.begin Run.run Lines.split Lines.content Lines.chop Lines.formOf Lines.hasNulOrCr Lines.plainForm Runs.indexOf Written.written Written.headLines Written.contactLines Written.closingLines Written.originLine Written.line rows.each Written.timesLines Written.zonesLine
 version-bound = (refl, refl)
 
 -- the input of `canon`: nine lines, of which x=new has no use

@@ -37,8 +37,10 @@ use Rattle.sdp_media_line.proofs.BoundLaws.{every-number, every-port}
 use Rattle.sdp_step.specs.Step.{maybeIn, originIn, connectionIn, bandwidthIn, mediaIn, timeIn, zoneIn}
 use Rattle.sdp_put.specs.Digits.{digits, timeText}
 use Rattle.sdp_put.specs.Strings.{clean}
+use Rattle.sdp_decode.specs.Rows as rows
+use Rattle.sdp_decode.specs.Rows.{each}
 use Rattle.sdp_row.specs.Written
-use Rattle.sdp_row.specs.Written.{line, each, optional, stringLine, usernameText, originLine, connectionLine, bandwidthLine, pairLine, mediaLine, timeValue, signedText, zoneText, zonesLine}
+use Rattle.sdp_row.specs.Written.{line, optional, stringLine, usernameText, originLine, connectionLine, bandwidthLine, pairLine, mediaLine, timeValue, signedText, zoneText, zonesLine}
 use Rattle.sdp_room.proofs.LengthLaws.{length-clean, length-line}
 use Rattle.sdp_bound.specs.Kept.{id}
 use Rattle.sdp_bound.proofs.NumberLaws.{number-short, time-short, offset-short}
@@ -235,12 +237,12 @@ pairs-short (a ∷ o ∷ ws) =
 
 -- the pairs after the first
 later-short : (zs : List Zone) (k : ℕ) → 1 < k → length (each zoneText k (map zoneIn zs)) ≤ sum zoneSize zs
-unfolding SumLaws.sum zoneSize Written.each Written.zoneText
+unfolding SumLaws.sum zoneSize rows.each Written.zoneText
 later-short [] k h = omega arith
 later-short (z ∷ zs) k h = rw (ne-eqb k 1 (λ e. omega arith)) (simp length-append (omega (arith, later-short zs (k + 1) (omega arith))))
 
 pub zones-short : (v : List ℕ) (zs : List Zone) → zonesOf v ≡ got zs → length (zonesLine (map zoneIn zs)) ≤ length v + 4
-unfolding Lists.zonesOf SumLaws.sum zoneSize Written.zonesLine Written.each Written.zoneText Written.line
+unfolding Lists.zonesOf SumLaws.sum zoneSize Written.zonesLine rows.each Written.zoneText Written.line
 zones-short v zs e = go zs (pairs-short (words v) zs e)
   where
     go : (zs : List Zone) → sum zoneSize zs ≤ weight (words v) → length (zonesLine (map zoneIn zs)) ≤ length v + 4

@@ -1,5 +1,5 @@
 -- Rows of a fixed width, read from any bytes.
-use mathlib.Core.List.{List, [], _∷_}
+use mathlib.Core.List.{List, [], _∷_, _++_}
 use mathlib.Core.Bool.{cond}
 use mathlib.Core.Option.{Option, none, some}
 use Prim.Native.Nat.{ℕ, zero, suc, _+_}
@@ -18,3 +18,13 @@ table rd w a base = rowsAt rd w (num 2 a base) a (base + 2)
 -- what may be absent: a mark, 0 for absent, and what it marks
 unfoldable pub marked : {X : Type 0} → (List ℕ → ℕ → X) → List ℕ → ℕ → Option X
 marked rd a p = cond (eqb (num 2 a p) 0) none (some (rd a (p + 2)))
+
+-- ---- what rows give, one after the other
+-- each row with its number, counted on from n
+unfoldable pub each : {X Y : Type 0} → (ℕ → X → List Y) → ℕ → List X → List Y
+each f n [] = []
+each f n (x ∷ xs) = f n x ++ each f (n + 1) xs
+
+-- what belongs to the owner n
+unfoldable pub mine : {Y : Type 0} → ℕ → ℕ → List Y → List Y
+mine n owner ys = cond (eqb owner n) ys []

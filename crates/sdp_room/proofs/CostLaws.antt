@@ -6,8 +6,9 @@ use native.Mathlib.Omega.{arith}
 use lib.ListN.{length, length-append}
 use Rattle.sdp_area.specs.Session.{MediaConnection, Bandwidth, Time, Repeat, Offset, Attribute, Media, Tables, Session}
 use Rattle.sdp_put.specs.Digits.{timeText}
+use Rattle.sdp_decode.specs.Rows.{each}
 use Rattle.sdp_row.specs.Written
-use Rattle.sdp_row.specs.Written.{line, each, optional, spaced, timeValue, repeatLine, timeLines, timesLines, zonesLine, stringLine, originLine, nameLine, connectionLine, bandwidthLine, pairLine, keyLine, mediaLine, mediaLines, written}
+use Rattle.sdp_row.specs.Written.{line, optional, spaced, timeValue, repeatLine, timeLines, timesLines, zonesLine, stringLine, originLine, nameLine, connectionLine, bandwidthLine, pairLine, keyLine, mediaLine, mediaLines, written}
 use Rattle.sdp_room.proofs.SumLaws.{sum, Rows, each-short, rows-short, ofOwner, fromOwner, owner-next, owner-all, owner-sum}
 use Rattle.sdp_room.proofs.LengthLaws.{length-line}
 

@@ -16,11 +16,11 @@ use Rattle.sdp_cells.proofs.ByteLaws.{num-below}
 use Rattle.sdp_area.specs.Session.{Time, Zone}
 use Rattle.sdp_area.specs.Area.{originAt, nameAt, descriptionAt, uriAt, connectionAt, keyAt, emailsAt, phonesAt, connectionsAt, bandwidthsAt, timesAt, repeatsAt, offsetsAt, zonesAt, attributesAt, mediasAt}
 use Rattle.sdp_decode.specs.Rows as rows
-use Rattle.sdp_decode.specs.Rows.{rowsAt, table, marked}
+use Rattle.sdp_decode.specs.Rows.{rowsAt, table, marked, each}
 use Rattle.sdp_decode.specs.Decode
 use Rattle.sdp_decode.specs.Decode.{num2, spanOf, originOf, connectionOf, mediaConnectionOf, keyOf, bandwidthOf, timeOf, repeatOf, offsetOf, zoneOf, attributeOf, mediaOf, decode}
 use Rattle.sdp_row.specs.Written
-use Rattle.sdp_row.specs.Written.{each, optional, signedText, zoneText, zonesLine, usernameText, originValue, originLine, connectionLine, bandwidthLine, pairLine, keyLine, stringLine, mediaLine, written}
+use Rattle.sdp_row.specs.Written.{optional, signedText, zoneText, zonesLine, usernameText, originValue, originLine, connectionLine, bandwidthLine, pairLine, keyLine, stringLine, mediaLine, written}
 use Rattle.sdp_valid.specs.declared.Row.the-variants.{Plain, Connection, Bandwidth, Attribute, Media}
 use Rattle.sdp_room.specs.Room.{sumAt, connectionRoom, pairRoom, mediaRoom, rowRoom, originRoom, headRoom, timesRoom, tablesRoom, roomFor}
 use Rattle.sdp_room.proofs.SumLaws.{sum, rows-short}

@@ -7,8 +7,8 @@ use native.Mathlib.Omega.{arith}
 use lib.ListN.{length, length-append}
 use lib.Dec.{leb, eqb}
 use borrow.Author.Tests.{eqb-true, eqb-false, leb-true, leb-false, le-leb, lt-leb}
-use Rattle.sdp_row.specs.Written
-use Rattle.sdp_row.specs.Written.{each, mine}
+use Rattle.sdp_decode.specs.Rows as rows
+use Rattle.sdp_decode.specs.Rows.{each, mine}
 
 -- ---- a number for each row, added
 unfoldable pub sum : {X : Type 0} → (X → ℕ) → List X → ℕ
@@ -19,7 +19,7 @@ sum f (x ∷ xs) = f x + sum f xs
 module _ {X : Type 0} (f : ℕ → X → List ℕ) (own : X → ℕ) (owned rest : ℕ → ℕ) where
   pub each-short : ((n : ℕ) → rest n ≡ owned n + rest (n + 1)) → ((n : ℕ) (x : X) → length (f n x) ≤ own x + owned n)
       → (n : ℕ) (xs : List X) → length (each f n xs) ≤ sum own xs + rest n
-  unfolding sum Written.each
+  unfolding sum rows.each
   each-short e h n [] = omega arith
   each-short e h n (x ∷ xs) = omega (arith, length-append (f n x) (each f (n + 1) xs), e n, h n x, each-short e h (n + 1) xs)
 
@@ -37,7 +37,7 @@ pub record Rows (X : Type 0) : Type 0 where
 
 -- one row, of n or a later owner
 one-owner : (n o : ℕ) (bs : List ℕ) → length (cond (leb n o) bs []) ≡ length (mine n o bs) + length (cond (leb (n + 1) o) bs [])
-unfolding Written.mine
+unfolding rows.mine
 one-owner n o bs = go (leb n o) (eqb o n) refl refl
   where
     go : (a b : Bool) → leb n o ≡ a → eqb o n ≡ b → length (cond a bs []) ≡ length (cond b bs []) + length (cond (leb (n + 1) o) bs [])
@@ -66,7 +66,7 @@ module _ {X : Type 0} (r : Rows X) where
   fromOwner xs n = length (laterFrom 1 n xs)
 
   next-from : (k n : ℕ) (xs : List X) → length (laterFrom k n xs) ≡ length (ofFrom k n xs) + length (laterFrom k (n + 1) xs)
-  unfolding Written.each
+  unfolding rows.each
   next-from k n [] = refl
   next-from k n (x ∷ xs) =
       omega (
@@ -82,7 +82,7 @@ module _ {X : Type 0} (r : Rows X) where
   owner-next xs n = next-from 1 n xs
 
   all-from : (k n : ℕ) (xs : List X) → length (laterFrom k n xs) ≤ length (each (r .bytes) k xs)
-  unfolding Written.each
+  unfolding rows.each
   all-from k n [] = omega arith
   all-from k n (x ∷ xs) =
       omega (

@@ -7,6 +7,7 @@ use lib.ListN.{length}
 use lib.Dec.{leb, eqb}
 use Rattle.sdp_put.specs.Digits.{digits, timeText, offsetText}
 use Rattle.sdp_put.specs.Strings.{clean}
+use Rattle.sdp_decode.specs.Rows.{each, mine}
 use Rattle.sdp_area.specs.Session.{Origin, Connection, Key, MediaConnection, Bandwidth, Time, Repeat, Offset, Zone, Attribute, Media, Head, Tables, Session}
 
 -- "Every line ends CR LF."
@@ -20,15 +21,6 @@ line letter value = (letter ∷ 0x3d ∷ []) ++ (value ++ ending)
 -- a space before a field
 abbrev pub spaced : List ℕ → List ℕ
 spaced bs = (0x20 ∷ []) ++ bs
-
--- each row with its number, counted on from n
-unfoldable pub each : {X : Type 0} → (ℕ → X → List ℕ) → ℕ → List X → List ℕ
-each f n [] = []
-each f n (x ∷ xs) = f n x ++ each f (n + 1) xs
-
--- what belongs to the owner n
-unfoldable pub mine : ℕ → ℕ → List ℕ → List ℕ
-mine n owner bs = cond (eqb owner n) bs []
 
 -- what is there only where a field is
 abbrev pub optional : {X : Type 0} → (X → List ℕ) → Option X → List ℕ

@@ -26,6 +26,7 @@ use Rattle.sdp_strings.specs.Strings.{spanAt}
 use Rattle.sdp_step.specs.Step
 use Rattle.sdp_read.specs.Run
 use Rattle.sdp_read.specs.Run.{Verdict, accepted, refused, lines}
+use Rattle.sdp_decode.specs.Rows as rows
 use Rattle.sdp_row.specs.Written
 use Rattle.sdp_row.specs.Written.{written}
 use Rattle.sdp_write.specs.Write.{fill}
@@ -55,7 +56,7 @@ writes t s w p e f a o h k =
 
 -- ---- the samples
 v-text : written (bytesOf «V») empty ≡ ofV
-unfolding Written.written Written.headLines Written.contactLines Written.closingLines Written.originLine Written.line Written.each Written.timesLines Written.zonesLine
+unfolding Written.written Written.headLines Written.contactLines Written.closingLines Written.originLine Written.line rows.each Written.timesLines Written.zonesLine
 v-text = refl
 
 -- "Proved together as a single statement: those marked P."

@@ -14,8 +14,8 @@ use Rattle.sdp_valid.specs.Judge as judge
 use Rattle.sdp_valid.specs.Judge.{rising, owned, owners}
 use Rattle.sdp_put.specs.Out.{Put}
 use Rattle.sdp_put.proofs.OutLaws.{begin, finish, said, nothing}
-use Rattle.sdp_row.specs.Written as written
-use Rattle.sdp_row.specs.Written.{mine}
+use Rattle.sdp_decode.specs.Rows as rows
+use Rattle.sdp_decode.specs.Rows.{mine}
 use Rattle.sdp_tables.specs.Tables.{eachAt, own, NeverFall, Parted}
 use Rattle.sdp_tables.proofs.RowLaws.{Left, left-turn}
 
@@ -133,7 +133,7 @@ module _ (f : ℕ → ℕ → List ℕ) (w : ℕ) where
 
 -- another's row
 other : (n o : ℕ) (bs : List ℕ) → (o ≡ n → ⊥) → mine n o bs ≡ []
-unfolding written.mine
+unfolding rows.mine
 other n o bs h = rw (ne-eqb o n h)
 
 -- ---- the loop over the rows of the owner n: from the first of them on, until another follows. i is the next, at place p
@@ -176,7 +176,7 @@ module _ (f : ℕ → ℕ → List ℕ) (a : List ℕ) (base w n count : ℕ) (o
           ∙ ap (λ (k : ℕ). eachAt (own a n f) w k (i + 1 + (count - i)) (p + (count - i) * w)) (let z : count - i - (count - i) ≡ 0 = omega arith in z))
 
       pub ours-turn : {o′ : List ℕ} (r : ℕ) → w ≤ 40 → m ≡ n → Put o q (f (i + 1) p) o′ r → Ours o′ (i + 1) (p + w) r
-      unfolding written.mine
+      unfolding rows.mine
       ours-turn r u h t =
           record {
             rows = left-turn (own a n f) w base (num 2 a base) count o₀ at u l (x .rows) (said (rw (← e, eq-eqb m n h)) t);

@@ -6,10 +6,10 @@ use native.Mathlib.Omega.{arith}
 use Rattle.sdp_put.specs.Out.{Put}
 use Rattle.sdp_put.proofs.OutLaws.{Cut, Same, begin, turn, finish}
 use Rattle.sdp_decode.specs.Rows as rows
-use Rattle.sdp_decode.specs.Rows.{rowsAt}
+use Rattle.sdp_decode.specs.Rows.{rowsAt, each}
 use Rattle.sdp_decode.specs.Decode.{timeOf, zoneOf}
 use Rattle.sdp_area.specs.Session.{Repeat, Offset}
-use Rattle.sdp_row.specs.Written.{line, each, timeLines, timesLines, zoneText, zonesLine}
+use Rattle.sdp_row.specs.Written.{line, timeLines, timesLines, zoneText, zonesLine}
 use Rattle.sdp_tables.specs.Tables.{eachAt}
 
 module _ (f : ℕ → ℕ → List ℕ) (w : ℕ) where

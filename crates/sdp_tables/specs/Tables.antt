@@ -4,9 +4,8 @@ use mathlib.Core.List.{List, [], _++_}
 use Rattle.sdp_cells.specs.Bytes.{num}
 use Rattle.sdp_area.specs.Area.{offsetsAt}
 use Rattle.sdp_area.specs.Session.{Offset}
-use Rattle.sdp_decode.specs.Rows.{table}
+use Rattle.sdp_decode.specs.Rows.{table, mine}
 use Rattle.sdp_decode.specs.Decode.{offsetOf}
-use Rattle.sdp_row.specs.Written.{mine}
 
 -- n rows of w bytes each, from place p on, each with its number, counted on from k
 unfoldable pub eachAt : (ℕ → ℕ → List ℕ) → ℕ → ℕ → ℕ → ℕ → List ℕ
