@@ -8,6 +8,8 @@ ghost use Rattle.sdp_area.specs.Area.{size};
 ghost use Rattle.sdp_read.specs.Run.{readText};
 ghost use Rattle.sdp_write.specs.Write.{writeText};
 ghost use Rattle.sdp_order.specs.Order.{orderOf, verdictOf};
+ghost use Rattle.sdp_hours.specs.Starts.{startsText};
+ghost use Rattle.sdp_starts.specs.Returned.{returned};
 ghost use Rattle.sdp_answers.specs.Boundary.{numeralOf, cursorAt, pieceOf};
 use sdp_answers::Numeral;
 use sdp_answers::Piece;
@@ -18,6 +20,7 @@ use sdp_lines::Cursor;
 use sdp_lines::LineNumber;
 use sdp_lines::Place;
 use sdp_order::Verdict;
+use sdp_starts::Starts;
 
 // The end of the longest well-formed UTF-8 beginning of s.
 #[no_mangle]
@@ -95,6 +98,14 @@ pub extern "C" fn sdp_letter_order(text: &[u8]) -> Verdict
     ensures { λ r. ⌜ r ≡ verdictOf (orderOf (now (text .entry))) ⌝ }
 {
     sdp_order::verdict_of(sdp_order::letter_order(text))
+}
+
+// When the session of a record area starts, within a window: from included, to excluded.
+#[no_mangle]
+pub extern "C" fn sdp_starts(text: &[u8], area: &[u8], from: u64, to: u64) -> Starts
+    ensures { λ r. ⌜ r ≡ returned (startsText (now (text .entry)) (now (area .entry)) from to) ⌝ }
+{
+    sdp_starts::starts_in(text, area, from, to)
 }
 
 // The size of the record area in bytes.

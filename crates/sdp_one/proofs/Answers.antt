@@ -4,6 +4,7 @@ use mathlib.Core.Path.{refl}
 use denote.Ref.{now}
 use Rattle.sdp_one.specs.One.{OneAnswer, OneState, OnePut}
 use Rattle.sdp_one.proofs.OneLaws.{same, same-put}
+use Rattle.sdp_listing.specs.Columns.{columns}
 use Rattle.sdp_bytes.proofs.runs.eight.Reads as sdpBytesRunsEight
 use Rattle.sdp_bytes.proofs.runs.run_len.Reads as sdpBytesRunsRunLen
 use Rattle.sdp_bytes.proofs.search.index_of.Reads as sdpBytesSearchIndexOf
@@ -89,6 +90,7 @@ use Rattle.sdp_put.proofs.put_all.Reads as sdpPutPutAll
 use Rattle.sdp_decode.proofs.num2.Reads as sdpDecodeNum2
 use Rattle.sdp_decode.proofs.num8.Reads as sdpDecodeNum8
 use Rattle.sdp_valid.proofs.judge.Reads as sdpValidJudge
+use Rattle.sdp_unfit.proofs.unfit.Reads as sdpUnfitUnfit
 use Rattle.sdp_room.proofs.room_for.Reads as sdpRoomRoomFor
 use Rattle.sdp_row.proofs.put_string.Reads as sdpRowPutString
 use Rattle.sdp_row.proofs.put_string_line.Reads as sdpRowPutStringLine
@@ -105,6 +107,9 @@ use Rattle.sdp_tables.proofs.put_contact.Reads as sdpTablesPutContact
 use Rattle.sdp_tables.proofs.put_closing.Reads as sdpTablesPutClosing
 use Rattle.sdp_tables.proofs.put_medias.Reads as sdpTablesPutMedias
 use Rattle.sdp_write.proofs.write.Reads as sdpWriteWrite
+use Rattle.sdp_window.proofs.run_in_part.Reads as sdpWindowRunInPart
+use Rattle.sdp_listing.proofs.put_run.Reads as sdpListingPutRun
+use Rattle.sdp_starts.proofs.starts_in.Reads as sdpStartsStartsIn
 use Rattle.sdp_order.proofs.letter_order.Reads as sdpOrderLetterOrder
 use Rattle.sdp_order.proofs.verdict_of.Reads as sdpOrderVerdictOf
 use Rattle.sdp_builders.proofs.Origin.username.Reads as sdpBuildersOriginUsername
@@ -120,6 +125,7 @@ use Rattle.sdp.proofs.sdp_cut.Reads as sdpSdpCut
 use Rattle.sdp.proofs.sdp_read.Reads as sdpSdpRead
 use Rattle.sdp.proofs.sdp_write.Reads as sdpSdpWrite
 use Rattle.sdp.proofs.sdp_letter_order.Reads as sdpSdpLetterOrder
+use Rattle.sdp.proofs.sdp_starts.Reads as sdpSdpStarts
 use Rattle.sdp.proofs.sdp_area_size.Reads as sdpSdpAreaSize
 
 -- ---- sdp_bytes
@@ -398,6 +404,10 @@ sdp-decode-num8 κs a z z′ e e′ p q = same p q
 pub sdp-valid-judge : OneAnswer sdpValidJudge.Learnt
 sdp-valid-judge κs a z z′ e e′ p q = same p q
 
+-- ---- sdp_unfit
+pub sdp-unfit-unfit : OneAnswer sdpUnfitUnfit.Learnt
+sdp-unfit-unfit κs a z z′ e e′ p q = same p q
+
 -- ---- sdp_room
 pub sdp-room-room-for : OneAnswer sdpRoomRoomFor.Learnt
 sdp-room-room-for κs a z z′ e e′ p q = same (p .0) (q .0)
@@ -451,6 +461,18 @@ sdp-tables-put-medias κs a z z′ e e′ l k p q = same-put l k p q
 pub sdp-write-write : OneState (λ κs e. now (e .1 .1 .0)) sdpWriteWrite.Learnt
 sdp-write-write κs a z z′ e e′ p q = (same (p .0) (q .0), same (p .1) (q .1))
 
+-- ---- sdp_window
+pub sdp-window-run-in-part : OneAnswer sdpWindowRunInPart.Learnt
+sdp-window-run-in-part κs a z z′ e e′ p q = same p q
+
+-- ---- sdp_listing
+pub sdp-listing-put-run : OneState (λ κs e. columns (now (e .0)) (now (e .1 .0)) (now (e .1 .1 .0))) sdpListingPutRun.Learnt
+sdp-listing-put-run κs a z z′ e e′ p q = (refl, same p q)
+
+-- ---- sdp_starts
+pub sdp-starts-starts-in : OneAnswer sdpStartsStartsIn.Learnt
+sdp-starts-starts-in κs a z z′ e e′ p q = same p q
+
 -- ---- sdp_order
 pub sdp-order-letter-order : OneAnswer sdpOrderLetterOrder.Learnt
 sdp-order-letter-order κs a z z′ e e′ p q = same p q
@@ -499,6 +521,9 @@ sdp-sdp-write κs a z z′ e e′ p q = (same (p .0) (q .0), same (p .1) (q .1))
 
 pub sdp-sdp-letter-order : OneAnswer sdpSdpLetterOrder.Learnt
 sdp-sdp-letter-order κs a z z′ e e′ p q = same p q
+
+pub sdp-sdp-starts : OneAnswer sdpSdpStarts.Learnt
+sdp-sdp-starts κs a z z′ e e′ p q = same p q
 
 pub sdp-sdp-area-size : OneAnswer sdpSdpAreaSize.Learnt
 sdp-sdp-area-size κs a z z′ e e′ p q = same p q

@@ -10,8 +10,8 @@ module _ {L : Type 0} {A Z E : L → Type 0} where
   abbrev pub OneAnswer : ((κs : L) → A κs → Z κs → E κs → Type 0) → Type 0
   OneAnswer promise = (κs : L) (a : A κs) (z z′ : Z κs) (e e′ : E κs) → promise κs a z e → promise κs a z′ e′ → z ≡ z′
 
-  -- the same where memory is lent to be written: the answers are the same, and all bytes of that memory at the exit are
-  abbrev pub OneState : ((κs : L) → E κs → List ℕ) → ((κs : L) → A κs → Z κs → E κs → Type 0) → Type 0
+  -- the same where memory is lent to be written: the answers are the same, and all of that memory at the exit is
+  abbrev pub OneState : {X : Type 0} → ((κs : L) → E κs → X) → ((κs : L) → A κs → Z κs → E κs → Type 0) → Type 0
   OneState after promise =
       (κs : L) (a : A κs) (z z′ : Z κs) (e e′ : E κs) → promise κs a z e → promise κs a z′ e′ → (z ≡ z′) × (after κs e ≡ after κs e′)
 

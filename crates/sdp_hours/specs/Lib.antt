@@ -1,0 +1,5 @@
+pub mod Hours
+pub mod Listing
+pub mod Starts
+pub mod Rises
+pub mod Sampled

@@ -1,0 +1,5 @@
+pub mod PlaceLaws
+pub mod ShiftLaws
+pub mod LengthLaws
+pub mod RunLaws
+pub mod HeldLaws

@@ -1,0 +1,6 @@
+pub mod FillLaws
+pub mod RowLaws
+pub mod SeriesLaws
+pub mod TimeLaws
+pub mod ToldLaws
+pub mod ZoneLaws
