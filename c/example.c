@@ -1,6 +1,6 @@
-/* Prints what a session description announces, and then its written form, as rust/sdp/examples/announce.rs does. The text
- * comes from a file or from standard input. The exit status is 0, or 1 for a text that is refused, or 2 where something
- * can't be read or written. From the root of the repository:
+/* Prints what a session description announces, when it starts in the week that begins with its first time, and then its
+ * written form, as rust/sdp/examples/announce.rs does. The text comes from a file or from standard input. The exit status
+ * is 0, or 1 for a text that is refused, or 2 where something can't be read or written. From the root of the repository:
  *
  *     rt staticlib sdp && cc -std=c11 -Ic -o target/example c/example.c target/staticlib/libsdp.a
  *     target/example FILE
@@ -12,8 +12,10 @@
 #include <errno.h>
 
 static uint8_t text[SDP_LONGEST + 1]; /* one byte more, so that a text that is too long is seen */
+static size_t text_len;
 static uint8_t area[SDP_AREA_SIZE];
 static uint8_t out[SDP_ROOM];
+static struct sdp_starts starts;
 
 /* Numbers of the area, lower byte first. */
 static unsigned two(size_t at) {
@@ -44,6 +46,23 @@ static size_t row(size_t table, size_t width, unsigned n) {
     return table + 2 + (n - 1) * width;
 }
 
+static void print_starts(void) {
+    const uint64_t week = 7 * 86400;
+    uint64_t from = two(SDP_TIMES) > 0 ? eight(row(SDP_TIMES, SDP_TIMES_ROW, 1)) : 0;
+    uint64_t to = from < UINT64_MAX - week ? from + week : UINT64_MAX;
+    starts = sdp_starts(text, text_len, area, sizeof area, from, to);
+    if (starts.number != SDP_DONE) {
+        struct sdp_answer refusal = {starts.number, 0, 0, 0, 0};
+        char sentence[SDP_SENTENCE_SIZE];
+        printf("starts: %s\n", sdp_sentence(refusal, sentence, sizeof sentence));
+    }
+    for (uint64_t i = 0; i < starts.count; i++) {
+        printf("starts: %" PRIu64 " by time %" PRIu64, starts.at[i], starts.time[i]);
+        if (starts.repeat[i] > 0) printf(", repeat %" PRIu64, starts.repeat[i]);
+        printf("\n");
+    }
+}
+
 static void print_session(void) {
     printf("name: ");
     put_string(SDP_NAME);
@@ -66,6 +85,7 @@ static void print_session(void) {
         size_t zone = row(SDP_ZONES, SDP_ZONES_ROW, z);
         printf("zone: %" PRId64 " s from %" PRIu64 " on\n", signed_eight(zone + 8), eight(zone));
     }
+    print_starts();
     for (unsigned m = 1; m <= two(SDP_MEDIAS); m++) {
         size_t media = row(SDP_MEDIAS, SDP_MEDIAS_ROW, m);
         printf("media: ");
@@ -102,7 +122,7 @@ int main(int argc, char **argv) {
     const char *name = argc > 1 ? argv[1] : "standard input";
     FILE *in = argc > 1 ? fopen(name, "rb") : stdin;
     if (in == NULL) return failed(name);
-    size_t text_len = fread(text, 1, sizeof text, in);
+    text_len = fread(text, 1, sizeof text, in);
     if (ferror(in)) return failed(name);
 
     struct sdp_answer answer = sdp_read(text, text_len, area, sizeof area);

@@ -12,6 +12,9 @@
  *     ...                                                // the area holds the session: see "The area" below
  *     answer = sdp_write(text, text_len, area, sizeof area, out, sizeof out);
  *     if (answer.number == 0) ...                        // the first answer.len bytes of out are the written text
+ *     static struct sdp_starts starts;
+ *     starts = sdp_starts(text, text_len, area, sizeof area, from, to);
+ *     for (i = 0; i < starts.count; i++) ...             // it starts at starts.at[i]; or starts.number says why not
  *
  * Memory. Every function takes bytes with their length, and answers for all contents, all lengths and all numbers.
  * Bytes need no zero behind them and no alignment. What is const must not change during the call. What is not const, the
@@ -35,7 +38,8 @@ extern "C" {
 enum {
     SDP_AREA_SIZE = 14558, /* bytes of an area; sdp_area_size() answers the same: assert it once at the start */
     SDP_LONGEST = 32768,   /* bytes that a text may have */
-    SDP_ROOM = 43727       /* bytes of output that are enough for any text that was read */
+    SDP_ROOM = 43727,      /* bytes of output that are enough for any text that was read */
+    SDP_MOST_STARTS = 256  /* starts that sdp_starts lists at most */
 };
 
 /* The number of an answer: 0, or why not. docs/REFUSALS.md has more words, and the numbers of the fields. */
@@ -63,7 +67,9 @@ enum sdp_refusal {
     SDP_REPEAT_WITHOUT_TIME = 20,  /* an r line with no t line before it */
     SDP_TABLE_FULL = 21,           /* gives line, and the table as field: 1 emails .. 10 medias, as in "The area" */
     SDP_OUTPUT_TOO_SHORT = 22,     /* gives as len the bytes that an output needs */
-    SDP_BAD_SESSION = 23           /* the area holds no session for this text */
+    SDP_BAD_SESSION = 23,          /* the area holds no session for this text */
+    SDP_ZONES_FALL = 28,           /* an adjustment time of the z line is below the one before it */
+    SDP_TOO_MANY_STARTS = 29       /* more than SDP_MOST_STARTS in the window */
 };
 
 /* What sdp_read and sdp_write say. What a number doesn't give is 0. */
@@ -99,6 +105,15 @@ struct sdp_order {
     uint64_t yes;    /* 1 or 0 */
 };
 
+/* When a session starts within a window. After a refusal, and from count on, all is 0. */
+struct sdp_starts {
+    uint64_t number;                  /* 0, or 2, 1, 23, 28 or 29 as above */
+    uint64_t count;                   /* how many starts there are */
+    uint64_t at[SDP_MOST_STARTS];     /* the instant of each, in seconds since 1900, as SDP counts */
+    uint64_t time[SDP_MOST_STARTS];   /* the row of its time in SDP_TIMES, from 1 */
+    uint64_t repeat[SDP_MOST_STARTS]; /* the row of its repeat in SDP_REPEATS, from 1; 0 for a time without repeats */
+};
+
 /* Reads a text into the area, which may hold anything before, and may be longer than SDP_AREA_SIZE. On 0 its first
  * SDP_AREA_SIZE bytes hold the session. After 1 and 2 the area is unchanged, after 3 to 21 these bytes are zero. The
  * strings of the session are places in the text: keep the text, unchanged, as long as you use the area. */
@@ -110,6 +125,16 @@ struct sdp_answer sdp_read(const uint8_t *text, size_t text_len, uint8_t *area, 
  * with 23, given the same text. */
 struct sdp_answer sdp_write(const uint8_t *text, size_t text_len, const uint8_t *area, size_t area_len,
                             uint8_t *out, size_t out_len);
+
+/* When the session of an area starts, given the text that it was read from: every start that is not before from and is
+ * before to, in rising order; of equal instants the lower time first, then the lower repeat. A time without repeats starts
+ * once, at its start. A repeat starts at its time's start + k * interval + offset, for each of its offsets (0 where it has
+ * none) and each k from 0 on; only for k = 0 where the interval is 0. What is at or after a stop that isn't 0 is left out.
+ * Then the offset of the last zone whose adjustment time is not after it is added to a repeat's start, with its sign. A
+ * start of 0 lists nothing. Where from >= to the list is empty. The refusals are 2, 1 and 23 as for sdp_write, then 28 and
+ * 29, judged in this order. */
+struct sdp_starts sdp_starts(const uint8_t *text, size_t text_len, const uint8_t *area, size_t area_len,
+                             uint64_t from, uint64_t to);
 
 /* SDP_AREA_SIZE, as the archive has it. */
 size_t sdp_area_size(void);

@@ -1,6 +1,8 @@
-/* A sentence for each refusal of sdp_read and sdp_write, such as
+/* A sentence for each refusal of sdp_read, sdp_write and sdp_starts, such as
  *
  *     line 2: the start time is not a whole number below 2^64 (refusal 9)
+ *
+ * That of sdp_starts has a number alone: struct sdp_answer refusal = {starts.number, 0, 0, 0, 0}.
  *
  * The words are those of docs/REFUSALS.md; a test (rust/sdp/tests/words.rs) holds them together.
  */
@@ -16,31 +18,36 @@
 /* Enough for any sentence and the zero byte behind it; the test tries them all. */
 enum { SDP_SENTENCE_SIZE = 200 };
 
-/* The sentences of 1 to 23. What stands in braces is put in. */
-static const char *const sdp_sentences[] = {
-    "the text has more than 32768 bytes",
-    "the area has fewer than 14558 bytes",
-    "there is a NUL or a CR in the line",
-    "the line has no =",
-    "the first = is not the second byte of the line",
-    "there is no version: the first line must be v=0",
-    "the version is not 0",
-    "{field} is not UTF-8",
-    "{field} is not {form}",
-    "{field} is missing",
-    "{field} must not be there",
-    "there is a second o line",
-    "there is a second s line",
-    "there is a second i line of the session",
-    "there is a second u line",
-    "there is a second c line of the session",
-    "there is a second z line",
-    "there is a second i line in this media",
-    "there is a second k line",
-    "there is an r line with no t line before it",
-    "there are more than {rows} {table}",
-    "the output is too short: {len} bytes are needed",
-    "the area holds no session for this text",
+/* The sentences, each with its number. What stands in braces is put in. */
+static const struct {
+    uint64_t number;
+    const char *words;
+} sdp_sentences[] = {
+    {1, "the text has more than 32768 bytes"},
+    {2, "the area has fewer than 14558 bytes"},
+    {3, "there is a NUL or a CR in the line"},
+    {4, "the line has no ="},
+    {5, "the first = is not the second byte of the line"},
+    {6, "there is no version: the first line must be v=0"},
+    {7, "the version is not 0"},
+    {8, "{field} is not UTF-8"},
+    {9, "{field} is not {form}"},
+    {10, "{field} is missing"},
+    {11, "{field} must not be there"},
+    {12, "there is a second o line"},
+    {13, "there is a second s line"},
+    {14, "there is a second i line of the session"},
+    {15, "there is a second u line"},
+    {16, "there is a second c line of the session"},
+    {17, "there is a second z line"},
+    {18, "there is a second i line in this media"},
+    {19, "there is a second k line"},
+    {20, "there is an r line with no t line before it"},
+    {21, "there are more than {rows} {table}"},
+    {22, "the output is too short: {len} bytes are needed"},
+    {23, "the area holds no session for this text"},
+    {28, "the adjustment times of the z line fall"},
+    {29, "there are more than 256 starts in the window"},
 };
 
 #define SDP_WHOLE "a whole number below 2^64"
@@ -123,8 +130,10 @@ static inline const char *sdp_sentence(struct sdp_answer answer, char *out, size
 #define SDP_HAS(list, number) ((number) - 1 < sizeof(list) / sizeof *(list))
     const char *const *field = SDP_HAS(sdp_fields, answer.field) ? sdp_fields[answer.field - 1] : none;
     const char *const *table = SDP_HAS(sdp_tables, answer.field) ? sdp_tables[answer.field - 1] : none;
-    const char *rest = SDP_HAS(sdp_sentences, answer.number) ? sdp_sentences[answer.number - 1] : "refused";
 #undef SDP_HAS
+    const char *rest = "refused"; /* by a later archive */
+    for (size_t i = 0; i < sizeof sdp_sentences / sizeof *sdp_sentences; i++)
+        if (sdp_sentences[i].number == answer.number) rest = sdp_sentences[i].words;
     char line[32], len[32], number[32];
     snprintf(line, sizeof line, "line %" PRIu64 ": ", answer.line);
     snprintf(len, sizeof len, "%" PRIu64, answer.len);

@@ -4,6 +4,7 @@ use bench::cost::{self, Cost};
 use bench::marks::{known, marked};
 use bench::sides::{Ours, Side, Theirs, Work};
 use bench::stack::{self, Lent};
+use bench::starts;
 use bench::table;
 use generate::hostile;
 use std::collections::BTreeMap;
@@ -24,11 +25,16 @@ fn works(case: &Case) -> &'static [Work] {
     }
 }
 
-/// Makes each call between the marks, and prints a line for each when all are made. The first two test the counter.
-fn calls(cases: &[Case]) {
-    let mut said = String::from("nothing 0 none none\nknown 0 none none\n");
+/// The first two calls between the marks, which test the counter, and what is said of them.
+fn begun() -> String {
     marked(|| ());
     marked(known);
+    "nothing 0 none none\nknown 0 none none\n".into()
+}
+
+/// Makes each call between the marks, and prints a line for each when all are made.
+fn calls(cases: &[Case]) {
+    let mut said = begun();
     for mut side in sides() {
         for case in cases {
             side.keep(&case.text);
@@ -43,32 +49,66 @@ fn calls(cases: &[Case]) {
     print!("{said}");
 }
 
-/// The least nanoseconds of a call in many short runs, the two sides in turn: so other work of the machine does least harm.
-fn times(cases: &[Case]) {
+/// A call of reading or of listing.
+fn call(ours: &mut Ours, work: &str, case: &starts::Case) {
+    let text = black_box(&case.text[..]);
+    if work == starts::WORKS[0] {
+        black_box(ours.read(text));
+    } else {
+        black_box(ours.list(text, black_box(&case.window)).ok());
+    }
+}
+
+/// The same for the list of starts.
+fn list_calls(cases: &[starts::Case]) {
+    let mut said = begun();
+    let mut ours = Ours::default();
+    for case in cases {
+        ours.keep(&case.text);
+        for work in starts::WORKS {
+            call(&mut ours, work, case);
+            marked(|| call(&mut ours, work, case));
+            said += &format!("{} {} {work} {}\n", case.name, case.text.len(), ours.name());
+        }
+    }
+    print!("{said}");
+}
+
+/// The least nanoseconds of a call in many short runs, two calls in turn: so other work of the machine does least harm.
+/// `run` makes a call of one of the two so many times.
+fn least(mut run: impl FnMut(usize, u32) -> Duration) -> [f64; 2] {
     const RUNS: usize = 100;
     const RUN: Duration = Duration::from_micros(200);
+    let mut least = [f64::INFINITY; 2];
+    let mut many = [1u32; 2];
+    for _ in 0..RUNS {
+        for at in 0..2 {
+            loop {
+                let taken = run(at, many[at]);
+                if taken >= RUN {
+                    least[at] = least[at].min(taken.as_nanos() as f64 / f64::from(many[at]));
+                    break;
+                }
+                many[at] *= 2;
+            }
+        }
+    }
+    least
+}
+
+/// Of the two sides.
+fn times(cases: &[Case]) {
     let mut both = sides();
     for case in cases {
         for &work in works(case) {
-            let mut least = [f64::INFINITY; 2];
-            let mut many = [1u32; 2];
-            for _ in 0..RUNS {
-                for (at, side) in both.iter_mut().enumerate() {
-                    side.keep(&case.text);
-                    loop {
-                        let start = Instant::now();
-                        for _ in 0..many[at] {
-                            black_box(side.call(work, &case.text));
-                        }
-                        let taken = start.elapsed();
-                        if taken >= RUN {
-                            least[at] = least[at].min(taken.as_nanos() as f64 / f64::from(many[at]));
-                            break;
-                        }
-                        many[at] *= 2;
-                    }
+            let least = least(|at, many| {
+                both[at].keep(&case.text);
+                let start = Instant::now();
+                for _ in 0..many {
+                    black_box(both[at].call(work, &case.text));
                 }
-            }
+                start.elapsed()
+            });
             for (side, least) in both.iter().zip(least) {
                 println!("{} {} {} {} {least:.1}", case.name, case.text.len(), work.name(), side.name());
             }
@@ -76,17 +116,36 @@ fn times(cases: &[Case]) {
     }
 }
 
+/// Of reading and of listing the starts.
+fn list_times(cases: &[starts::Case]) {
+    let mut ours = Ours::default();
+    for case in cases {
+        ours.keep(&case.text);
+        let least = least(|at, many| {
+            let start = Instant::now();
+            for _ in 0..many {
+                call(&mut ours, starts::WORKS[at], case);
+            }
+            start.elapsed()
+        });
+        for (work, least) in starts::WORKS.iter().zip(least) {
+            println!("{} {} {work} {} {least:.1}", case.name, case.text.len(), ours.name());
+        }
+    }
+}
+
 /// The most stack that a call took on any text: each function of the archive, and beside reading and writing the
 /// crate's. The crate is not given the hostile texts.
-fn stacks(cases: &[Case]) {
+fn stacks(cases: &[Case], lists: &[starts::Case]) {
     let hostile = hostile::texts();
     let own = cases.iter().map(|case| (&case.name, &case.text));
-    let texts: Vec<_> = own.chain(hostile.iter().map(|hostile| (&hostile.name, &hostile.text))).collect();
+    let lists = lists.iter().map(|case| (&case.name, &case.text));
+    let texts: Vec<_> = own.chain(lists).chain(hostile.iter().map(|hostile| (&hostile.name, &hostile.text))).collect();
     let mut most: BTreeMap<&str, (usize, &str)> = BTreeMap::new();
     for (name, text) in texts {
         let mut lent = Lent::new(text);
-        for (function, call) in stack::CALLS {
-            let used = stack::used(|| call(black_box(text), &mut lent));
+        for (function, measured) in stack::CALLS {
+            let used = measured(black_box(text), &mut lent);
             let most = most.entry(function).or_default();
             if used > most.0 {
                 *most = (used, name);
@@ -98,9 +157,7 @@ fn stacks(cases: &[Case]) {
         for case in cases.iter().filter(|case| works(case).contains(&work)) {
             theirs.keep(&case.text);
             theirs.call(work, &case.text); // what is loaded at a first call takes stack too
-            let used = stack::used(|| {
-                black_box(theirs.call(work, &case.text));
-            });
+            let used = stack::used(|| theirs.call(work, &case.text));
             let most = most.entry(title).or_default();
             if used > most.0 {
                 *most = (used, &case.name);
@@ -120,29 +177,43 @@ fn counts(name: &str) -> Result<Vec<Cost>, String> {
     cost::counts(&file(name)?).map_err(|e| format!("{name}: {e}"))
 }
 
+/// What is wrong, line by line, and the status for it.
+fn judged(wrong: &[String]) -> ExitCode {
+    for line in wrong {
+        println!("WRONG: {line}");
+    }
+    ExitCode::from(u8::from(!wrong.is_empty()))
+}
+
 fn run(words: &[&str]) -> Result<ExitCode, String> {
     match *words {
         ["calls", "all", texts] => calls(&cases::folder(Path::new(texts))?),
         ["calls", "few", texts] => calls(&cases::few(Path::new(texts))?),
         ["calls", "doubling"] => calls(&cases::doubling()?),
+        ["calls", "worst-starts"] => list_calls(&[starts::worst()?]),
+        ["calls", "starts", texts] => list_calls(&starts::cases(Path::new(texts))?),
+        ["calls", "starts-doubling"] => list_calls(&starts::doubling()?),
+        ["times", "starts", texts] => list_times(&starts::cases(Path::new(texts))?),
         ["times", texts] => times(&cases::folder(Path::new(texts))?),
         ["stacks", texts] => {
             let mut cases = cases::folder(Path::new(texts))?;
             cases.extend(cases::doubling()?);
-            stacks(&cases);
+            stacks(&cases, &starts::cases(Path::new(texts))?);
         }
         ["texts", count] => print!("{}", table::texts(&counts(count)?, None)?),
         ["texts", count, time] => print!("{}", table::texts(&counts(count)?, Some(&cost::costs(&file(time)?)?))?),
         ["short", count] => print!("{}", table::short(&counts(count)?)?),
         ["growth", count] => print!("{}", table::growth(&counts(count)?)?),
-        ["direction", count] => {
-            let wrong = table::direction(&counts(count)?)?;
-            for line in &wrong {
-                println!("WRONG: {line}");
-            }
-            if !wrong.is_empty() {
-                return Ok(ExitCode::from(1));
-            }
+        ["direction", count] => return Ok(judged(&table::direction(&counts(count)?)?)),
+        ["starts", count, time, texts] => {
+            let cases = starts::cases(Path::new(texts))?;
+            print!("{}", starts::table(&cases, &counts(count)?, &cost::costs(&file(time)?)?)?);
+        }
+        ["starts-growth", count] => print!("{}", starts::growth(&starts::doubling()?, &counts(count)?)?),
+        ["starts-held", count] => {
+            let (said, wrong) = starts::held(&starts::worst()?, &counts(count)?)?;
+            print!("{said}");
+            return Ok(judged(&wrong));
         }
         _ => return Err("run the script bench in the repository's root".into()),
     }

@@ -1,7 +1,8 @@
 //! The two sides. Each reads a text, writes what it read, and does both, with what its caller has to pay for.
-use compare::Answer;
+use compare::{Answer, Starts};
 use sdp_types::Session;
 use std::hint::black_box;
+use std::ops::Range;
 
 /// Room for the written form of any text that was read (docs/FFI.md).
 pub const ROOM: usize = 43_727;
@@ -55,11 +56,12 @@ pub trait Side {
     }
 }
 
-/// The archive: area and output are lent, and lent again for the next text.
+/// The archive: area and output are lent, and lent again for the next text. A list of starts has its place too.
 pub struct Ours {
     area: Vec<u8>,
     out: Vec<u8>,
     len: usize,
+    list: Box<Starts>,
 }
 
 impl Default for Ours {
@@ -68,6 +70,7 @@ impl Default for Ours {
             area: vec![0; compare::area_size()],
             out: vec![0; ROOM],
             len: 0,
+            list: Box::default(),
         }
     }
 }
@@ -75,6 +78,15 @@ impl Default for Ours {
 impl Ours {
     pub fn answer(&mut self, text: &[u8]) -> Answer {
         compare::read(text, &mut self.area)
+    }
+
+    /// Lists the starts of what was kept: how many, or the refusal.
+    pub fn list(&mut self, text: &[u8], window: &Range<u64>) -> Result<usize, u64> {
+        *self.list = compare::starts(text, &self.area, window.start, window.end);
+        match self.list.number {
+            0 => Ok(self.list.count as usize),
+            number => Err(number),
+        }
     }
 }
 

@@ -1,10 +1,12 @@
 //! What docs/SPEED.md says of the archive. It uses no heap: it calls nothing of the C library but what sets or copies
 //! memory.
 use bench::stack::CALLS;
+use bench::starts::{cases, doubling, worst};
 use object::read::archive::ArchiveFile;
 use object::read::elf::ElfFile64;
 use object::{LittleEndian, Object, ObjectSymbol};
 use std::collections::BTreeSet;
+use std::path::Path;
 
 /// What a compiler may call by itself. None of these allocates.
 const ALLOWED: [&str; 5] = ["bcmp", "memcmp", "memcpy", "memmove", "memset"];
@@ -41,4 +43,27 @@ fn no_heap() {
     for name in outside {
         assert!(ALLOWED.contains(&name.as_str()), "the archive calls {name}");
     }
+}
+
+/// The worst list has full tables: with one row more in any of them its text is refused. `cases` and `doubling` look
+/// themselves whether each list has as many starts as it says.
+#[test]
+fn the_worst_list_is_full() {
+    let worst = worst().unwrap();
+    // 256 offsets, and 63 repeats that have none and count for one; 64 zones, and what is before them
+    assert_eq!(worst.parts, (256 + 63) * 65);
+    let text = String::from_utf8(worst.text).unwrap();
+    let number = |text: &str| {
+        let answer = compare::read(text.as_bytes(), &mut vec![0; compare::area_size()]);
+        (answer.number, answer.field)
+    };
+    let repeat = text.lines().find(|line| line.starts_with("r=")).unwrap();
+    let zones = text.lines().find(|line| line.starts_with("z=")).unwrap();
+    assert_eq!(number(&text), (0, 0));
+    assert_eq!(number(&text.replace("z=", "r=1 1\nz=")), (21, 6));
+    assert_eq!(number(&text.replace(repeat, &format!("{repeat} 1"))), (21, 7));
+    assert_eq!(number(&text.replace(zones, &format!("{zones} 9999999999 0"))), (21, 8));
+    let texts = Path::new(env!("CARGO_MANIFEST_DIR")).join("../../texts");
+    assert!(cases(&texts).unwrap().iter().all(|case| case.parts <= worst.parts));
+    assert_eq!(doubling().unwrap().len(), 7 + 9 + 7);
 }

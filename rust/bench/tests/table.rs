@@ -1,6 +1,7 @@
 //! The tables and the check of the direction, on costs made by hand.
 use bench::cost::{costs, counts, geometric_mean, rows};
 use bench::sides::Work;
+use bench::starts::{self, Case};
 use bench::table::{direction, growth, short, texts};
 
 const GOOD: &str = "\
@@ -97,4 +98,55 @@ fn bad_counts() {
     ] {
         assert!(rows(&counts(&GOOD.replace(from, to)).unwrap(), Work::Read).is_err(), "{why}");
     }
+}
+
+const LISTS: &str = "\
+nothing 0 none none 3
+known 0 none none 20005
+few 10 read ours 103
+few 10 starts ours 203
+full-256 4000 read ours 100003
+full-256 4000 starts ours 4000003
+zones-1 20 read ours 13
+zones-1 20 starts ours 2003
+";
+
+fn case(name: &str, due: Result<usize, u64>, parts: usize) -> Case {
+    Case { name: name.into(), text: b"v=0".to_vec(), window: 0..1, due, parts }
+}
+
+#[test]
+fn the_lists() {
+    let counts = counts(LISTS).unwrap();
+    let timed = costs(&LISTS.lines().skip(2).collect::<Vec<_>>().join("\n")).unwrap();
+    let cases = [case("few", Ok(7), 8), case("full-256", Err(29), 20_000)];
+    let table = starts::table(&cases, &counts, &timed).unwrap();
+    let rows: Vec<Vec<&str>> = table.lines().skip(1).map(|line| line.split_whitespace().collect()).collect();
+    assert_eq!(rows[0], ["few", "3", "7", "8", "100", "200", "2.00", "25.0", "103", "203", "1.97"]);
+    assert_eq!(rows[1][2..8], ["(29)", "20000", "100000", "4000000", "40.00", "200.0"]);
+    assert!(table.lines().all(|line| line.len() <= 100), "{table}");
+    let grown = starts::growth(&[case("zones-1", Ok(1), 100)], &counts).unwrap();
+    assert_eq!(grown.lines().nth(2), Some("      1                         20.00"), "{grown}");
+    assert_eq!(grown.lines().count(), 11, "{grown}");
+    for (from, to, why) in [
+        ("few 10 read ours 103\n", "", "no reading"),
+        ("few 10 starts ours 203\n", "", "no list"),
+        ("few 10 starts ours 203\n", "few 10 starts ours 203\nfew 10 starts ours 204\n", "two lists"),
+    ] {
+        let bad = bench::cost::counts(&LISTS.replace(from, to)).unwrap();
+        assert!(starts::table(&cases, &bad, &timed).is_err(), "{why}");
+    }
+    assert!(starts::table(&cases, &counts, &timed[2..]).is_err(), "no time");
+    assert!(starts::growth(&[case("zones-2", Ok(1), 100)], &counts).is_err(), "a case that was not counted");
+}
+
+#[test]
+fn the_most_of_a_list() {
+    let counts = counts(LISTS).unwrap();
+    let (said, wrong) = starts::held(&case("full-256", Ok(256), 20_000), &counts).unwrap();
+    assert_eq!(said, "the list of starts   200.00 instructions for each of 20000 parts\n");
+    assert_eq!(wrong, [String::new(); 0]);
+    let (_, wrong) = starts::held(&case("full-256", Ok(256), 19_999), &counts).unwrap();
+    assert_eq!(wrong, ["the list of starts: 200.01 instructions for each part, and 200 are the most"]);
+    assert!(starts::held(&case("full-257", Ok(256), 1), &counts).is_err());
 }

@@ -1,15 +1,12 @@
 //! `beside [FILE]`: a session description and its canonical form side by side.
 use beside::canonical;
-use beside::page::{page, LONGEST};
+use beside::page::page;
+use beside::program::{file, Program, REFUSED};
 use std::ffi::OsString;
-use std::fs::File;
-use std::io::{self, ErrorKind, IsTerminal, Read, Write};
+use std::io::{self, IsTerminal};
 use std::process::ExitCode;
 
-const REFUSED: u8 = 1;
-const FAILED: u8 = 2;
-/// Of a text that is too long this much is read and dropped, so that a program that pipes it in isn't stopped.
-const DRAINED: u64 = 1 << 28;
+const ME: Program = Program("beside");
 
 const HELP: &str = "\
 usage: beside [FILE]
@@ -27,21 +24,6 @@ wider than 100 columns. There is colour only on a terminal, and none where NO_CO
 status: 0 the text is accepted, changed or not; 1 it is refused; 2 wrong words, or the text can't be read
 ";
 
-/// The text, or its first bytes where it is too long.
-fn take(mut input: impl Read) -> io::Result<Vec<u8>> {
-    let mut text = Vec::new();
-    input.by_ref().take(LONGEST as u64 + 1).read_to_end(&mut text)?;
-    if text.len() > LONGEST {
-        io::copy(&mut input.take(DRAINED), &mut io::sink())?;
-    }
-    Ok(text)
-}
-
-fn fail(what: &str) -> ExitCode {
-    eprintln!("beside: {what}");
-    ExitCode::from(FAILED)
-}
-
 fn main() -> ExitCode {
     let mut words: Vec<OsString> = std::env::args_os().skip(1).collect();
     let only_files = words.first().map_or(false, |word| word == "--");
@@ -51,38 +33,22 @@ fn main() -> ExitCode {
     let option = words.iter().find(|word| !only_files && word.len() > 1 && word.to_string_lossy().starts_with('-'));
     if let Some(option) = option {
         if option == "--help" || option == "-h" {
-            return show(HELP, ExitCode::SUCCESS);
+            return ME.show(HELP, ExitCode::SUCCESS);
         }
-        return fail(&format!("there is no option {}; --help says more", option.to_string_lossy()));
+        return ME.fail(&format!("there is no option {}; --help says more", option.to_string_lossy()));
     }
     let (name, text) = match &words[..] {
-        [] => ("standard input".into(), from_standard_input()),
-        [word] if word == "-" && !only_files => ("standard input".into(), from_standard_input()),
-        [word] => (word.to_string_lossy(), File::open(word).and_then(take)),
-        _ => return fail("it takes one file at most; --help says more"),
+        [] => ("standard input".into(), ME.standard_input()),
+        [word] if word == "-" && !only_files => ("standard input".into(), ME.standard_input()),
+        [word] => (word.to_string_lossy(), file(word)),
+        _ => return ME.fail("it takes one file at most; --help says more"),
     };
     let text = match text {
         Ok(text) => text,
-        Err(error) => return fail(&format!("{name}: {error}")),
+        Err(error) => return ME.fail(&format!("{name}: {error}")),
     };
     let written = canonical(&text);
     let colour = io::stdout().is_terminal() && std::env::var_os("NO_COLOR").map_or(true, |value| value.is_empty());
     let status = if written.is_ok() { ExitCode::SUCCESS } else { ExitCode::from(REFUSED) };
-    show(&page(&text, written.as_deref().map_err(|error| *error), colour), status)
-}
-
-fn from_standard_input() -> io::Result<Vec<u8>> {
-    if io::stdin().is_terminal() {
-        eprintln!("beside: type or paste a session description, and end it with Ctrl-D");
-    }
-    take(io::stdin().lock())
-}
-
-/// Whoever closes the pipe early has seen enough.
-fn show(page: &str, status: ExitCode) -> ExitCode {
-    let mut out = io::stdout().lock();
-    match out.write_all(page.as_bytes()).and_then(|()| out.flush()) {
-        Err(error) if error.kind() != ErrorKind::BrokenPipe => fail(&format!("standard output: {error}")),
-        _ => status,
-    }
+    ME.show(&page(&text, written.as_deref().map_err(|error| *error), colour), status)
 }

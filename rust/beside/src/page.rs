@@ -251,7 +251,7 @@ fn refused(mut pen: Pen, text: &[u8], error: Error) -> String {
 }
 
 /// A sentence in rows of whole words.
-fn rows(sentence: &str) -> String {
+pub fn rows(sentence: &str) -> String {
     let mut out = String::new();
     let mut width = 0;
     for word in sentence.split(' ') {

@@ -1,8 +1,9 @@
 //! Which areas can be written: document 01, "Writing", in its words, over the layout of docs/AREA.md. Every cell of an
 //! area is either judged or, past a count or in an absent field, not looked at.
-use crate::area::{Part, PARTS, SIZE};
+use crate::area::{all_zero, Part, PARTS, SIZE};
 use std::collections::BTreeSet;
 use std::sync::OnceLock;
+use std::time::{Duration, Instant};
 
 /// A reason for 23. "A number is out of its Rust type" is none here: every pattern of bytes in a number's cell is a
 /// number of that type.
@@ -228,4 +229,43 @@ pub fn cleaned(area: &[u8]) -> Vec<u8> {
         clean[at.clone()].copy_from_slice(&area[at]);
     }
     clean
+}
+
+/// To make a failing area small.
+const LONG_ENOUGH: Duration = Duration::from_secs(20);
+
+/// The area with zero in each cell that isn't needed for `differs` to hold, as it does for `area`.
+pub fn emptiest(area: &[u8], mut differs: impl FnMut(&[u8]) -> bool) -> Vec<u8> {
+    let mut small = area.to_vec();
+    let start = Instant::now();
+    loop {
+        let before = small.clone();
+        for cell in cells(&before) {
+            let cell_at = cell.at..cell.at + cell.width;
+            if all_zero(&small[cell_at.clone()]) || start.elapsed() > LONG_ENOUGH {
+                continue;
+            }
+            let mut less = small.clone();
+            less[cell_at].fill(0);
+            if differs(&less) {
+                small = less;
+            }
+        }
+        if small == before {
+            return small;
+        }
+    }
+}
+
+/// The cells of an area that are not zero, a line for each.
+pub fn in_words(area: &[u8]) -> String {
+    let mut report = String::new();
+    for cell in cells(area) {
+        let bytes = &area[cell.at..cell.at + cell.width];
+        let (part, row, name, at) = (cell.part.name, cell.row + 1, cell.name, cell.at);
+        if !all_zero(bytes) {
+            report += &format!("{part} row {row} {name} at {at}: {bytes:02x?}\n");
+        }
+    }
+    report + "all other cells are zero\n"
 }

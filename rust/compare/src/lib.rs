@@ -4,9 +4,11 @@ pub mod area;
 pub mod bench;
 pub mod interrupt;
 pub mod judge;
+pub mod listing;
 pub mod made;
 #[cfg(feature = "crate")]
 pub mod placed;
+pub mod starts;
 #[cfg(feature = "crate")]
 pub mod theirs;
 #[cfg(feature = "crate")]

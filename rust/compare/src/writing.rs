@@ -5,10 +5,6 @@ use crate::judge::{self, Fault};
 use crate::{theirs, Answer};
 use oracle::{fold, leaf, written};
 use std::collections::BTreeSet;
-use std::time::{Duration, Instant};
-
-/// To make a failing area small.
-const LONG_ENOUGH: Duration = Duration::from_secs(20);
 
 /// What became of an area: the text that both sides wrote, or why both refuse it.
 #[derive(Debug, Clone, PartialEq, Eq)]
@@ -146,37 +142,14 @@ impl<W: Fn(&[u8], &[u8], &mut [u8]) -> Answer> Writing<W> {
 
     /// A report on the emptiest area found that still differs.
     pub fn smallest(&self, text: &[u8], area: &[u8]) -> String {
-        let mut small = area[..SIZE].to_vec();
-        let start = Instant::now();
-        let what = match self.compare(text, &small) {
-            Ok(_) => return format!("only with the bytes beyond: {:?}", self.compare(text, area).err()),
-            Err(_) => loop {
-                let before = small.clone();
-                for cell in judge::cells(&before) {
-                    let cell_at = cell.at..cell.at + cell.width;
-                    if area::all_zero(&small[cell_at.clone()]) || start.elapsed() > LONG_ENOUGH {
-                        continue;
-                    }
-                    let mut less = small.clone();
-                    less[cell_at].fill(0);
-                    if self.compare(text, &less).is_err() {
-                        small = less;
-                    }
-                }
-                if small == before {
-                    break self.compare(text, &small).expect_err("the emptiest area differs too");
-                }
-            },
-        };
-        let mut report = format!("the two sides differ, text of {} bytes:\n{}\n", text.len(), text.escape_ascii());
-        for cell in judge::cells(&small) {
-            let bytes = &small[cell.at..cell.at + cell.width];
-            let (part, row, name, at) = (cell.part.name, cell.row + 1, cell.name, cell.at);
-            if !area::all_zero(bytes) {
-                report += &format!("{part} row {row} {name} at {at}: {bytes:02x?}\n");
-            }
+        let small = &area[..SIZE];
+        if self.compare(text, small).is_ok() {
+            return format!("only with the bytes beyond: {:?}", self.compare(text, area).err());
         }
-        report + &format!("all other cells are zero\n{what}")
+        let small = judge::emptiest(small, |less| self.compare(text, less).is_err());
+        let what = self.compare(text, &small).expect_err("the emptiest area differs too");
+        let report = format!("the two sides differ, text of {} bytes:\n{}\n", text.len(), text.escape_ascii());
+        report + &judge::in_words(&small) + &what
     }
 }
 

@@ -1,5 +1,5 @@
-//! docs/REFUSALS.md and the words of the crate `sdp` have the numbers of document 01: of the refusals with what each
-//! gives, of the fields and of the tables, none less and none more.
+//! docs/REFUSALS.md and the words of the crate `sdp` have the numbers of document 01, and of the requests of document 02
+//! that have landed: of the refusals with what each gives, of the fields and of the tables, none less and none more.
 #[path = "../../sdp/tests/page/mod.rs"]
 mod pages;
 use generate::sessions::PAIRS;
@@ -19,6 +19,20 @@ fn paragraph(heading: &str, start: &str) -> String {
     let line = found.next().unwrap_or_else(|| panic!("document 01 has a paragraph {start:?} under {heading:?}"));
     assert_eq!(found.next(), None);
     line.to_string()
+}
+
+/// The requests that have landed and bring refusals of their own.
+const LANDED: [&str; 1] = ["P3"];
+
+/// The numbers that a request brings, with their words, by its sentence `Refusals, in order: 2, 1, 23 as for writing; 28
+/// adjustment times fall; ..`.
+fn brought(request: &str) -> Vec<(u64, String)> {
+    let paper = file("../shared/docs/02-change-requests.md");
+    let paragraph = paper.lines().find(|line| line.starts_with(&format!("**{request}."))).expect("a request");
+    let (_, list) = paragraph.split_once("Refusals, in order: ").expect("its refusals");
+    let items = list.split('.').next().unwrap().split([';', ',']).filter_map(|item| item.trim().split_once(' '));
+    let numbered = items.filter_map(|(number, words)| Some((number.parse().ok()?, words.to_string())));
+    numbered.filter(|(number, _)| *number > 23).collect()
 }
 
 /// The page's rows by their number.
@@ -52,8 +66,13 @@ fn refusals() {
         }
     }
     let page = rows("Refusals");
+    for (number, words) in LANDED.into_iter().flat_map(brought) {
+        assert_eq!(due.insert(number, (None, BTreeSet::new())), None, "{number} stands once");
+        let said = words.split(' ').all(|word| page[&number][3].contains(word));
+        assert!(said, "{number}: document 02 says {words:?}, the page {:?}", page[&number][3]);
+    }
     assert_eq!(page.keys().collect::<Vec<_>>(), due.keys().collect::<Vec<_>>());
-    assert_eq!(due.len(), SENTENCES.len());
+    assert_eq!(due.keys().copied().collect::<Vec<_>>(), SENTENCES.map(|(number, _)| number));
     for (number, (letter, gives)) in &due {
         let row = &page[number];
         assert_eq!(given(&row[2]), *gives, "what refusal {number} gives");

@@ -1,12 +1,16 @@
-//! The comparisons themselves are tested: with a plain reader and a plain writer that have no slip they find nothing,
-//! and they find each slip.
+//! The comparisons themselves are tested: with a plain reader, a plain writer and a plain lister of starts that have no
+//! slip they find nothing, and they find each slip.
 mod plain;
 use compare::area::SIZE;
 use compare::bench::{Bench, Tally};
+use compare::listing::{self, Listing, Window};
 use compare::made::{self, DAMAGES};
+use compare::starts::{rows, tables};
 use compare::whole::Whole;
 use compare::writing::{Outcome, Writing};
+use generate::hours::{hours, KINDS};
 use generate::{random::count, sessions, shrink, Random};
+use plain::starts::{PlainStarts, SHOWN};
 use plain::writer::PlainWriter;
 use plain::{Plain, SLIPS};
 
@@ -102,6 +106,71 @@ fn each_slip_of_the_writer_is_found() {
         latest = latest.max(number);
     }
     println!("slips of the writer: all {} found, the last by area {latest}", slips.len());
+}
+
+/// The session with this number, and windows for it: times and zones of each kind, now and then a made area or a damaged
+/// one.
+fn session(number: u64) -> (Vec<u8>, Vec<u8>, Vec<Window>) {
+    let mut random = Random::new(SEED + number, "hours");
+    let (mut text, mut area) = (Vec::new(), Vec::new());
+    if number % 5 == 0 {
+        text = made::text(&mut random);
+        area = made::area(&mut random, &text);
+    } else {
+        area.extend(plain::encode(&listing::seen(&hours(&mut random, KINDS[number as usize % KINDS.len()]))));
+    }
+    if number % 7 == 0 {
+        made::damage(&mut random, DAMAGES[number as usize % DAMAGES.len()], &text, &mut area);
+    }
+    let windows = match tables(&text, &area) {
+        Ok(seen) => listing::windows(&mut random, &seen),
+        Err(_) => vec![(0, u64::MAX), (0, 0)],
+    };
+    (text, area, windows)
+}
+
+#[test]
+fn no_slip_of_the_lister_no_difference() {
+    let lister = PlainStarts { slip: "" };
+    let mut listing = Listing::new(|text: &[u8], area: &[u8], from, to| lister.starts(text, area, from, to));
+    for number in 0..count(6_000) {
+        let (text, area, windows) = session(number);
+        listing.same(&text, &area, &windows);
+    }
+    let counts = &listing.counts;
+    println!("slips of the lister: with none, {counts:?}");
+    assert!(counts.some > counts.sessions / 2 && counts.full > 0 && counts.refused.len() > 2);
+}
+
+#[test]
+fn each_slip_of_the_lister_is_found() {
+    let slips = plain::starts::SLIPS;
+    let mut latest = 0;
+    for slip in slips {
+        let lister = PlainStarts { slip };
+        let mut listing = Listing::new(|text: &[u8], area: &[u8], from, to| lister.starts(text, area, from, to));
+        let found = (0..6_000).find(|number| {
+            let (text, area, windows) = session(*number);
+            listing.compare(&text, &area, &windows).is_err()
+        });
+        let number = found.unwrap_or_else(|| panic!("the sessions don't show: {slip}"));
+        println!("{slip}: session {number}");
+        latest = latest.max(number);
+    }
+    println!("slips of the lister: all {} found, the last by session {latest}", slips.len());
+}
+
+/// The fixed cases of starts.rs: each shows the slip that it is there for, and a lister without one passes them all.
+#[test]
+fn the_nearest_slips_are_shown() {
+    for shown in &SHOWN {
+        let text = [b"v=0\n", shown.text.as_bytes()].concat();
+        let mut area = vec![0; SIZE];
+        assert_eq!(Plain { slip: "" }.read(&text, &mut area).number, 0, "{}", shown.text);
+        let listed = |slip| rows(&PlainStarts { slip }.starts(&text, &area, shown.window.0, shown.window.1));
+        assert_eq!(listed(""), Ok(shown.starts.to_vec()), "{}", shown.slip);
+        assert_ne!(listed(shown.slip), Ok(shown.starts.to_vec()), "{}", shown.slip);
+    }
 }
 
 /// A reader or a writer that errs only on a written form: nothing but reading back shows that.

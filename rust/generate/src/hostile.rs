@@ -36,6 +36,18 @@ pub fn full() -> Vec<u8> {
     text.into_bytes()
 }
 
+/// Times, repeats, offsets and zones as many as fit: 64 repeats of this interval, each with four offsets.
+fn starts(interval: u64) -> Vec<u8> {
+    let mut text = HEAD.to_string();
+    for at in 0..32 {
+        let repeat = format!("r={interval} 1 {} {} {} {}\n", 90 - at, 60 - at, 60 - at, 40 - at);
+        text += &format!("t={} 0\n{repeat}{repeat}", 1_000 - 10 * at);
+    }
+    let pairs: Vec<String> = (0..64).map(|at| format!("{} {}", 700 + 5 * at, 32 - at)).collect();
+    text += &format!("z={}\n", pairs.join(" "));
+    text.into_bytes()
+}
+
 pub fn texts() -> Vec<Hostile> {
     let mut all = Vec::new();
     let mut add = |name: String, text| all.push(Hostile { name, text });
@@ -78,6 +90,8 @@ pub fn texts() -> Vec<Hostile> {
     add("nothing".into(), Vec::new());
     add("full".into(), full());
     add("full-and-long".into(), [full(), again("", b"\n")].concat()[..LONGEST].to_vec());
+    add("starts".into(), starts(0));
+    add("starts-without-end".into(), starts(1));
     add("limit".into(), again(&format!("{timed}a="), b"x"));
     add("over-the-limit".into(), [again(HEAD, b"t=\n"), vec![b'\n'; 9]].concat()[..=LONGEST].to_vec());
     all

@@ -1,6 +1,7 @@
 //! Inputs for the comparisons: exhaustive ones over an alphabet, and random ones that a printed seed gives again.
 pub mod fields;
 pub mod hostile;
+pub mod hours;
 pub mod random;
 pub mod sessions;
 mod shrink;

@@ -1,11 +1,30 @@
-// Prints what a session description announces, and then its written form. The text comes from a file or from standard
-// input. The exit status is 0, or 1 for a text that is refused, or 2 where something can't be read or written.
+// Prints what a session description announces, when it starts in the week that begins with its first time, and then its
+// written form. The text comes from a file or from standard input. The exit status is 0, or 1 for a text that is refused,
+// or 2 where something can't be read or written.
 //
 //     cargo run --release --example announce -- FILE
 use sdp::{Area, Session, ROOM};
 use std::io::{self, Read, Write};
 use std::process::ExitCode;
 use std::{env, fs};
+
+const WEEK: u64 = 7 * 86_400;
+
+fn print_starts(session: Session, out: &mut impl Write) -> io::Result<()> {
+    let from = session.times().next().map_or(0, |time| time.start_time);
+    let starts = match session.starts(from..from.saturating_add(WEEK)) {
+        Ok(starts) => starts,
+        Err(refusal) => return writeln!(out, "starts: {refusal}"),
+    };
+    for start in &starts {
+        write!(out, "starts: {} by time {}", start.at, start.time)?;
+        if let Some(repeat) = start.repeat {
+            write!(out, ", repeat {repeat}")?;
+        }
+        writeln!(out)?;
+    }
+    Ok(())
+}
 
 fn print(session: Session, out: &mut impl Write) -> io::Result<()> {
     writeln!(out, "name: {}", session.session_name())?;
@@ -22,6 +41,7 @@ fn print(session: Session, out: &mut impl Write) -> io::Result<()> {
     for zone in session.time_zones() {
         writeln!(out, "zone: {} s from {} on", zone.offset, zone.adjustment_time)?;
     }
+    print_starts(session, out)?;
     for media in session.medias() {
         writeln!(out, "media: {} to port {}", media.media, media.port)?;
         for attribute in media.attributes() {

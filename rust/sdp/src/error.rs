@@ -24,6 +24,11 @@ impl Error {
         }
     }
 
+    /// The same of an answer that has a number alone.
+    pub(crate) fn check_number(number: u64) -> Result<(), Error> {
+        Error::check(Answer { number, ..Answer::default() }).map(|_| ())
+    }
+
     /// The number of the refusal.
     pub fn number(&self) -> u64 {
         self.0.number

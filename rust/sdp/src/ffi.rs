@@ -1,10 +1,11 @@
-//! The ten functions of the archive libsdp.a as they are, over slices that are lent. [`crate::read`] and
-//! [`crate::Session::write`] are these with types around them.
+//! The eleven functions of the archive libsdp.a as they are, over slices that are lent. [`crate::read`],
+//! [`crate::Session::write`] and [`crate::Session::starts`] are these with types around them.
 //!
 //! All `unsafe` of the crate is here. Each call is safe for every slice and every number: a Rattle `&[u8]` is a pointer
 //! and a length, the archive reads and writes only within what it is lent, and keeps no pointer (docs/FFI.md). A test
 //! (tests/header.rs) holds the declarations to the source of the archive.
 #![allow(unsafe_code)]
+use crate::MOST_STARTS;
 
 /// A number that was read.
 #[repr(C)]
@@ -64,8 +65,31 @@ pub struct Order {
     pub yes: u64,
 }
 
+/// When a session starts within a window. After a refusal, and from `count` on, all is 0.
+#[repr(C)]
+#[derive(Debug, Clone, PartialEq, Eq)]
+pub struct Starts {
+    /// 0, or the refusal: 2, 1, 23, 28 or 29
+    pub number: u64,
+    /// how many starts there are
+    pub count: u64,
+    /// the instant of each, in seconds since 1900
+    pub at: [u64; MOST_STARTS],
+    /// the number of its time, from 1
+    pub time: [u64; MOST_STARTS],
+    /// the number of its repeat, from 1 through all times; 0 for a time without repeats
+    pub repeat: [u64; MOST_STARTS],
+}
+
+impl Default for Starts {
+    fn default() -> Self {
+        let none = [0; MOST_STARTS];
+        Starts { number: 0, count: 0, at: none, time: none, repeat: none }
+    }
+}
+
 mod raw {
-    use super::{Answer, Numeral, Order, Piece};
+    use super::{Answer, Numeral, Order, Piece, Starts};
     extern "C" {
         pub fn sdp_utf8_end(bytes: *const u8, len: usize) -> usize;
         pub fn sdp_is_token(bytes: *const u8, len: usize) -> bool;
@@ -84,6 +108,14 @@ mod raw {
             out_len: usize,
         ) -> Answer;
         pub fn sdp_letter_order(text: *const u8, text_len: usize) -> Order;
+        pub fn sdp_starts(
+            text: *const u8,
+            text_len: usize,
+            area: *const u8,
+            area_len: usize,
+            from: u64,
+            to: u64,
+        ) -> Starts;
     }
 }
 
@@ -148,4 +180,10 @@ pub fn write(text: &[u8], area: &[u8], out: &mut [u8]) -> Answer {
 #[inline]
 pub fn letter_order(text: &[u8]) -> Order {
     unsafe { raw::sdp_letter_order(text.as_ptr(), text.len()) }
+}
+
+/// When the session that the area holds starts, from `from` on and before `to`; see [`starts`](crate::Session::starts).
+#[inline]
+pub fn starts(text: &[u8], area: &[u8], from: u64, to: u64) -> Starts {
+    unsafe { raw::sdp_starts(text.as_ptr(), text.len(), area.as_ptr(), area.len(), from, to) }
 }

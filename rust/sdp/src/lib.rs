@@ -13,12 +13,14 @@
 //! | `session.origin` where no o line was | [`Session::origin`]: the same; [`Session::origin_line`] gives `None` |
 //! | `session.write(&mut output)?` | [`Session::write`] into a slice, [`Session::to_vec`], or `to_string()` |
 //! | `ParserError` | [`Error`]: a number, a line, a field, and a sentence |
+//! | nothing | [`Session::starts`]: the instants at which the session starts within a window |
 //!
 //! # Memory
 //!
 //! The caller lends an [`Area`] of [`Area::SIZE`] bytes, which can be used again for the next text. The [`Session`]
-//! that comes back borrows area and text, and so does all that is taken out of it. Reading, walking and
-//! [`write`](Session::write) use no heap. [`SessionBuf`] owns both, for a session that is to be kept.
+//! that comes back borrows area and text, and so does all that is taken out of it. Reading, walking,
+//! [`write`](Session::write) and [`starts`](Session::starts) use no heap. [`SessionBuf`] owns both, for a session that
+//! is to be kept.
 //!
 //! A text has at most [`LONGEST`] bytes, and each table has its limit (docs/REFUSALS.md); the crate has neither.
 //!
@@ -52,12 +54,28 @@
 //! assert_eq!(refused.to_string(), "line 2: the start time is not a whole number below 2^64 (refusal 9)");
 //! # Ok::<(), sdp::Error>(())
 //! ```
+//!
+//! # When it starts
+//!
+//! [`Session::starts`] lists the instants at which a session starts, repeats and zones worked in. A concert every day at
+//! 72,000 s, which is 20:00; from the third day on the z line takes an hour away:
+//!
+//! ```
+//! let text = b"v=0\ns=Stage 1\nt=72000 0\nr=1d 2h\nz=172800 -1h\n";
+//! let mut area = sdp::Area::new();
+//! let session = sdp::read(text, &mut area)?;
+//! let days = 0..4 * 86_400; // the first four
+//! let hours: Vec<u64> = session.starts(days)?.iter().map(|start| start.at % 86_400 / 3_600).collect();
+//! assert_eq!(hours, [20, 20, 19, 19]);
+//! # Ok::<(), sdp::Error>(())
+//! ```
 #![deny(unsafe_code, missing_docs)]
 
 mod area;
 mod error;
 pub mod ffi;
 mod session;
+mod starts;
 pub mod words;
 
 pub use area::Area;
@@ -65,9 +83,13 @@ pub use error::Error;
 pub use session::{
     Attribute, Bandwidth, Connection, Key, Media, Origin, Repeat, Rows, Session, SessionBuf, Time, TimeZone,
 };
+pub use starts::{Start, Starts, StartsIter};
 
 /// Bytes that a text may have: the reader refuses a longer one with 1.
 pub const LONGEST: usize = 32_768;
+
+/// Starts that [`Session::starts`] lists at most: it refuses a window with more of them by 29.
+pub const MOST_STARTS: usize = 256;
 
 /// Bytes that are enough for the written form of any text that was read: the theorem `room` in docs/THEOREMS.md.
 pub const ROOM: usize = 43_727;
@@ -145,7 +167,6 @@ pub fn read<'a>(text: &'a [u8], area: &'a mut Area) -> Result<Session<'a>, Error
 #[inline]
 pub fn letter_order(text: &[u8]) -> Result<bool, Error> {
     let order = ffi::letter_order(text);
-    let answer = ffi::Answer { number: order.number, ..ffi::Answer::default() };
-    Error::check(answer)?;
+    Error::check_number(order.number)?;
     Ok(order.yes == 1)
 }

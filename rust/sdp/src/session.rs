@@ -1,5 +1,5 @@
 //! The view: a session read out of the area as it is walked. The places are those of docs/AREA.md.
-use crate::{ffi, Area, Error, ROOM};
+use crate::{ffi, Area, Error, Starts, ROOM};
 use std::fmt;
 use std::ops::Range;
 
@@ -149,10 +149,7 @@ pub struct Time<'a> {
 impl<'a> Time<'a> {
     /// The r lines behind this t line.
     pub fn repeats(&self) -> Rows<'a, Repeat<'a>> {
-        self.session.owned(REPEATS, self.number, |session, number| {
-            let cells = session.row(REPEATS, number).from(OWNED);
-            Repeat { session, number, repeat_interval: cells.eight(0), active_duration: cells.eight(8) }
-        })
+        self.session.owned(REPEATS, self.number, Repeat::row)
     }
 }
 
@@ -168,6 +165,11 @@ pub struct Repeat<'a> {
 }
 
 impl<'a> Repeat<'a> {
+    fn row(session: Session<'a>, number: usize) -> Self {
+        let cells = session.row(REPEATS, number).from(OWNED);
+        Repeat { session, number, repeat_interval: cells.eight(0), active_duration: cells.eight(8) }
+    }
+
     /// The offsets from the start time.
     pub fn offsets(&self) -> Rows<'a, u64> {
         self.session.owned(OFFSETS, self.number, |session, number| session.row(OFFSETS, number).from(OWNED).eight(0))
@@ -389,6 +391,16 @@ impl<'a> Session<'a> {
         })
     }
 
+    /// The t line of this number, from 1: that of a [`Start`](crate::Start).
+    pub fn time(&self, number: usize) -> Option<Time<'a>> {
+        self.times().nth(number.checked_sub(1)?)
+    }
+
+    /// The r line of this number, from 1: that of a [`Start`](crate::Start). They are numbered through all times.
+    pub fn repeat(&self, number: usize) -> Option<Repeat<'a>> {
+        self.all(REPEATS, Repeat::row).nth(number.checked_sub(1)?)
+    }
+
     /// The pairs of the z line.
     pub fn time_zones(&self) -> Rows<'a, TimeZone> {
         self.all(ZONES, |session, number| {
@@ -439,6 +451,35 @@ impl<'a> Session<'a> {
     pub fn write<'o>(&self, out: &'o mut [u8]) -> Result<&'o [u8], Error> {
         let answer = Error::check(ffi::write(self.text, self.area.as_bytes(), out))?;
         Ok(&out[..answer.len as usize])
+    }
+
+    /// When the session starts: every start from the window's start on and before its end, in rising order. All are
+    /// seconds since 1900. sdp-types has nothing of the kind.
+    ///
+    /// A time without repeats starts once, at its start time. A repeat starts at the start time + k times its interval +
+    /// an offset, for each of its offsets (0 where it has none) and for k from 0 on; only for k = 0 where the interval is
+    /// 0. A start at or after a stop time that isn't 0 is left out. Then the offset of the latest zone whose adjustment
+    /// time is not after it is added to a repeat's start, with its sign; of zones with the same adjustment time the last
+    /// counts. A start time of 0 is no instant and lists nothing. A window that ends before it starts is empty.
+    ///
+    /// ```
+    /// let kept = sdp::SessionBuf::parse("v=0\nt=1000 0\nr=100 10 0 30\nz=1100 -5\nt=1097 0\n")?;
+    /// let session = kept.session();
+    /// let starts = session.starts(1_000..1_130)?;
+    /// let found: Vec<_> = starts.iter().map(|start| (start.at, start.time, start.repeat)).collect();
+    /// assert_eq!(found, [(1_000, 1, Some(1)), (1_030, 1, Some(1)), (1_095, 1, Some(1)), (1_097, 2, None), (1_125, 1, Some(1))]);
+    /// let lasts = starts.get(0).and_then(|start| session.repeat(start.repeat?)).map(|repeat| repeat.active_duration);
+    /// assert_eq!(lasts, Some(10));
+    /// # Ok::<(), sdp::Error>(())
+    /// ```
+    ///
+    /// # Errors
+    ///
+    /// Refusal 28 where the adjustment times of the z line fall, and 29 where the window has more than
+    /// [`MOST_STARTS`](crate::MOST_STARTS) starts: then take a shorter one.
+    #[inline]
+    pub fn starts(&self, window: Range<u64>) -> Result<Starts, Error> {
+        Starts::check(ffi::starts(self.text, self.area.as_bytes(), window.start, window.end))
     }
 
     /// The written form in a vector of its own.

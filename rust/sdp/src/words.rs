@@ -20,32 +20,34 @@ pub struct Table {
     pub rows: &'static str,
 }
 
-/// The sentences of the refusals 1 to 23. What stands in braces is put in: the name and the form of the field, the name
-/// and the rows of the table, the length.
-pub const SENTENCES: [&str; 23] = [
-    "the text has more than 32768 bytes",
-    "the area has fewer than 14558 bytes",
-    "there is a NUL or a CR in the line",
-    "the line has no =",
-    "the first = is not the second byte of the line",
-    "there is no version: the first line must be v=0",
-    "the version is not 0",
-    "{field} is not UTF-8",
-    "{field} is not {form}",
-    "{field} is missing",
-    "{field} must not be there",
-    "there is a second o line",
-    "there is a second s line",
-    "there is a second i line of the session",
-    "there is a second u line",
-    "there is a second c line of the session",
-    "there is a second z line",
-    "there is a second i line in this media",
-    "there is a second k line",
-    "there is an r line with no t line before it",
-    "there are more than {rows} {table}",
-    "the output is too short: {len} bytes are needed",
-    "the area holds no session for this text",
+/// The sentences of the refusals, each with its number. What stands in braces is put in: the name and the form of the
+/// field, the name and the rows of the table, the length.
+pub const SENTENCES: [(u64, &str); 25] = [
+    (1, "the text has more than 32768 bytes"),
+    (2, "the area has fewer than 14558 bytes"),
+    (3, "there is a NUL or a CR in the line"),
+    (4, "the line has no ="),
+    (5, "the first = is not the second byte of the line"),
+    (6, "there is no version: the first line must be v=0"),
+    (7, "the version is not 0"),
+    (8, "{field} is not UTF-8"),
+    (9, "{field} is not {form}"),
+    (10, "{field} is missing"),
+    (11, "{field} must not be there"),
+    (12, "there is a second o line"),
+    (13, "there is a second s line"),
+    (14, "there is a second i line of the session"),
+    (15, "there is a second u line"),
+    (16, "there is a second c line of the session"),
+    (17, "there is a second z line"),
+    (18, "there is a second i line in this media"),
+    (19, "there is a second k line"),
+    (20, "there is an r line with no t line before it"),
+    (21, "there are more than {rows} {table}"),
+    (22, "the output is too short: {len} bytes are needed"),
+    (23, "the area holds no session for this text"),
+    (28, "the adjustment times of the z line fall"),
+    (29, "there are more than 256 starts in the window"),
 ];
 
 const WHOLE: &str = "a whole number below 2^64";
@@ -125,7 +127,7 @@ fn entry<T>(list: &'static [T], number: u64) -> Option<&'static T> {
 
 /// The sentence of a refusal, without its line and number.
 pub(crate) fn sentence(f: &mut fmt::Formatter<'_>, answer: &Answer) -> fmt::Result {
-    let Some(mut rest) = entry(&SENTENCES, answer.number).copied() else {
+    let Some((_, mut rest)) = SENTENCES.iter().find(|(number, _)| *number == answer.number).copied() else {
         return f.write_str("refused"); // by a later archive
     };
     let field = entry(&FIELDS, answer.field);

@@ -42,6 +42,16 @@ time: 3964000000 to 0
 zone: -3600 s from 3960500000 on
 zone: 0 s from 3962000000 on
 zone: 5400 s from 3963500000 on
+starts: 3960000000 by time 1, repeat 1
+starts: 3960082800 by time 1, repeat 2
+starts: 3960086400 by time 1, repeat 1
+starts: 3960172800 by time 1, repeat 1
+starts: 3960259200 by time 1, repeat 1
+starts: 3960345600 by time 1, repeat 1
+starts: 3960432000 by time 1, repeat 1
+starts: 3960514800 by time 1, repeat 1
+starts: 3960597600 by time 1, repeat 2
+starts: 3960601200 by time 1, repeat 1
 media: audio to port 49230
   rtpmap:96 L16/48000/2
 ";
@@ -102,6 +112,16 @@ fn inputs_and_statuses() {
                  d, h, m, s or nothing (refusal 9)"
             )
         );
+        // of these the text is good, and its list of starts is not
+        for (lines, told) in [
+            ("t=7 0\nz=9 0 8 0\n", "starts: the adjustment times of the z line fall (refusal 28)\n"),
+            ("t=7 0\nr=1 1\n", "starts: there are more than 256 starts in the window (refusal 29)\n"),
+            (&format!("t={} 0\n", u64::MAX - 1)[..], "starts: 18446744073709551614 by time 1\n"),
+        ] {
+            let (status, output, errors) = run(&[], format!("v=0\n{lines}").as_bytes());
+            assert_eq!((status, &errors[..]), (Some(0), ""), "{lines}");
+            assert!(output.contains(&told.as_bytes().escape_ascii().to_string()), "{output}");
+        }
         for unreadable in ["no/such/file", "/"] {
             let (status, output, errors) = run(&[unreadable], b"");
             assert_eq!((status, &output[..], errors.lines().count()), (Some(2), "", 1), "{name}{unreadable}: {errors}");

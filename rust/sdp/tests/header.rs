@@ -2,7 +2,7 @@
 mod c;
 mod page;
 use page::{fields, file, path, table};
-use sdp::{ffi, Area, LONGEST, ROOM};
+use sdp::{ffi, Area, LONGEST, MOST_STARTS, ROOM};
 use std::collections::{BTreeMap, BTreeSet};
 use std::process::Command;
 
@@ -57,11 +57,11 @@ fn exported() -> Vec<Function> {
     all
 }
 
-/// The fields of a struct that crosses to C, by the source; they all are u64.
+/// The fields of a struct that crosses to C, by the source; they all are u64, or arrays of it.
 fn source_fields(name: &str) -> Vec<(String, String)> {
     let head = format!("#[repr(C)]\npub struct {name} {{");
     let mut all = Vec::new();
-    for crate_name in ["sdp_answers", "sdp_lines", "sdp_order"] {
+    for crate_name in ["sdp_answers", "sdp_lines", "sdp_order", "sdp_starts"] {
         let source = file(&format!("crates/{crate_name}/src/lib.rt"));
         all.extend(found(&source, &head, &['}']).iter().map(|body| named(body)));
     }
@@ -94,6 +94,14 @@ fn header() -> String {
     }
     plain += rest;
     plain.lines().filter(|line| !line.starts_with('#')).map(|line| format!("{line}\n")).collect()
+}
+
+/// A field of a struct in C: an array has its length behind its name.
+fn field_in_c(name: &str, kind: &str) -> String {
+    match kind.strip_prefix('[').and_then(|kind| kind.strip_suffix(']')).and_then(|kind| kind.split_once("; ")) {
+        Some((kind, len)) => format!("{}{name}[{len}]", in_c(kind)),
+        None => in_c(kind) + name,
+    }
 }
 
 fn in_c(kind: &str) -> String {
@@ -136,8 +144,9 @@ fn c_has_the_source_s_structs() {
     for name in structs() {
         let bodies = found(&header, &format!("{}{{", in_c(&name)), &['}']);
         assert_eq!(bodies.len(), 1, "the header has one struct for {name}");
-        let fields: Vec<String> = bodies[0].split(';').map(one_space).filter(|field| !field.is_empty()).collect();
-        let due: Vec<String> = source_fields(&name).iter().map(|(field, kind)| in_c(kind) + field).collect();
+        let body = bodies[0].replace("SDP_MOST_STARTS", &MOST_STARTS.to_string());
+        let fields: Vec<String> = body.split(';').map(one_space).filter(|field| !field.is_empty()).collect();
+        let due: Vec<String> = source_fields(&name).iter().map(|(field, kind)| field_in_c(field, kind)).collect();
         assert_eq!(fields, due, "{name}");
     }
 }
@@ -171,7 +180,8 @@ fn rust_has_the_source_s_functions_and_structs() {
     for name in structs() {
         let bodies = found(&plain, &format!("pub struct {} {{", outside(&name)), &['}']);
         assert_eq!(bodies.len(), 1, "ffi.rs has one struct for {name}");
-        assert_eq!(named(bodies[0]), source_fields(&name), "{name}");
+        let body = bodies[0].replace("MOST_STARTS", &MOST_STARTS.to_string());
+        assert_eq!(named(&body), source_fields(&name), "{name}");
     }
 }
 
@@ -189,6 +199,7 @@ fn the_constants() {
     assert_eq!((take("SDP_AREA_SIZE"), ffi::area_size()), (Area::SIZE, Area::SIZE));
     assert_eq!(take("SDP_LONGEST"), LONGEST);
     assert_eq!(take("SDP_ROOM"), ROOM);
+    assert_eq!(take("SDP_MOST_STARTS"), MOST_STARTS);
     let parts = table("docs/AREA.md", "The parts");
     for row in parts.iter().take(16) {
         let name = constant(&row[0]);
@@ -233,8 +244,11 @@ fn the_theorem_s_room() {
 fn all_functions_from_c() {
     let program = c::compiled("rust/sdp/tests/c/calls.c", "calls");
     let mut area = [0; Area::SIZE];
+    let starting = ["v=0\nt=100 0\nr=50 9 0 7\nz=120 -10\nt=300 0\n", "v=0\nz=9 0 8 0\n", "v=0\nt=1 0\nr=1 0\n"];
     let texts = ["v=0\ns=Desk 4\nz=60 -1h\n", "v=1\n", "+60", "65536", "2d", "IN", "a b", "", "t=\r", "\n"];
-    for text in texts.map(str::as_bytes).into_iter().chain([&b"\xff"[..]]) {
+    let texts = texts.into_iter().chain(starting).map(str::as_bytes);
+    let mut refused = BTreeSet::new();
+    for text in texts.chain([&b"\xff"[..]]) {
         let mut due = format!("{} {}\n", ffi::utf8_end(text), u64::from(ffi::is_token(text)));
         for numeral in [ffi::number16(text), ffi::number64(text), ffi::typed_time(text)] {
             due += &format!("{} {}\n", numeral.number, numeral.value);
@@ -248,12 +262,18 @@ fn all_functions_from_c() {
         };
         due += &answer(ffi::read(text, &mut area));
         due += &answer(ffi::write(text, &area, &mut [0; 20]));
+        let starts = ffi::starts(text, &area, 100, 1_000);
+        refused.insert(starts.number);
+        let rows = starts.at.iter().zip(&starts.time).zip(&starts.repeat);
+        let rows: Vec<String> = rows.map(|((at, time), repeat)| format!("{at} {time} {repeat}")).collect();
+        due += &format!("{} {} {}\n", starts.number, starts.count, rows.join(" "));
         let order = ffi::letter_order(text);
         due += &format!("{} {}\n{}\n", order.number, order.yes, ffi::area_size());
         let output = c::run(&program, &[], text);
         assert!(output.status.success());
         assert_eq!(String::from_utf8(output.stdout).unwrap(), due, "{}", text.escape_ascii());
     }
+    assert_eq!(refused.into_iter().collect::<Vec<_>>(), [0, 28, 29]);
 }
 
 /// The headers are good C++ too, by the machine's own compiler where it has one.

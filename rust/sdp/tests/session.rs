@@ -1,6 +1,9 @@
 //! The view, the errors and the writing, on texts whose answers were typed by hand.
 mod page;
-use sdp::{Area, Attribute, Bandwidth, Connection, Error, Key, Origin, Session, SessionBuf, TimeZone, LONGEST, ROOM};
+use sdp::{
+    Area, Attribute, Bandwidth, Connection, Error, Key, Origin, Session, SessionBuf, Start, Starts, TimeZone, LONGEST,
+    MOST_STARTS, ROOM,
+};
 
 /// Something in every place, and absent things too.
 const RICH: &[u8] = b"v=0\no=jdoe 42 7 in IP4 host.example\ns=Desk 4\ni=The desk\nu=http://desk.example\n\
@@ -269,6 +272,63 @@ fn the_letter_order() {
     assert_eq!(sdp::letter_order(RICH), Ok(true));
 }
 
+/// Times with and without repeats, shifted by the z line and not, from both ends; and the lines that they come from.
+#[test]
+fn starts() {
+    let kept = read(b"v=0\nt=100 0\nr=50 9 0 7\nr=0 1\nt=130 0\nt=90 0\nr=1d 5\nz=120 -10 160 5\n");
+    let session = kept.session();
+    let start = |at, time, repeat| Start { at, time, repeat };
+    let due = [
+        start(90, 3, Some(3)),
+        start(100, 1, Some(1)),
+        start(100, 1, Some(2)),
+        start(107, 1, Some(1)),
+        start(130, 2, None),
+        start(140, 1, Some(1)),
+        start(147, 1, Some(1)),
+    ];
+    let starts = session.starts(90..205).unwrap();
+    assert_eq!(starts.iter().collect::<Vec<_>>(), due);
+    assert_eq!(session.starts(90..206).unwrap().iter().next_back(), Some(start(205, 1, Some(1))));
+    assert_eq!((starts.len(), starts.is_empty(), starts.get(4), starts.get(7)), (7, false, Some(due[4]), None));
+    let mut left = starts.iter();
+    assert_eq!((left.next_back(), left.next(), left.len()), (Some(due[6]), Some(due[0]), 5));
+    assert_eq!(left.rev().map(|start| start.at).collect::<Vec<_>>(), [140, 130, 107, 100, 100]);
+    let mut by_loop = 0;
+    for start in &starts {
+        by_loop += start.at;
+    }
+    assert_eq!(by_loop, starts.clone().into_iter().map(|start| start.at).sum());
+    let short = session.starts(130..140).unwrap();
+    assert_eq!(format!("{short:?}"), "[Start { at: 130, time: 2, repeat: None }]");
+    assert!(short != starts && starts == session.starts(90..205).unwrap());
+
+    let of = |start: Start| (session.time(start.time).unwrap(), start.repeat.and_then(|number| session.repeat(number)));
+    assert_eq!(of(due[0]).0.start_time, 90);
+    assert_eq!(of(due[0]).1.map(|repeat| repeat.active_duration), Some(5));
+    assert_eq!(of(due[2]).1.map(|repeat| repeat.offsets().len()), Some(0));
+    assert_eq!((of(due[4]).0.start_time, of(due[4]).1), (130, None));
+    assert!(session.time(0).is_none() && session.time(4).is_none());
+    assert!(session.repeat(0).is_none() && session.repeat(4).is_none());
+}
+
+/// No start, as many as fit, one too much, and a z line that falls.
+#[test]
+fn starts_of_every_length() {
+    let kept = read(b"v=0\nt=1000 0\nr=1 1\n");
+    let session = kept.session();
+    let len = |from: u64, to: u64| session.starts(from..to).map(|starts| starts.len());
+    assert_eq!((len(0, 1_000), len(1_000, 1_000), len(2_000, 1_000), len(u64::MAX, 0)), (Ok(0), Ok(0), Ok(0), Ok(0)));
+    assert_eq!((len(0, 1_001), len(1_000, 1_256)), (Ok(1), Ok(MOST_STARTS)));
+    assert_eq!(len(u64::MAX - 256, u64::MAX), Ok(MOST_STARTS));
+    let error = session.starts(1_000..1_257).unwrap_err();
+    assert_eq!(error.to_string(), "there are more than 256 starts in the window (refusal 29)");
+    assert!(read(b"v=0").session().starts(0..u64::MAX).unwrap().is_empty());
+    let falling = read(b"v=0\nz=2 0 1 0\n").session().starts(0..1).unwrap_err();
+    assert_eq!((falling.number(), falling.line(), falling.field(), falling.place(), falling.len()), (28, 0, 0, 0, 0));
+    assert_eq!(falling.to_string(), "the adjustment times of the z line fall (refusal 28)");
+}
+
 /// Sessions may be shared between threads, and areas sent to them.
 #[test]
 fn threads() {
@@ -276,6 +336,7 @@ fn threads() {
     both::<Session>();
     both::<SessionBuf>();
     both::<Area>();
+    both::<Starts>();
     both::<Error>();
     let kept = read(RICH);
     let session = kept.session();
@@ -288,7 +349,8 @@ fn threads() {
 /// The README's lines for Rust, compiled and run.
 #[test]
 fn the_readme_s_lines() -> Result<(), Error> {
-    let text = b"v=0\nz=60 -1h\n".to_vec();
+    let text = b"v=0\nt=100 0\nz=60 -1h\n".to_vec();
+    let (from, to) = (0, 1_000);
     // README.md:
     let mut area = sdp::Area::new();                    // 14,558 bytes, no heap; used again for the next text
     let session = sdp::read(&text, &mut area)?;         // an error prints a sentence with its line
@@ -297,6 +359,9 @@ fn the_readme_s_lines() -> Result<(), Error> {
     }
     let mut out = [0; sdp::ROOM];                       // enough for any text that was read
     let written: &[u8] = session.write(&mut out)?;
+    for start in &session.starts(from..to)? {           // seconds since 1900, as SDP counts; no heap
+        println!("{} by time {}", start.at, start.time);
+    }
     // so far
     assert!(written.ends_with(b"\r\nz=60 -1h\r\n"));
     let behind = include_str!("session.rs").split("    // README.md:\n").nth(1).unwrap();

@@ -20,7 +20,7 @@ fn same(heading: &str, columns: &[usize], due: Vec<Vec<String>>) {
 #[test]
 fn the_page_has_the_crate_s_words() {
     let number = |at: usize| (at + 1).to_string();
-    let sentences = SENTENCES.iter().enumerate().map(|(at, words)| vec![number(at), words.to_string()]);
+    let sentences = SENTENCES.iter().map(|(number, words)| vec![number.to_string(), words.to_string()]);
     same("Refusals", &[0, 3], sentences.collect());
     let fields = FIELDS.iter().enumerate().map(|(at, field)| vec![number(at), field.name.into(), field.form.into()]);
     same("Fields", &[0, 2, 3], fields.collect());
@@ -44,6 +44,8 @@ fn sentences() {
     assert_eq!(sentence(21, 18, 1, 0), "line 18: there are more than 16 e lines (refusal 21)");
     assert_eq!(sentence(21, 600, 9, 0), "line 600: there are more than 512 a lines (refusal 21)");
     assert_eq!(sentence(22, 0, 0, 40), "the output is too short: 40 bytes are needed (refusal 22)");
+    assert_eq!(sentence(28, 0, 0, 0), "the adjustment times of the z line fall (refusal 28)");
+    assert_eq!(sentence(29, 0, 0, 0), "there are more than 256 starts in the window (refusal 29)");
     assert_eq!(sentence(99, 5, 0, 0), "line 5: refused (refusal 99)");
 }
 

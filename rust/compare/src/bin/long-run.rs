@@ -1,8 +1,10 @@
 //! A long comparison with the crate. rust/long-run builds and runs it.
-use compare::bench::Tally;
+use compare::bench::{smallest, Tally};
+use compare::listing::{windows, Listing};
+use compare::starts::tables;
 use compare::whole::Whole;
-use compare::{interrupt, read, write};
-use generate::sessions;
+use compare::{interrupt, read, starts, write, Answer, Starts};
+use generate::{sessions, Random};
 use std::fs;
 use std::io::{self, Write};
 use std::process::ExitCode;
@@ -14,8 +16,8 @@ const HELP: &str = "\
 usage: long-run [SEED [COUNT [FIRST]]]
        long-run --folder FOLDER
 Reads and writes texts with the archive and with the crate sdp-types, reads back what was written, and compares all of
-it. The texts are generated: SEED (8866) chooses them, COUNT (10000000) says how many, FIRST (0) is the number of the
-first. Or they are the files of a folder.
+it; and it lists when they start, beside an oracle. The texts are generated: SEED (8866) chooses them, COUNT (10000000)
+says how many, FIRST (0) is the number of the first. Or they are the files of a folder.
 Every five seconds it says how far it is. Ctrl-C ends it with the counts so far; a second one ends it at once.
 status: 0 no difference; 1 a difference, printed with the smallest text that shows it; 2 wrong words, or a file that
 can't be read; 130 Ctrl-C
@@ -94,10 +96,35 @@ fn files(folder: &str) -> io::Result<Texts> {
     })
 }
 
+type Reader = fn(&[u8], &mut [u8]) -> Answer;
+type Writer = fn(&[u8], &[u8], &mut [u8]) -> Answer;
+type Lister = fn(&[u8], &[u8], u64, u64) -> Starts;
+
+/// All that is compared of a text.
+struct All {
+    whole: Whole<Reader, Writer>,
+    listing: Listing<Lister>,
+}
+
+impl All {
+    /// The answer of reading if all agrees, else what differs. A text has always the same windows.
+    fn compare(&mut self, text: &[u8]) -> Result<Answer, String> {
+        let answer = self.whole.compare(text)?;
+        if answer.number == 0 {
+            let mut area = sdp::Area::new();
+            sdp::read(text, &mut area).map_err(|error| error.to_string())?;
+            let mut random = Random::new(text.len() as u64, "windows");
+            let chosen = tables(text, area.as_bytes()).map(|seen| windows(&mut random, &seen));
+            self.listing.compare(text, area.as_bytes(), &chosen.unwrap_or(vec![(0, u64::MAX)]))?;
+        }
+        Ok(answer)
+    }
+}
+
 fn run(out: &mut impl Write, texts: &Texts) -> io::Result<ExitCode> {
     let count = texts.count;
     writeln!(out, "long run: {}", texts.title)?;
-    let mut whole = Whole::new(read, write);
+    let mut all = All { whole: Whole::new(read, write), listing: Listing::new(starts) };
     let mut tally = Tally::default();
     let (start, mut said) = (Instant::now(), Instant::now());
     let mut ended = ExitCode::SUCCESS;
@@ -116,22 +143,23 @@ fn run(out: &mut impl Write, texts: &Texts) -> io::Result<ExitCode> {
         }
         let (name, text) = (texts.nth)(done)?;
         bytes += text.len();
-        match whole.compare(&text) {
+        match all.compare(&text) {
             Ok(answer) => tally.add(answer),
             Err(_) => {
                 writeln!(out, "{tally}\n{done} texts compared without a difference, and then:")?;
-                writeln!(out, "{name}: {}", whole.smallest(&text))?;
+                writeln!(out, "{name}: {}", smallest(&text, |part| all.compare(part).err()))?;
                 return Ok(ExitCode::FAILURE);
             }
         }
     }
-    let counts = &whole.counts;
+    let (counts, lists) = (&all.whole.counts, &all.listing.counts);
     writeln!(out, "{tally}")?;
     writeln!(
         out,
         "{} written as the crate writes them, at most {} bytes; {} read back and written once more, {} too long for that",
         counts.accepted, counts.longest, counts.read_back, counts.too_long
     )?;
+    writeln!(out, "{} lists of starts, {} starts in them, as the oracle has them", lists.windows, lists.starts)?;
     let took = duration(start.elapsed().as_secs_f64());
     writeln!(out, "{} texts of {} MB compared in {took}, no difference", tally.all(), bytes / 1_000_000)?;
     Ok(ended)

@@ -1,7 +1,7 @@
 /* Calls every function on standard input, each call in a thread of its own with the smallest stack that the system gives:
    16 KB on x86-64, 128 KB on Arm. Prints a line for each: the function, what it answered, and how many bytes of the stack
    were used, with what the thread itself needs. Below the stack nothing can be touched: a call that needs more ends the
-   program. */
+   program. A list of starts is large and is returned on the stack: its bytes don't count, and that stack is twice as long. */
 #define _GNU_SOURCE
 #include "sdp.h"
 #include <inttypes.h>
@@ -28,10 +28,18 @@ static uint64_t write_short(void) { return sdp_write(text, len, area, sizeof are
 static uint64_t write_noise(void) { return sdp_write(text, len, noise, sizeof noise, out, sizeof out).number; }
 static uint64_t letter_order(void) { return sdp_letter_order(text, len).yes; }
 static uint64_t area_size(void) { return sdp_area_size(); }
+static uint64_t list(const uint8_t *of, uint64_t from, uint64_t to) {
+    struct sdp_starts starts = sdp_starts(text, len, of, SDP_AREA_SIZE, from, to);
+    return starts.number > 0 ? starts.number : 1000 + starts.count;
+}
+static uint64_t starts(void) { return list(area, 0, UINT64_MAX); }
+static uint64_t starts_in_week(void) { return list(area, 1, 604801); }
+static uint64_t starts_of_noise(void) { return list(noise, 0, UINT64_MAX); }
 
 struct call {
     const char *name;
     uint64_t (*function)(void);
+    size_t returned; /* bytes of the stack that an answer takes which is no number */
     uint64_t answer;
 };
 
@@ -44,21 +52,30 @@ static void *make(void *argument) {
 int main(void) {
     /* what is read is there for the calls that write it */
     struct call calls[] = {
-        {"sdp_utf8_end", utf8_end, 0},     {"sdp_is_token", is_token, 0},         {"sdp_number16", number16, 0},
-        {"sdp_number64", number64, 0},     {"sdp_typed_time", typed_time, 0},     {"sdp_cut", cut, 0},
-        {"sdp_cut", cut_last, 0},          {"sdp_read", read_text, 0},            {"sdp_write", write_text, 0},
-        {"sdp_write", write_short, 0},     {"sdp_write", write_noise, 0},         {"sdp_letter_order", letter_order, 0},
-        {"sdp_area_size", area_size, 0},
+        {"sdp_utf8_end", utf8_end, 0, 0},
+        {"sdp_is_token", is_token, 0, 0},
+        {"sdp_number16", number16, 0, 0},
+        {"sdp_number64", number64, 0, 0},
+        {"sdp_typed_time", typed_time, 0, 0},
+        {"sdp_cut", cut, 0, 0},
+        {"sdp_cut", cut_last, 0, 0},
+        {"sdp_read", read_text, 0, 0},
+        {"sdp_write", write_text, 0, 0},
+        {"sdp_write", write_short, 0, 0},
+        {"sdp_write", write_noise, 0, 0},
+        {"sdp_letter_order", letter_order, 0, 0},
+        {"sdp_area_size", area_size, 0, 0},
+        {"sdp_starts", starts, sizeof(struct sdp_starts), 0},
+        {"sdp_starts", starts_in_week, sizeof(struct sdp_starts), 0},
+        {"sdp_starts", starts_of_noise, sizeof(struct sdp_starts), 0},
     };
     uint8_t *room = mmap(NULL, BELOW + MOST, PROT_NONE, MAP_PRIVATE | MAP_ANONYMOUS, -1, 0);
-    uint8_t *stack = room;
-    size_t size = SMALLEST;
+    size_t smallest = SMALLEST;
     pthread_attr_t small;
     if (room == MAP_FAILED || pthread_attr_init(&small) != 0) return 2;
     /* its upper end stays where it is */
-    while (pthread_attr_setstack(&small, stack = room + BELOW + MOST - size, size) != 0)
-        if ((size *= 2) > MOST) return 2;
-    if (mprotect(stack, size, PROT_READ | PROT_WRITE) != 0) return 2;
+    while (pthread_attr_setstack(&small, room + BELOW + MOST - smallest, smallest) != 0)
+        if ((smallest *= 2) > MOST / 2) return 2;
     len = fread(text, 1, sizeof text, stdin);
     memcpy(noise, text, sizeof noise);
     /* the C library's functions are looked up at their first call, which takes stack of its own */
@@ -66,14 +83,18 @@ int main(void) {
     for (size_t i = 0; i < sizeof calls / sizeof calls[0]; i++) {
         pthread_t thread;
         void *made = NULL;
-        size_t left = 0;
+        size_t left = 0, size = calls[i].returned > 0 ? 2 * smallest : smallest;
+        uint8_t *stack = room + BELOW + MOST - size;
+        if (mprotect(room, BELOW + MOST, PROT_NONE) != 0) return 2;
+        if (mprotect(stack, size, PROT_READ | PROT_WRITE) != 0) return 2;
+        if (pthread_attr_setstack(&small, stack, size) != 0) return 2;
         printf("%s ", calls[i].name);
         fflush(stdout); /* so that after a crash the function is known */
         memset(stack, PAINT, size);
         if (pthread_create(&thread, &small, make, &calls[i]) != 0 || pthread_join(thread, &made) != 0) return 2;
         if (made != &calls[i]) return 2;
         while (left < size && stack[left] == PAINT) left++;
-        printf("%" PRIu64 " %zu\n", calls[i].answer, size - left);
+        printf("%" PRIu64 " %zu\n", calls[i].answer, size - left - calls[i].returned);
     }
     return 0;
 }

@@ -1,6 +1,7 @@
 //! A plain reader in Rust, after document 01, with one slip in it if wanted: with it the comparison itself is tested.
 //! Nothing is compared with this reader.
 #![allow(dead_code)] // each test file takes what it needs
+pub mod starts;
 pub mod writer;
 use compare::area::{
     Attribute, Bandwidth, Connection, Key, Media, MediaConnection, Offset, Origin, Part, Repeat, Seen, Span, Time, Zone,

@@ -9,6 +9,13 @@ static void numeral(struct sdp_numeral n) {
     printf("%" PRIu64 " %" PRIu64 "\n", n.number, n.value);
 }
 
+/* All its numbers, the zeros too. */
+static void list(struct sdp_starts s) {
+    printf("%" PRIu64 " %" PRIu64, s.number, s.count);
+    for (size_t i = 0; i < SDP_MOST_STARTS; i++) printf(" %" PRIu64 " %" PRIu64 " %" PRIu64, s.at[i], s.time[i], s.repeat[i]);
+    printf("\n");
+}
+
 /* "With length 0 a pointer may be anything": every function, with NULL. The answers are those for no bytes. */
 static int empty(void) {
     static uint8_t area[SDP_AREA_SIZE];
@@ -22,6 +29,8 @@ static int empty(void) {
     if (sdp_number16(NULL, 0).number != SDP_BAD_FORM || sdp_number64(NULL, 0).number != SDP_BAD_FORM) return 6;
     if (sdp_typed_time(NULL, 0).number != SDP_BAD_FORM || sdp_cut(NULL, 0, 0, 1).kind != 0) return 7;
     if (sdp_letter_order(NULL, 0).number != 0 || sdp_letter_order(NULL, 0).yes != 0) return 8;
+    if (sdp_starts(NULL, 0, NULL, 0, 0, UINT64_MAX).number != SDP_AREA_TOO_SHORT) return 9;
+    if (sdp_starts(NULL, 0, area, sizeof area, 0, UINT64_MAX).number != SDP_DONE) return 10;
     return 0;
 }
 
@@ -41,6 +50,7 @@ int main(void) {
     printf("%" PRIu64 " %" PRIu64 " %" PRIu64 " %" PRIu64 "\n", p.place, p.len, p.next_place, p.next_line);
     answer(sdp_read(text, len, area, sizeof area));
     answer(sdp_write(text, len, area, sizeof area, out, sizeof out));
+    list(sdp_starts(text, len, area, sizeof area, 100, 1000));
     printf("%" PRIu64 " %" PRIu64 "\n%zu\n", order.number, order.yes, sdp_area_size());
     return empty();
 }
