@@ -25,6 +25,11 @@ unfoldable pub each : {X Y : Type 0} → (ℕ → X → List Y) → ℕ → List
 each f n [] = []
 each f n (x ∷ xs) = f n x ++ each f (n + 1) xs
 
+-- n rows of w bytes each by their places, from p on, each with its number, counted on from k
+unfoldable pub eachAt : {Y : Type 0} → (ℕ → ℕ → List Y) → ℕ → ℕ → ℕ → ℕ → List Y
+eachAt f w zero k p = []
+eachAt f w (suc n) k p = f k p ++ eachAt f w n (k + 1) (p + w)
+
 -- what belongs to the owner n
 unfoldable pub mine : {Y : Type 0} → ℕ → ℕ → List Y → List Y
 mine n owner ys = cond (eqb owner n) ys []

@@ -1,11 +1,12 @@
 // A list of starts, kept in order in three lent arrays.
 ghost use mathlib.Core.Path.{_≡_};
-ghost use Prim.Native.Nat.{_+_, _-_, _*_, _≤_, _<_};
+ghost use Prim.Native.Nat.{_+_, _-_, _*_, _^_, _≤_, _<_};
 ghost use lib.ListN.{length};
 ghost use Rattle.sdp_hours.specs.Listing.{before};
 ghost use Rattle.sdp_hours.specs.Starts.{numbered};
 ghost use Rattle.sdp_window.specs.Run.{ofRun};
 ghost use Rattle.sdp_listing.specs.Columns.{columns, rowsFrom, placeOf, shiftIn, putIn, putAll, startOf, startAt};
+use sdp_window::LAST;
 use sdp_window::Run;
 
 // A start with the numbers of its time and of its repeat.
@@ -78,9 +79,9 @@ fn put_in(at: &mut [u64], time: &mut [u64], repeat: &mut [u64], n: usize, x: Ent
 
 // v + d, where that is a number of 64 bits.
 fn next_of(v: u64, d: u64) -> u64
-    ensures { λ r. ⌜ (v + d < 18446744073709551616 → r ≡ v + d) ⌝ }
+    ensures { λ r. ⌜ (v + d < 2 ^ 64 → r ≡ v + d) ⌝ }
 {
-    if 18446744073709551615 - v < d {
+    if LAST - v < d {
         return v;
     }
     v + d
@@ -96,7 +97,7 @@ pub fn put_run(
     d: u64,
     run: Run,
 )
-    requires { ⌜ (n + run .count ≤ length (now at)) × (n + run .count ≤ length (now time)) × (n + run .count ≤ length (now repeat)) × (0 < run .count → run .first + (run .count - 1) * d < 18446744073709551616) ⌝ }
+    requires { ⌜ (n + run .count ≤ length (now at)) × (n + run .count ≤ length (now time)) × (n + run .count ≤ length (now repeat)) × (0 < run .count → run .first + (run .count - 1) * d < 2 ^ 64) ⌝ }
     ensures { λ _. ⌜ columns (now (at .exit)) (now (time .exit)) (now (repeat .exit)) ≡ putAll (columns (now (at .entry)) (now (time .entry)) (now (repeat .entry))) n (numbered (whose .time) (whose .repeat) (ofRun d run)) ⌝ }
 {
     let mut k: u64 = 0;

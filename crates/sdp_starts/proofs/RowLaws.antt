@@ -1,5 +1,5 @@
 -- The rows of a table that are left, and their owners. Assumes nothing.
-use mathlib.Core.Path.{_≡_, refl, sym, ap, ap₂, _∙_}
+use mathlib.Core.Path.{_≡_, refl, sym, ap, _∙_}
 use mathlib.Core.Bool.{true, false, _||_}
 use mathlib.Core.List.{List, [], _++_, append-nil, append-assoc}
 use Prim.Native.Nat.{ℕ, zero, suc, _+_, _*_, _-_, _≤_, _<_}
@@ -8,7 +8,8 @@ use lib.Dec.{eqb}
 use borrow.Author.Tests.{eq-eqb, ne-eqb}
 use Rattle.sdp_cells.specs.Bytes.{num}
 use Rattle.sdp_decode.specs.Rows as rows
-use Rattle.sdp_decode.specs.Rows.{rowsAt, table, each, mine}
+use Rattle.sdp_decode.specs.Rows.{rowsAt, table, each, eachAt, mine}
+use Rattle.sdp_decode.proofs.RowLaws.{rows-all, rows-more, rows-none, each-rows}
 use Rattle.sdp_hours.specs.Listing.{Start}
 use Rattle.sdp_hours.specs.Starts as starting
 use Rattle.sdp_hours.specs.Starts.{owns}
@@ -17,47 +18,40 @@ use Rattle.sdp_starts.specs.Fill as filling
 use Rattle.sdp_starts.specs.Fill.{Roomy, Fills, ownsAt}
 use Rattle.sdp_starts.proofs.FillLaws.{fills-none, fills-then, fills-as}
 
--- ---- the rows that are left: n - i of them, from p on
-module _ {X : Type 0} (f : ℕ → X → List Start) (rd : List ℕ → ℕ → X) (w : ℕ) (a : List ℕ) where
-  rows-all : (n m p : ℕ) → n ≡ m → each f (0 + 1) (rowsAt rd w (n - 0) a p) ≡ each f 1 (rowsAt rd w m a p)
-  rows-all n m p e = ap₂ (λ (k i : ℕ). each f k (rowsAt rd w i a p)) (let z : 0 + 1 ≡ 1 = omega arith in z) (let z : n - 0 ≡ m = omega arith in z)
-
-  rows-more : (n i p : ℕ) → i < n → each f (i + 1) (rowsAt rd w (n - i) a p) ≡ f (i + 1) (rd a p) ++ each f (i + 1 + 1) (rowsAt rd w (n - (i + 1)) a (p + w))
-  unfolding rows.each rows.rowsAt
-  rows-more n i p h = ap (λ (k : ℕ). each f (i + 1) (rowsAt rd w k a p)) (let z : n - i ≡ suc (n - (i + 1)) = omega arith in z)
-
-  rows-none : (n i p : ℕ) → n ≤ i → each f (i + 1) (rowsAt rd w (n - i) a p) ≡ []
-  unfolding rows.each rows.rowsAt
-  rows-none n i p h = ap (λ (k : ℕ). each f (i + 1) (rowsAt rd w k a p)) (let z : n - i ≡ 0 = omega arith in z)
-
 -- ---- the loop over a table: n rows of at most 40 bytes each from base + 2 on, what the first i of them list is put in
 module _ {X : Type 0} (f : ℕ → X → List Start) (rd : List ℕ → ℕ → X) (w base : ℕ) (a : List ℕ) (n : ℕ) (c₀ : Columns) (n₀ : ℕ) where
+  -- what row k, the one at p, lists
+  abbrev row : ℕ → ℕ → List Start
+  row k p = f k (rd a p)
+
   pub record Left (c : Columns) (p i m : ℕ) : Type 0 where
     pub few : n < 65536
     pub near : p ≤ base + 2 + i * 40
     pub done : List Start
     pub fills : Fills c₀ n₀ done c m
-    pub split : done ++ each f (i + 1) (rowsAt rd w (n - i) a p) ≡ each f 1 (table rd w a base)
+    pub split : done ++ eachAt row w (n - i) (i + 1) p ≡ eachAt row w (num 2 a base) 1 (base + 2)
 
   pub left-begin : n ≡ num 2 a base → n < 65536 → Left c₀ (base + 2) 0 n₀
-  left-begin e h = record { few = h; near = omega arith; done = []; fills = fills-none; split = rows-all f rd w a n (num 2 a base) (base + 2) e }
+  left-begin e h = record { few = h; near = omega arith; done = []; fills = fills-none; split = sym (rows-all row w n (num 2 a base) (base + 2) e) }
 
   pub left-turn : {c c′ : Columns} {p i m m′ : ℕ} → w ≤ 40 → i < n → Left c p i m → Fills c m (f (i + 1) (rd a p)) c′ m′ → Left c′ (p + w) (i + 1) m′
   left-turn {c} {c′} {p} {i} {m} {m′} u h l t =
       record {
         few = l .few;
         near = omega (arith, l .near);
-        done = l .done ++ f (i + 1) (rd a p);
+        done = l .done ++ row (i + 1) p;
         fills = fills-then (l .fills) t;
         split =
-            append-assoc (l .done) (f (i + 1) (rd a p)) (each f (i + 1 + 1) (rowsAt rd w (n - (i + 1)) a (p + w)))
-            ∙ ap (λ (r : List Start). l .done ++ r) (sym (rows-more f rd w a n i p h))
+            append-assoc (l .done) (row (i + 1) p) (eachAt row w (n - (i + 1)) (i + 1 + 1) (p + w))
+            ∙ ap (λ (r : List Start). l .done ++ r) (sym (rows-more row w n i p h))
             ∙ l .split;
       }
 
   pub left-finish : {c : Columns} {p i m : ℕ} → n ≤ i → Left c p i m → Fills c₀ n₀ (each f 1 (table rd w a base)) c m
   left-finish {c} {p} {i} {m} h l =
-      fills-as (sym (append-nil (l .done)) ∙ ap (λ (r : List Start). l .done ++ r) (sym (rows-none f rd w a n i p h)) ∙ l .split) (l .fills)
+      fills-as
+      (sym (append-nil (l .done)) ∙ ap (λ (r : List Start). l .done ++ r) (sym (rows-none row w n i p h)) ∙ l .split ∙ each-rows f rd w _ a 1 _)
+      (l .fills)
 
   -- the columns stay roomy
   pub left-roomy : {c : Columns} {p i m : ℕ} → Left c p i m → Roomy c₀ → Roomy c

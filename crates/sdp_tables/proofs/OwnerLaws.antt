@@ -15,8 +15,8 @@ use Rattle.sdp_valid.specs.Judge.{rising, owned, owners}
 use Rattle.sdp_put.specs.Out.{Put}
 use Rattle.sdp_put.proofs.OutLaws.{begin, finish, said, nothing}
 use Rattle.sdp_decode.specs.Rows as rows
-use Rattle.sdp_decode.specs.Rows.{mine}
-use Rattle.sdp_tables.specs.Tables.{eachAt, own, NeverFall, Parted}
+use Rattle.sdp_decode.specs.Rows.{eachAt, mine}
+use Rattle.sdp_tables.specs.Tables.{own, NeverFall, Parted}
 use Rattle.sdp_tables.proofs.RowLaws.{Left, left-turn}
 
 -- ---- what `judge` found: owners never fall

@@ -1,37 +1,16 @@
--- Tables: the rows that are left, for a row of any kind and width. Assumes nothing.
-use mathlib.Core.Path.{_≡_, refl, ap, ap₂, _∙_}
-use mathlib.Core.List.{List, [], _∷_, _++_}
+-- The loop that puts the rows of a table, and tables without rows. Assumes nothing.
+use mathlib.Core.Path.{_≡_, refl, _∙_}
+use mathlib.Core.List.{List, [], _∷_}
 use Prim.Native.Nat.{ℕ, zero, suc, _+_, _*_, _-_, _≤_, _<_}
 use native.Mathlib.Omega.{arith}
 use Rattle.sdp_put.specs.Out.{Put}
-use Rattle.sdp_put.proofs.OutLaws.{Cut, Same, begin, turn, finish}
+use Rattle.sdp_put.proofs.OutLaws.{Same, begin, turn, finish}
 use Rattle.sdp_decode.specs.Rows as rows
-use Rattle.sdp_decode.specs.Rows.{rowsAt, each}
+use Rattle.sdp_decode.specs.Rows.{rowsAt, each, eachAt}
+use Rattle.sdp_decode.proofs.RowLaws.{rows-all, rows-more, rows-none}
 use Rattle.sdp_decode.specs.Decode.{timeOf, zoneOf}
 use Rattle.sdp_area.specs.Session.{Repeat, Offset}
 use Rattle.sdp_row.specs.Written.{line, timeLines, timesLines, zoneText, zonesLine}
-use Rattle.sdp_tables.specs.Tables.{eachAt}
-
-module _ (f : ℕ → ℕ → List ℕ) (w : ℕ) where
-  -- all rows are left at first
-  rows-all : (n m p : ℕ) → n ≡ m → eachAt f w m 1 p ≡ eachAt f w (n - 0) (0 + 1) p
-  rows-all n m p e = ap₂ (λ (i k : ℕ). eachAt f w i k p) (let z : m ≡ n - 0 = omega arith in z) (let z : 1 ≡ 0 + 1 = omega arith in z)
-
-  -- the next one is put, and the others are left
-  rows-more : (n i p : ℕ) → i < n → Cut (eachAt f w (n - i) (i + 1) p) (f (i + 1) p) (eachAt f w (n - (i + 1)) (i + 1 + 1) (p + w))
-  unfolding eachAt
-  rows-more n i p h = record { is = ap (λ (k : ℕ). eachAt f w k (i + 1) p) (let z : n - i ≡ suc (n - (i + 1)) = omega arith in z) }
-
-  -- none is left
-  rows-none : (n i p : ℕ) → n ≤ i → eachAt f w (n - i) (i + 1) p ≡ []
-  unfolding eachAt
-  rows-none n i p h = ap (λ (k : ℕ). eachAt f w k (i + 1) p) (let z : n - i ≡ 0 = omega arith in z)
-
--- by their places, or as a list of rows
-pub each-rows : {X : Type 0} (g : ℕ → X → List ℕ) (rd : List ℕ → ℕ → X) (w n : ℕ) (a : List ℕ) (k p : ℕ) → eachAt (λ i q. g i (rd a q)) w n k p ≡ each g k (rowsAt rd w n a p)
-unfolding eachAt each rows.rowsAt
-each-rows g rd w zero a k p = refl
-each-rows g rd w (suc n) a k p = ap (λ (l : List ℕ). g k (rd a p) ++ l) (each-rows g rd w n a (k + 1) (p + w))
 
 -- ---- the loop over a table: n rows of at most 40 bytes each from base + 2 on, the first i of them put
 module _ (f : ℕ → ℕ → List ℕ) (w base m n : ℕ) (o₀ : List ℕ) (at : ℕ) where
@@ -44,7 +23,7 @@ module _ (f : ℕ → ℕ → List ℕ) (w base m n : ℕ) (o₀ : List ℕ) (at
   left-begin e h = record { few = h; near = omega arith; same = begin (rows-all f w n m (base + 2) e) }
 
   pub left-turn : {o o′ : List ℕ} {p i q r : ℕ} → w ≤ 40 → i < n → Left o p i q → Put o q (f (i + 1) p) o′ r → Left o′ (p + w) (i + 1) r
-  left-turn {o} {o′} {p} {i} {q} {r} u h l t = record { few = l .few; near = omega (arith, l .near); same = turn (l .same) (rows-more f w n i p h) t }
+  left-turn {o} {o′} {p} {i} {q} {r} u h l t = record { few = l .few; near = omega (arith, l .near); same = turn (l .same) (record { is = rows-more f w n i p h }) t }
 
   pub left-finish : {o : List ℕ} {p i q : ℕ} → n ≤ i → Left o p i q → Put o₀ at (eachAt f w m 1 (base + 2)) o q
   left-finish {o} {p} {i} {q} h l = finish (l .same) (rows-none f w n i p h)

@@ -1,16 +1,11 @@
--- What the table loops put: the rows of a table by their places in the area.
-use Prim.Native.Nat.{ℕ, zero, suc, _+_, _*_, _≤_, _<_}
-use mathlib.Core.List.{List, [], _++_}
+-- What the table loops put of an owner's rows, and where these begin.
+use Prim.Native.Nat.{ℕ, _+_, _*_, _≤_, _<_}
+use mathlib.Core.List.{List}
 use Rattle.sdp_cells.specs.Bytes.{num}
 use Rattle.sdp_area.specs.Area.{offsetsAt}
 use Rattle.sdp_area.specs.Session.{Offset}
 use Rattle.sdp_decode.specs.Rows.{table, mine}
 use Rattle.sdp_decode.specs.Decode.{offsetOf}
-
--- n rows of w bytes each, from place p on, each with its number, counted on from k
-unfoldable pub eachAt : (ℕ → ℕ → List ℕ) → ℕ → ℕ → ℕ → ℕ → List ℕ
-eachAt f w zero k p = []
-eachAt f w (suc n) k p = f k p ++ eachAt f w n (k + 1) (p + w)
 
 -- what f gives of row k at place p, where its owner is n
 abbrev pub own : List ℕ → ℕ → (ℕ → ℕ → List ℕ) → ℕ → ℕ → List ℕ

@@ -6,7 +6,7 @@ ghost use Rattle.sdp_hours.specs.Hours.{east, west};
 ghost use Rattle.sdp_window.specs.Run.{gap, counted, runOf, sumOf, runIn, onceIn, lowest, highest, endOf, partRun};
 
 // The largest number of 64 bits.
-const LAST: u64 = 18446744073709551615;
+pub const LAST: u64 = 18446744073709551615;
 // The bits of the least signed number: from it on, the 64 bits of a zone offset are those of a negative one.
 const LEAST: u64 = 9223372036854775808;
 

@@ -1,6 +1,6 @@
 -- `sdp_tables::put_contact` meets its contract. Assumes nothing.
 use Rattle.sdp_tables.proofs.OwnerLaws.{bandwidths-rise}
-use Rattle.sdp_tables.proofs.RowLaws.{each-rows}
+use Rattle.sdp_decode.proofs.RowLaws.{each-rows}
 use Rattle.sdp_put.proofs.OutLaws.{_then_, said}
 use Rattle.sdp_row.specs.Written.{contactLines}
 use Rattle.sdp_decode.specs.Decode.{spanOf, bandwidthOf, decode}

@@ -1,6 +1,6 @@
 -- `sdp_tables::put_media` meets its contract. Assumes nothing.
 use Rattle.sdp_tables.proofs.OwnerLaws.{connections-rise, bandwidths-rise, attributes-rise}
-use Rattle.sdp_tables.proofs.RowLaws.{each-rows}
+use Rattle.sdp_decode.proofs.RowLaws.{each-rows}
 use Rattle.sdp_put.proofs.OutLaws.{_then_, said}
 use Rattle.sdp_row.specs.Written.{mediaLines}
 use Rattle.sdp_decode.specs.Decode.{mediaConnectionOf, bandwidthOf, attributeOf, decode}

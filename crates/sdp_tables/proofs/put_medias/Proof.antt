@@ -1,5 +1,6 @@
 -- `sdp_tables::put_medias` meets its contract. Assumes nothing.
-use Rattle.sdp_tables.proofs.RowLaws.{Left, left-begin, left-turn, left-finish, each-rows}
+use Rattle.sdp_decode.proofs.RowLaws.{each-rows}
+use Rattle.sdp_tables.proofs.RowLaws.{Left, left-begin, left-turn, left-finish}
 use Rattle.sdp_put.proofs.OutLaws.{said}
 use Rattle.sdp_lines.specs.Strings.{bytesOf}
 use Rattle.sdp_row.specs.Written.{mediaLines}

@@ -1,7 +1,7 @@
 -- `sdp_tables::put_repeat` meets its contract. Assumes nothing.
 use Rattle.sdp_tables.proofs.OwnerLaws.{offsets-rise}
 use Rattle.sdp_row.proofs.LineLaws.{in-line}
-use Rattle.sdp_tables.proofs.RowLaws.{each-rows}
+use Rattle.sdp_decode.proofs.RowLaws.{each-rows}
 use Rattle.sdp_put.proofs.OutLaws.{_then_, said}
 use Rattle.sdp_put.specs.Digits.{timeText}
 use Rattle.sdp_row.specs.Written.{spaced, repeatLine}

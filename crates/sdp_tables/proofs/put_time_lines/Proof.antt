@@ -1,5 +1,5 @@
 -- `sdp_tables::put_time_lines` meets its contract. Assumes nothing.
-use Rattle.sdp_tables.proofs.RowLaws.{each-rows}
+use Rattle.sdp_decode.proofs.RowLaws.{each-rows}
 use Rattle.sdp_put.proofs.OutLaws.{_then_, said}
 use Rattle.sdp_row.specs.Written.{timeLines}
 use Rattle.sdp_decode.specs.Decode.{repeatOf}

@@ -1,5 +1,6 @@
 -- `sdp_tables::put_times` meets its contract. Assumes nothing.
-use Rattle.sdp_tables.proofs.RowLaws.{each-rows, times-none, times-some}
+use Rattle.sdp_decode.proofs.RowLaws.{each-rows}
+use Rattle.sdp_tables.proofs.RowLaws.{times-none, times-some}
 use Rattle.sdp_put.proofs.OutLaws.{said}
 use Rattle.sdp_row.specs.Written.{line, timeLines}
 use Rattle.sdp_decode.specs.Decode.{timeOf}

@@ -1,6 +1,7 @@
 -- `sdp_tables::put_zone_line` meets its contract. Assumes nothing.
 use Rattle.sdp_row.proofs.LineLaws.{in-line}
-use Rattle.sdp_tables.proofs.RowLaws.{each-rows, zones-none, zones-some}
+use Rattle.sdp_decode.proofs.RowLaws.{each-rows}
+use Rattle.sdp_tables.proofs.RowLaws.{zones-none, zones-some}
 use Rattle.sdp_put.proofs.OutLaws.{said, nothing}
 use Rattle.sdp_row.specs.Written.{zoneText}
 use Rattle.sdp_decode.specs.Decode.{zoneOf}
