@@ -1,4 +1,6 @@
 //! The project's functions as Rust calls them, and what compares them with others.
+#[cfg(feature = "crate")]
+pub mod all;
 pub mod area;
 #[cfg(feature = "crate")]
 pub mod bench;

@@ -1,10 +1,8 @@
 //! A long comparison with the crate. rust/long-run builds and runs it.
-use compare::bench::{smallest, Tally};
-use compare::listing::{windows, Listing};
-use compare::starts::tables;
-use compare::whole::Whole;
-use compare::{interrupt, read, starts, write, Answer, Starts};
-use generate::{sessions, Random};
+use compare::all::All;
+use compare::bench::Tally;
+use compare::interrupt;
+use generate::sessions;
 use std::fs;
 use std::io::{self, Write};
 use std::process::ExitCode;
@@ -96,35 +94,10 @@ fn files(folder: &str) -> io::Result<Texts> {
     })
 }
 
-type Reader = fn(&[u8], &mut [u8]) -> Answer;
-type Writer = fn(&[u8], &[u8], &mut [u8]) -> Answer;
-type Lister = fn(&[u8], &[u8], u64, u64) -> Starts;
-
-/// All that is compared of a text.
-struct All {
-    whole: Whole<Reader, Writer>,
-    listing: Listing<Lister>,
-}
-
-impl All {
-    /// The answer of reading if all agrees, else what differs. A text has always the same windows.
-    fn compare(&mut self, text: &[u8]) -> Result<Answer, String> {
-        let answer = self.whole.compare(text)?;
-        if answer.number == 0 {
-            let mut area = sdp::Area::new();
-            sdp::read(text, &mut area).map_err(|error| error.to_string())?;
-            let mut random = Random::new(text.len() as u64, "windows");
-            let chosen = tables(text, area.as_bytes()).map(|seen| windows(&mut random, &seen));
-            self.listing.compare(text, area.as_bytes(), &chosen.unwrap_or(vec![(0, u64::MAX)]))?;
-        }
-        Ok(answer)
-    }
-}
-
 fn run(out: &mut impl Write, texts: &Texts) -> io::Result<ExitCode> {
     let count = texts.count;
     writeln!(out, "long run: {}", texts.title)?;
-    let mut all = All { whole: Whole::new(read, write), listing: Listing::new(starts) };
+    let mut all = All::default();
     let mut tally = Tally::default();
     let (start, mut said) = (Instant::now(), Instant::now());
     let mut ended = ExitCode::SUCCESS;
@@ -147,7 +120,7 @@ fn run(out: &mut impl Write, texts: &Texts) -> io::Result<ExitCode> {
             Ok(answer) => tally.add(answer),
             Err(_) => {
                 writeln!(out, "{tally}\n{done} texts compared without a difference, and then:")?;
-                writeln!(out, "{name}: {}", smallest(&text, |part| all.compare(part).err()))?;
+                writeln!(out, "{name}: {}", all.smallest(&text))?;
                 return Ok(ExitCode::FAILURE);
             }
         }
