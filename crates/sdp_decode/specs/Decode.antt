@@ -79,6 +79,19 @@ mediaOf a p =
       key = marked keyOf a (p + 24);
     }
 
+-- ---- the tables of when it is, which the writer and the list of starts cite by themselves too
+abbrev pub timesIn : List ℕ → List Time
+timesIn a = table timeOf 16 a timesAt
+
+abbrev pub repeatsIn : List ℕ → List Repeat
+repeatsIn a = table repeatOf 18 a repeatsAt
+
+abbrev pub offsetsIn : List ℕ → List Offset
+offsetsIn a = table offsetOf 10 a offsetsAt
+
+abbrev pub zonesIn : List ℕ → List Zone
+zonesIn a = table zoneOf 16 a zonesAt
+
 -- ---- the whole
 unfoldable pub decode : List ℕ → Session Span
 decode a = record {
@@ -95,10 +108,10 @@ decode a = record {
     phones = table spanOf 4 a phonesAt;
     connections = table mediaConnectionOf 14 a connectionsAt;
     bandwidths = table bandwidthOf 14 a bandwidthsAt;
-    times = table timeOf 16 a timesAt;
-    repeats = table repeatOf 18 a repeatsAt;
-    offsets = table offsetOf 10 a offsetsAt;
-    zones = table zoneOf 16 a zonesAt;
+    times = timesIn a;
+    repeats = repeatsIn a;
+    offsets = offsetsIn a;
+    zones = zonesIn a;
     attributes = table attributeOf 12 a attributesAt;
     medias = table mediaOf 36 a mediasAt;
   };

@@ -16,9 +16,9 @@ use Rattle.sdp_cells.proofs.ByteLaws.{num-below}
 use Rattle.sdp_area.specs.Session.{Time, Zone}
 use Rattle.sdp_area.specs.Area.{originAt, nameAt, descriptionAt, uriAt, connectionAt, keyAt, emailsAt, phonesAt, connectionsAt, bandwidthsAt, timesAt, repeatsAt, offsetsAt, zonesAt, attributesAt, mediasAt}
 use Rattle.sdp_decode.specs.Rows as rows
-use Rattle.sdp_decode.specs.Rows.{rowsAt, table, marked, each}
+use Rattle.sdp_decode.specs.Rows.{rowsAt, marked, each}
 use Rattle.sdp_decode.specs.Decode
-use Rattle.sdp_decode.specs.Decode.{num2, spanOf, originOf, connectionOf, mediaConnectionOf, keyOf, bandwidthOf, timeOf, repeatOf, offsetOf, zoneOf, attributeOf, mediaOf, decode}
+use Rattle.sdp_decode.specs.Decode.{num2, spanOf, originOf, connectionOf, mediaConnectionOf, keyOf, bandwidthOf, timeOf, repeatOf, offsetOf, zoneOf, attributeOf, mediaOf, timesIn, zonesIn, decode}
 use Rattle.sdp_row.specs.Written
 use Rattle.sdp_row.specs.Written.{optional, signedText, zoneText, zonesLine, usernameText, originValue, originLine, connectionLine, bandwidthLine, pairLine, keyLine, stringLine, mediaLine, written}
 use Rattle.sdp_valid.specs.declared.Row.the-variants.{Plain, Connection, Bandwidth, Attribute, Media}
@@ -187,11 +187,11 @@ module _ (t a : List ℕ) (byte : (i : ℕ) → getD a i 0 < 256) where
         string-if 0x75 uriAt (uriAt + 4) refl,
         connection-if connectionAt,
         key-if keyAt (keyAt + 2) refl,
-        times-most (table timeOf 16 a timesAt),
+        times-most (timesIn a),
         rows-most timeCost timeOf a 16 45 time-line (num 2 a timesAt) (timesAt + 2),
         rows-most repeatCost repeatOf a 18 47 repeat-line (num 2 a repeatsAt) (repeatsAt + 2),
         rows-most offsetCost offsetOf a 10 22 offset-text (num 2 a offsetsAt) (offsetsAt + 2),
-        zones-most (table zoneOf 16 a zonesAt),
+        zones-most (zonesIn a),
         rows-most zoneCost zoneOf a 16 44 zone-text (num 2 a zonesAt) (zonesAt + 2),
         rows-room (λ x. length (stringLine (bytesOf t) 0x65 x)) spanOf a 4 (rowRoom a Plain) (string-line 0x65) (num 2 a emailsAt) (emailsAt + 2),
         rows-room (λ x. length (stringLine (bytesOf t) 0x70 x)) spanOf a 4 (rowRoom a Plain) (string-line 0x70) (num 2 a phonesAt) (phonesAt + 2),

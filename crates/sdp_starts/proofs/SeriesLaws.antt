@@ -13,7 +13,7 @@ use Rattle.sdp_area.specs.Session.{Zone}
 use Rattle.sdp_area.specs.Area.{zonesAt}
 use Rattle.sdp_decode.specs.Rows as rows
 use Rattle.sdp_decode.specs.Rows.{rowsAt}
-use Rattle.sdp_decode.specs.Decode.{zoneOf}
+use Rattle.sdp_decode.specs.Decode.{zoneOf, zonesIn}
 use Rattle.sdp_hours.specs.Hours.{rise}
 use Rattle.sdp_hours.specs.Listing.{Start}
 use Rattle.sdp_hours.specs.Starts as starting
@@ -32,7 +32,7 @@ use Rattle.sdp_window.proofs.ZoneLaws.{once-part, series-parts}
 use Rattle.sdp_listing.specs.Columns.{Columns, putAll}
 use Rattle.sdp_listing.specs.declared.Whose.{Whose}
 use Rattle.sdp_starts.specs.Fill as filling
-use Rattle.sdp_starts.specs.Fill.{Roomy, Fills, zonesOf, partOf, beforeOf, seriesOf, whoseBy, timeFor}
+use Rattle.sdp_starts.specs.Fill.{Roomy, Fills, partOf, beforeOf, seriesOf, whoseBy, timeFor}
 use Rattle.sdp_starts.specs.declared.Rule.{Rule}
 use Rattle.sdp_starts.proofs.FillLaws.{fills-none, fills-then, fills-as, fills-past, fills-put}
 
@@ -106,7 +106,7 @@ module _ (x : Whose) (s : Series) (stop : ℕ) (w : Window) (a : List ℕ) (n : 
     pub near : q ≤ zonesAt + 2 + i * 16
     pub done : List Start
     pub fills : Fills c₀ n₀ done c m
-    pub split : done ++ over x s stop w z (rowsAt zoneOf 16 (n - i) a q) after ≡ over x s stop w 0 (zonesOf a) 0
+    pub split : done ++ over x s stop w z (rowsAt zoneOf 16 (n - i) a q) after ≡ over x s stop w 0 (zonesIn a) 0
 
   pub passed-begin : n ≡ num 2 a zonesAt → n < 65536 → Passed c₀ 0 0 (zonesAt + 2) 0 n₀
   passed-begin e h =
@@ -141,7 +141,7 @@ module _ (x : Whose) (s : Series) (stop : ℕ) (w : Window) (a : List ℕ) (n : 
               ∙ l .split);
         }
 
-    pub passed-end : {c′ : Columns} {m′ : ℕ} → n ≤ i → Fills c m (partOf x s (partFrom after z) w) c′ m′ → Fills c₀ n₀ (over x s stop w 0 (zonesOf a) 0) c′ m′
+    pub passed-end : {c′ : Columns} {m′ : ℕ} → n ≤ i → Fills c m (partOf x s (partFrom after z) w) c′ m′ → Fills c₀ n₀ (over x s stop w 0 (zonesIn a) 0) c′ m′
     unfolding over parting.parts rows.rowsAt filling.partOf
     passed-end {c′} {m′} h t =
         let e : over x s stop w z (rowsAt zoneOf 16 (n - i) a q) after ≡ partOf x s (partFrom after z) w = ap (λ (k : ℕ). over x s stop w z (rowsAt zoneOf 16 k a q) after) (let o : n - i ≡ 0 = omega arith in o) in
@@ -152,7 +152,7 @@ module _ (x : Whose) (s : Series) (stop : ℕ) (w : Window) (a : List ℕ) (n : 
     passed-roomy r = l .fills .roomy r
 
 -- a whole series is its parts, where the adjustment times rise
-pub series-is : (a : List ℕ) (x : Whose) (u : Rule) (o : ℕ) (w : Window) → rise 0 (zonesOf a) ≡ true
-    → over x (record { start = u .start; offset = o; interval = u .interval }) (u .stop) w 0 (zonesOf a) 0 ≡ seriesOf a x u o w
+pub series-is : (a : List ℕ) (x : Whose) (u : Rule) (o : ℕ) (w : Window) → rise 0 (zonesIn a) ≡ true
+    → over x (record { start = u .start; offset = o; interval = u .interval }) (u .stop) w 0 (zonesIn a) 0 ≡ seriesOf a x u o w
 unfolding over filling.seriesOf
-series-is a x u o w r = sym (ap (numbered (x .time) (x .repeat)) (series-parts (u .start) (u .stop) (u .interval) o (zonesOf a) (w .from) (w .to) r))
+series-is a x u o w r = sym (ap (numbered (x .time) (x .repeat)) (series-parts (u .start) (u .stop) (u .interval) o (zonesIn a) (w .from) (w .to) r))

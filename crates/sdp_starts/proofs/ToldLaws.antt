@@ -8,15 +8,16 @@ use lib.ListN.{length, replicate}
 use borrow.Author.Tests.{ne-eqb, lt-ltb, le-ltb}
 use Rattle.sdp_numbers.specs.Refusals.{mostStarts}
 use Rattle.sdp_decode.specs.Decode as decoding
+use Rattle.sdp_decode.specs.Decode.{zonesIn}
 use Rattle.sdp_unfit.specs.Unfit.{unfit}
 use Rattle.sdp_hours.specs.Hours.{rise}
 use Rattle.sdp_hours.specs.Listing.{Start, sorted}
 use Rattle.sdp_hours.specs.Starts as starting
-use Rattle.sdp_hours.specs.Starts.{Told, refused, startsOf, startsText}
+use Rattle.sdp_hours.specs.Starts.{Told, refused, startsText}
 use Rattle.sdp_hours.proofs.OrderLaws.{length-into}
 use Rattle.sdp_listing.specs.Columns as listing
 use Rattle.sdp_listing.specs.Columns.{Columns, columns}
-use Rattle.sdp_starts.specs.Fill.{Roomy, Holds, timesOf, repeatsOf, offsetsOf, zonesOf}
+use Rattle.sdp_starts.specs.Fill.{Roomy, Holds, foundIn}
 use Rattle.sdp_starts.specs.Returned.{returned}
 use Rattle.sdp_starts.specs.declared.Starts.{Starts}
 use Rattle.sdp_starts.proofs.FillLaws.{capped-few, few-is, many-is}
@@ -37,20 +38,19 @@ pub zeros-roomy : Roomy (columns zeros zeros zeros)
 zeros-roomy = record { ats = refl; times = refl; repeats = refl }
 
 module _ (t a : List ℕ) (from to : ℕ) where
+  abbrev found : List Start
+  found = foundIn a (record { from = from; to = to })
+
   pub told-unfit : (n : ℕ) → n ≡ unfit t a → (n ≡ 0 → ⊥) → refused n ≡ startsText t a from to
   unfolding starting.startsText
   told-unfit n e h = rw (← e, ne-eqb n 0 h) refl
 
   module _ (n : ℕ) (e : n ≡ unfit t a) (z : n ≡ 0) where
-    pub told-fall : rise 0 (zonesOf a) ≡ false → refused 28 ≡ startsText t a from to
+    pub told-fall : rise 0 (zonesIn a) ≡ false → refused 28 ≡ startsText t a from to
     unfolding starting.startsText starting.startsIn decoding.decode
     told-fall h = rw (← e, z, h) refl
 
-    module _ (r : rise 0 (zonesOf a) ≡ true) (c : Columns) (m : ℕ)
-        (f : Holds c m (sorted (startsOf (repeatsOf a) (offsetsOf a) (zonesOf a) from to (timesOf a)))) where
-      abbrev found : List Start
-      found = startsOf (repeatsOf a) (offsetsOf a) (zonesOf a) from to (timesOf a)
-
+    module _ (r : rise 0 (zonesIn a) ≡ true) (c : Columns) (m : ℕ) (f : Holds c m (sorted found)) where
       pub told-many : mostStarts < m → refused 29 ≡ startsText t a from to
       unfolding starting.startsText starting.startsIn starting.answered decoding.decode
       told-many h =

@@ -10,12 +10,11 @@ use Rattle.sdp_cells.specs.Bytes.{num}
 use Rattle.sdp_area.specs.Area.{zonesAt}
 use Rattle.sdp_decode.specs.Rows as rows
 use Rattle.sdp_decode.specs.Rows.{rowsAt}
-use Rattle.sdp_decode.specs.Decode.{zoneOf}
+use Rattle.sdp_decode.specs.Decode.{zoneOf, zonesIn}
 use Rattle.sdp_hours.specs.Hours as hours
 use Rattle.sdp_hours.specs.Hours.{rise}
-use Rattle.sdp_starts.specs.Fill.{zonesOf}
 
-pub rise-all : (a : List ℕ) (n : ℕ) → n ≡ num 2 a zonesAt → rise 0 (zonesOf a) ≡ rise 0 (rowsAt zoneOf 16 (n - 0) a (zonesAt + 2))
+pub rise-all : (a : List ℕ) (n : ℕ) → n ≡ num 2 a zonesAt → rise 0 (zonesIn a) ≡ rise 0 (rowsAt zoneOf 16 (n - 0) a (zonesAt + 2))
 rise-all a n e = ap (λ (k : ℕ). rise 0 (rowsAt zoneOf 16 k a (zonesAt + 2))) (let z : num 2 a zonesAt ≡ n - 0 = omega arith in z)
 
 module _ (a : List ℕ) (n i last p : ℕ) where

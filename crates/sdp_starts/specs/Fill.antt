@@ -8,10 +8,8 @@ use lib.ListN.{length}
 use lib.Dec.{ltb, eqb}
 use Rattle.sdp_numbers.specs.Refusals.{mostStarts}
 use Rattle.sdp_cells.specs.Bytes.{num}
-use Rattle.sdp_area.specs.Session.{Time, Repeat, Offset, Zone}
-use Rattle.sdp_area.specs.Area.{timesAt, repeatsAt, offsetsAt, zonesAt}
-use Rattle.sdp_decode.specs.Rows.{table}
-use Rattle.sdp_decode.specs.Decode.{timeOf, repeatOf, offsetOf, zoneOf}
+use Rattle.sdp_area.specs.Session.{Time, Repeat}
+use Rattle.sdp_decode.specs.Decode.{timesIn, repeatsIn, offsetsIn, zonesIn}
 use Rattle.sdp_hours.specs.Hours.{repeated}
 use Rattle.sdp_hours.specs.Listing.{Start, into}
 use Rattle.sdp_hours.specs.Starts.{numbered, ofRepeat, ofTime, startsOf}
@@ -43,19 +41,7 @@ pub record Fills (c : Columns) (n : ℕ) (xs : List Start) (c′ : Columns) (n�
   pub roomy : Roomy c → Roomy c′
   pub holds : (l : List Start) → Holds c n l → Holds c′ n′ (into l xs)
 
--- ---- the tables of an area
-abbrev pub timesOf : List ℕ → List Time
-timesOf a = table timeOf 16 a timesAt
-
-abbrev pub repeatsOf : List ℕ → List Repeat
-repeatsOf a = table repeatOf 18 a repeatsAt
-
-abbrev pub offsetsOf : List ℕ → List Offset
-offsetsOf a = table offsetOf 10 a offsetsAt
-
-abbrev pub zonesOf : List ℕ → List Zone
-zonesOf a = table zoneOf 16 a zonesAt
-
+-- ---- owners
 -- one of n rows of w bytes each, from p on, belongs to k: a row begins with its owner
 unfoldable pub ownsAt : List ℕ → ℕ → ℕ → ℕ → ℕ → Bool
 ownsAt a w k zero p = false
@@ -78,7 +64,7 @@ beforeOf x s p a w =
 -- a repeat with the offset o, over all zones of the area a
 unfoldable pub seriesOf : List ℕ → Whose → Rule → ℕ → Window → List Start
 seriesOf a x u o w =
-    numbered (x .time) (x .repeat) (repeated (u .start) (u .stop) (u .interval) o (zonesOf a) (w .from) (w .to))
+    numbered (x .time) (x .repeat) (repeated (u .start) (u .stop) (u .interval) o (zonesIn a) (w .from) (w .to))
 
 -- whose the starts of repeat j of time i are
 abbrev pub whoseBy : ℕ → ℕ → Whose
@@ -97,10 +83,10 @@ repeatBy i u = record { owner = i; repeatInterval = u .interval; activeDuration 
 
 -- over the tables of the area a: repeat j of time i, time i, all times
 abbrev pub repeatIn : List ℕ → Window → ℕ → Time → ℕ → Repeat → List Start
-repeatIn a w i t j r = ofRepeat (repeatsOf a) (offsetsOf a) (zonesOf a) (w .from) (w .to) i t j r
+repeatIn a w i t j r = ofRepeat (repeatsIn a) (offsetsIn a) (zonesIn a) (w .from) (w .to) i t j r
 
 abbrev pub timeIn : List ℕ → Window → ℕ → Time → List Start
-timeIn a w i t = ofTime (repeatsOf a) (offsetsOf a) (zonesOf a) (w .from) (w .to) i t
+timeIn a w i t = ofTime (repeatsIn a) (offsetsIn a) (zonesIn a) (w .from) (w .to) i t
 
 abbrev pub foundIn : List ℕ → Window → List Start
-foundIn a w = startsOf (repeatsOf a) (offsetsOf a) (zonesOf a) (w .from) (w .to) (timesOf a)
+foundIn a w = startsOf (repeatsIn a) (offsetsIn a) (zonesIn a) (w .from) (w .to) (timesIn a)

@@ -6,12 +6,12 @@ ghost use mathlib.Core.List.{[]};
 ghost use Prim.Native.Nat.{_+_, _<_};
 ghost use Rattle.sdp_cells.specs.Bytes.{num};
 ghost use Rattle.sdp_decode.specs.Rows.{each, mine};
-ghost use Rattle.sdp_decode.specs.Decode.{timeOf, repeatOf, offsetOf};
+ghost use Rattle.sdp_decode.specs.Decode.{timeOf, repeatOf, offsetOf, repeatsIn, offsetsIn, zonesIn};
 ghost use Rattle.sdp_hours.specs.Hours.{rise};
 ghost use Rattle.sdp_hours.specs.Starts.{once, refused, startsText};
 ghost use Rattle.sdp_window.specs.Parts.{until};
 ghost use Rattle.sdp_listing.specs.Columns.{columns};
-ghost use Rattle.sdp_starts.specs.Fill.{Fills, Roomy, repeatsOf, offsetsOf, zonesOf, ownsAt};
+ghost use Rattle.sdp_starts.specs.Fill.{Fills, Roomy, ownsAt};
 ghost use Rattle.sdp_starts.specs.Fill.{partOf, beforeOf, seriesOf, repeatIn, timeIn, foundIn, timeBy, repeatBy, timeFor, whoseBy};
 ghost use Rattle.sdp_starts.specs.Returned.{returned};
 use sdp_area::OFFSETS;
@@ -129,7 +129,7 @@ fn put_series(
     offset: u64,
     w: Window,
 ) -> usize
-    requires { ⌜ Roomy (columns (now at) (now time) (now repeat)) × (rise 0 (zonesOf (now area)) ≡ true) ⌝ }
+    requires { ⌜ Roomy (columns (now at) (now time) (now repeat)) × (rise 0 (zonesIn (now area)) ≡ true) ⌝ }
     ensures { λ r. ⌜ Fills (columns (now (at .entry)) (now (time .entry)) (now (repeat .entry))) n (seriesOf (now (area .entry)) whose rule offset w) (columns (now (at .exit)) (now (time .exit)) (now (repeat .exit))) r ⌝ }
 {
     let zones = num2(area, ZONES);
@@ -196,7 +196,7 @@ fn put_offset(
     rule: Rule,
     w: Window,
 ) -> usize
-    requires { ⌜ Roomy (columns (now at) (now time) (now repeat)) × (rise 0 (zonesOf (now area)) ≡ true) × (p < 4000000) ⌝ }
+    requires { ⌜ Roomy (columns (now at) (now time) (now repeat)) × (rise 0 (zonesIn (now area)) ≡ true) × (p < 4000000) ⌝ }
     ensures { λ r. ⌜ Fills (columns (now (at .entry)) (now (time .entry)) (now (repeat .entry))) n (mine j (offsetOf (now (area .entry)) p .owner) (seriesOf (now (area .entry)) (whoseBy i j) rule (offsetOf (now (area .entry)) p .offset) w)) (columns (now (at .exit)) (now (time .exit)) (now (repeat .exit))) r ⌝ }
 {
     if num2(area, p) != j {
@@ -222,8 +222,8 @@ fn put_offsets(
     rule: Rule,
     w: Window,
 ) -> usize
-    requires { ⌜ Roomy (columns (now at) (now time) (now repeat)) × (rise 0 (zonesOf (now area)) ≡ true) ⌝ }
-    ensures { λ r. ⌜ Fills (columns (now (at .entry)) (now (time .entry)) (now (repeat .entry))) n (each (λ k o. mine j (o .owner) (seriesOf (now (area .entry)) (whoseBy i j) rule (o .offset) w)) 1 (offsetsOf (now (area .entry)))) (columns (now (at .exit)) (now (time .exit)) (now (repeat .exit))) r ⌝ }
+    requires { ⌜ Roomy (columns (now at) (now time) (now repeat)) × (rise 0 (zonesIn (now area)) ≡ true) ⌝ }
+    ensures { λ r. ⌜ Fills (columns (now (at .entry)) (now (time .entry)) (now (repeat .entry))) n (each (λ k o. mine j (o .owner) (seriesOf (now (area .entry)) (whoseBy i j) rule (o .offset) w)) 1 (offsetsIn (now (area .entry)))) (columns (now (at .exit)) (now (time .exit)) (now (repeat .exit))) r ⌝ }
 {
     let rows = num2(area, OFFSETS);
     let mut m = n;
@@ -249,7 +249,7 @@ fn put_repeat(
     rule: Rule,
     w: Window,
 ) -> usize
-    requires { ⌜ Roomy (columns (now at) (now time) (now repeat)) × (rise 0 (zonesOf (now area)) ≡ true) ⌝ }
+    requires { ⌜ Roomy (columns (now at) (now time) (now repeat)) × (rise 0 (zonesIn (now area)) ≡ true) ⌝ }
     ensures { λ r. ⌜ Fills (columns (now (at .entry)) (now (time .entry)) (now (repeat .entry))) n (repeatIn (now (area .entry)) w i (timeBy rule) j (repeatBy i rule)) (columns (now (at .exit)) (now (time .exit)) (now (repeat .exit))) r ⌝ }
 {
     if owns(area, OFFSETS, 10, j) {
@@ -276,7 +276,7 @@ fn put_own_repeat(
     stop: u64,
     w: Window,
 ) -> usize
-    requires { ⌜ Roomy (columns (now at) (now time) (now repeat)) × (rise 0 (zonesOf (now area)) ≡ true) × (p < 4000000) ⌝ }
+    requires { ⌜ Roomy (columns (now at) (now time) (now repeat)) × (rise 0 (zonesIn (now area)) ≡ true) × (p < 4000000) ⌝ }
     ensures { λ r. ⌜ Fills (columns (now (at .entry)) (now (time .entry)) (now (repeat .entry))) n (mine i (repeatOf (now (area .entry)) p .owner) (repeatIn (now (area .entry)) w i (timeFor start stop) j (repeatOf (now (area .entry)) p))) (columns (now (at .exit)) (now (time .exit)) (now (repeat .exit))) r ⌝ }
 {
     if num2(area, p) != i {
@@ -302,8 +302,8 @@ fn put_repeats(
     stop: u64,
     w: Window,
 ) -> usize
-    requires { ⌜ Roomy (columns (now at) (now time) (now repeat)) × (rise 0 (zonesOf (now area)) ≡ true) ⌝ }
-    ensures { λ r. ⌜ Fills (columns (now (at .entry)) (now (time .entry)) (now (repeat .entry))) n (each (λ j r. mine i (r .owner) (repeatIn (now (area .entry)) w i (timeFor start stop) j r)) 1 (repeatsOf (now (area .entry)))) (columns (now (at .exit)) (now (time .exit)) (now (repeat .exit))) r ⌝ }
+    requires { ⌜ Roomy (columns (now at) (now time) (now repeat)) × (rise 0 (zonesIn (now area)) ≡ true) ⌝ }
+    ensures { λ r. ⌜ Fills (columns (now (at .entry)) (now (time .entry)) (now (repeat .entry))) n (each (λ j r. mine i (r .owner) (repeatIn (now (area .entry)) w i (timeFor start stop) j r)) 1 (repeatsIn (now (area .entry)))) (columns (now (at .exit)) (now (time .exit)) (now (repeat .exit))) r ⌝ }
 {
     let rows = num2(area, REPEATS);
     let mut m = n;
@@ -359,7 +359,7 @@ fn put_time(
     i: usize,
     w: Window,
 ) -> usize
-    requires { ⌜ Roomy (columns (now at) (now time) (now repeat)) × (rise 0 (zonesOf (now area)) ≡ true) × (p < 4000000) ⌝ }
+    requires { ⌜ Roomy (columns (now at) (now time) (now repeat)) × (rise 0 (zonesIn (now area)) ≡ true) × (p < 4000000) ⌝ }
     ensures { λ r. ⌜ Fills (columns (now (at .entry)) (now (time .entry)) (now (repeat .entry))) n (timeIn (now (area .entry)) w i (timeOf (now (area .entry)) p)) (columns (now (at .exit)) (now (time .exit)) (now (repeat .exit))) r ⌝ }
 {
     let start = num8(area, p);
@@ -375,7 +375,7 @@ fn put_time(
 
 // All times.
 fn put_times(at: &mut [u64], time: &mut [u64], repeat: &mut [u64], area: &[u8], w: Window) -> usize
-    requires { ⌜ Roomy (columns (now at) (now time) (now repeat)) × (rise 0 (zonesOf (now area)) ≡ true) ⌝ }
+    requires { ⌜ Roomy (columns (now at) (now time) (now repeat)) × (rise 0 (zonesIn (now area)) ≡ true) ⌝ }
     ensures { λ r. ⌜ Fills (columns (now (at .entry)) (now (time .entry)) (now (repeat .entry))) 0 (foundIn (now (area .entry)) w) (columns (now (at .exit)) (now (time .exit)) (now (repeat .exit))) r ⌝ }
 {
     let rows = num2(area, TIMES);
@@ -392,7 +392,7 @@ fn put_times(at: &mut [u64], time: &mut [u64], repeat: &mut [u64], area: &[u8], 
 
 // Whether no adjustment time is below the one before it.
 fn zones_rise(area: &[u8]) -> bool
-    ensures { λ r. ⌜ r ≡ rise 0 (zonesOf (now (area .entry))) ⌝ }
+    ensures { λ r. ⌜ r ≡ rise 0 (zonesIn (now (area .entry))) ⌝ }
 {
     let rows = num2(area, ZONES);
     let mut p = ZONES + 2;

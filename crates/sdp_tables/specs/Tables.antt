@@ -2,18 +2,11 @@
 use Prim.Native.Nat.{ℕ, _+_, _*_, _≤_, _<_}
 use mathlib.Core.List.{List}
 use Rattle.sdp_cells.specs.Bytes.{num}
-use Rattle.sdp_area.specs.Area.{offsetsAt}
-use Rattle.sdp_area.specs.Session.{Offset}
-use Rattle.sdp_decode.specs.Rows.{table, mine}
-use Rattle.sdp_decode.specs.Decode.{offsetOf}
+use Rattle.sdp_decode.specs.Rows.{mine}
 
 -- what f gives of row k at place p, where its owner is n
 abbrev pub own : List ℕ → ℕ → (ℕ → ℕ → List ℕ) → ℕ → ℕ → List ℕ
 own a n f k p = mine n (num 2 a p) (f k p)
-
--- the offsets that the area holds
-abbrev pub offsetsIn : List ℕ → List Offset
-offsetsIn a = table offsetOf 10 a offsetsAt
 
 -- "owners never fall": those of the table at base, whose rows have w bytes
 pub record NeverFall (a : List ℕ) (base w : ℕ) : Type 0 where

@@ -6,13 +6,13 @@ ghost use mathlib.Core.Bool.{true};
 ghost use Rattle.sdp_lines.specs.Strings.{bytesOf};
 ghost use Rattle.sdp_cells.specs.Bytes.{num};
 ghost use Rattle.sdp_valid.specs.Judge.{owners};
-ghost use Rattle.sdp_area.specs.Area.{timesAt, repeatsAt, zonesAt};
+ghost use Rattle.sdp_area.specs.Area.{timesAt, repeatsAt};
 ghost use Rattle.sdp_put.specs.Out.{Put};
-ghost use Rattle.sdp_decode.specs.Rows.{table, each, eachAt};
-ghost use Rattle.sdp_decode.specs.Decode.{timeOf, repeatOf, zoneOf, mediaOf, decode};
+ghost use Rattle.sdp_decode.specs.Rows.{each, eachAt};
+ghost use Rattle.sdp_decode.specs.Decode.{timeOf, repeatOf, mediaOf, timesIn, repeatsIn, offsetsIn, zonesIn, decode};
 ghost use Rattle.sdp_row.specs.Written.{repeatLine, timeLines, timesLines, zonesLine, mediaLines, contactLines, closingLines};
 ghost use Rattle.sdp_table_row.specs.Rows.{rowText};
-ghost use Rattle.sdp_tables.specs.Tables.{own, offsetsIn, NeverFall, Parted};
+ghost use Rattle.sdp_tables.specs.Tables.{own, NeverFall, Parted};
 use sdp_area::ATTRIBUTES;
 use sdp_area::BANDWIDTHS;
 use sdp_area::CONNECTIONS;
@@ -152,7 +152,7 @@ fn put_repeats(out: &mut [u8], at: usize, text: &[u8], area: &[u8], n: usize) ->
 fn put_time_lines(out: &mut [u8], at: usize, text: &[u8], area: &[u8], k: usize, p: usize) -> usize
     requires { ⌜ p < 3700000 ⌝ }
     requires { ⌜ owners (now area) ≡ true ⌝ }
-    ensures { λ r. ⌜ Put (now (out .entry)) at (timeLines (table repeatOf 18 (now (area .entry)) repeatsAt) (offsetsIn (now (area .entry))) k (timeOf (now (area .entry)) p)) (now (out .exit)) r ⌝ }
+    ensures { λ r. ⌜ Put (now (out .entry)) at (timeLines (repeatsIn (now (area .entry))) (offsetsIn (now (area .entry))) k (timeOf (now (area .entry)) p)) (now (out .exit)) r ⌝ }
 {
     let b = put_time_line(out, at, area, p);
     put_repeats(out, b, text, area, k)
@@ -160,7 +160,7 @@ fn put_time_lines(out: &mut [u8], at: usize, text: &[u8], area: &[u8], k: usize,
 
 fn put_all_times(out: &mut [u8], at: usize, text: &[u8], area: &[u8]) -> usize
     requires { ⌜ owners (now area) ≡ true ⌝ }
-    ensures { λ r. ⌜ Put (now (out .entry)) at (eachAt (λ k p. timeLines (table repeatOf 18 (now (area .entry)) repeatsAt) (offsetsIn (now (area .entry))) k (timeOf (now (area .entry)) p)) 16 (num 2 (now (area .entry)) timesAt) 1 (timesAt + 2)) (now (out .exit)) r ⌝ }
+    ensures { λ r. ⌜ Put (now (out .entry)) at (eachAt (λ k p. timeLines (repeatsIn (now (area .entry))) (offsetsIn (now (area .entry))) k (timeOf (now (area .entry)) p)) 16 (num 2 (now (area .entry)) timesAt) 1 (timesAt + 2)) (now (out .exit)) r ⌝ }
 {
     let count = num2(area, TIMES);
     let mut p = TIMES + 2;
@@ -176,7 +176,7 @@ fn put_all_times(out: &mut [u8], at: usize, text: &[u8], area: &[u8]) -> usize
 
 fn put_times(out: &mut [u8], at: usize, text: &[u8], area: &[u8]) -> usize
     requires { ⌜ owners (now area) ≡ true ⌝ }
-    ensures { λ r. ⌜ Put (now (out .entry)) at (timesLines (table repeatOf 18 (now (area .entry)) repeatsAt) (offsetsIn (now (area .entry))) (table timeOf 16 (now (area .entry)) timesAt)) (now (out .exit)) r ⌝ }
+    ensures { λ r. ⌜ Put (now (out .entry)) at (timesLines (repeatsIn (now (area .entry))) (offsetsIn (now (area .entry))) (timesIn (now (area .entry)))) (now (out .exit)) r ⌝ }
 {
     if num2(area, TIMES) == 0 {
         return put_all(out, at, b"t=0 0\r\n");
@@ -197,7 +197,7 @@ pub fn put_contact(out: &mut [u8], at: usize, text: &[u8], area: &[u8]) -> usize
 }
 
 fn put_zone_line(out: &mut [u8], at: usize, text: &[u8], area: &[u8]) -> usize
-    ensures { λ r. ⌜ Put (now (out .entry)) at (zonesLine (table zoneOf 16 (now (area .entry)) zonesAt)) (now (out .exit)) r ⌝ }
+    ensures { λ r. ⌜ Put (now (out .entry)) at (zonesLine (zonesIn (now (area .entry)))) (now (out .exit)) r ⌝ }
 {
     if num2(area, ZONES) == 0 {
         return at;

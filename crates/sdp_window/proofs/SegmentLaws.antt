@@ -1,7 +1,7 @@
 -- A part of the line of time with one zone offset is a window on the progression. Assumes nothing.
 use Prim.Native.Nat.{ℕ, zero, suc, _+_, _*_, _-_, _%_, _^_, _≤_, _<_}
 use mathlib.Core.Path.{_≡_, refl, sym, ap, _∙_}
-use mathlib.Core.Bool.{Bool, true, false, cond, not, _&&_, true≢false, and-false}
+use mathlib.Core.Bool.{Bool, true, false, cond, not, _&&_, and-eq-true-iff, and-false}
 use mathlib.Core.List.{List, [], _∷_, _++_}
 use native.Mathlib.Nat.{le-mul-of-pos-right}
 use native.Mathlib.Omega.{arith}
@@ -23,10 +23,6 @@ same-test : (p q : Bool) → (p ≡ true → q ≡ true) → (q ≡ true → p �
 same-test true q f g = sym (f refl)
 same-test false true f g = g refl
 same-test false false f g = refl
-
-pub two : (p q : Bool) → p && q ≡ true → (p ≡ true) × (q ≡ true)
-two true q h = (refl, h)
-two false q h = (h, absurd (true≢false (sym h)))
 
 -- ---- the greater and the less of two
 over : (p v : ℕ) → (p ≤ cond (leb p v) v p) × (v ≤ cond (leb p v) v p)
@@ -135,8 +131,8 @@ module _ (after end e w from to b : ℕ) (limit : to < 2 ^ 64) where
 
   free-to : asked true ≡ true → found true ≡ true
   free-to h =
-      let p = two (leb after b) (leb (from + w) (b + e) && ltb (b + e) (to + w)) h in
-      let q = two (leb (from + w) (b + e)) (ltb (b + e) (to + w)) (p .1) in
+      let p = and-eq-true-iff (leb after b) (leb (from + w) (b + e) && ltb (b + e) (to + w)) .0 h in
+      let q = and-eq-true-iff (leb (from + w) (b + e)) (ltb (b + e) (to + w)) .0 (p .1) in
       let u = ltb-true (b + e) (to + w) (q .1) in
       let f = leb-true (from + w) (b + e) (q .0) in
       let l = low-from from after e w (b + e) (omega arith) f (omega (arith, leb-true after b (p .0))) in
@@ -145,16 +141,16 @@ module _ (after end e w from to b : ℕ) (limit : to < 2 ^ 64) where
   free-from : found true ≡ true → asked true ≡ true
   free-from h =
       let lo = lowest from (sumOf (after + 0 + e) w) in
-      let p = two (leb (lo + w) (b + e)) (ltb (b + e) (to + w)) h in
+      let p = and-eq-true-iff (leb (lo + w) (b + e)) (ltb (b + e) (to + w)) .0 h in
       let u = ltb-true (b + e) (to + w) (p .1) in
       let l = low-to from after e w (b + e) (omega arith) (leb-true (lo + w) (b + e) (p .0)) in
       rw (le-leb after b (omega (arith, l .1)), le-leb (from + w) (b + e) (l .0)) (p .1)
 
   ended-to : asked false ≡ true → found false ≡ true
   ended-to h =
-      let p = two (leb after b) (not (leb end b) && (leb (from + w) (b + e) && ltb (b + e) (to + w))) h in
-      let r = two (not (leb end b)) (leb (from + w) (b + e) && ltb (b + e) (to + w)) (p .1) in
-      let q = two (leb (from + w) (b + e)) (ltb (b + e) (to + w)) (r .1) in
+      let p = and-eq-true-iff (leb after b) (not (leb end b) && (leb (from + w) (b + e) && ltb (b + e) (to + w))) .0 h in
+      let r = and-eq-true-iff (not (leb end b)) (leb (from + w) (b + e) && ltb (b + e) (to + w)) .0 (p .1) in
+      let q = and-eq-true-iff (leb (from + w) (b + e)) (ltb (b + e) (to + w)) .0 (r .1) in
       let u = ltb-true (b + e) (to + w) (q .1) in
       let f = leb-true (from + w) (b + e) (q .0) in
       let s = leb-false end b (not-true (leb end b) (r .0)) in
@@ -167,7 +163,7 @@ module _ (after end e w from to b : ℕ) (limit : to < 2 ^ 64) where
   ended-from h =
       let lo = lowest from (sumOf (after + 0 + e) w) in
       let hi = highest to (sumOf (end + 0 + e) w) in
-      let p = two (leb (lo + w) (b + e)) (ltb (b + e) (hi + w)) h in
+      let p = and-eq-true-iff (leb (lo + w) (b + e)) (ltb (b + e) (hi + w)) .0 h in
       let v = ltb-true (b + e) (hi + w) (p .1) in
       let t = highest-most to (sumOf (end + 0 + e) w) in
       let l = low-to from after e w (b + e) (omega (arith, t, v)) (leb-true (lo + w) (b + e) (p .0)) in

@@ -1,7 +1,7 @@
 -- What is listed of one repeat and one offset is what its parts between adjustment times list, one after the other. Assumes nothing.
 use Prim.Native.Nat.{ℕ, zero, suc, _+_, _*_, _^_, _≤_, _<_}
 use mathlib.Core.Path.{_≡_, refl, sym, ap, _∙_}
-use mathlib.Core.Bool.{Bool, true, false, cond}
+use mathlib.Core.Bool.{Bool, true, false, cond, and-eq-true-iff}
 use mathlib.Core.List.{List, [], _∷_, _++_, append-assoc, append-nil}
 use native.Mathlib.Nat.{add-mul}
 use native.Mathlib.Omega.{arith}
@@ -11,7 +11,7 @@ use Rattle.sdp_area.specs.Session.{Zone}
 use Rattle.sdp_hours.specs.Hours.{west, latest, unshifted, rise, dropped, listed, mostWest, startsFrom, repeated}
 use Rattle.sdp_hours.proofs.HoursLaws.{every-k}
 use Rattle.sdp_window.specs.Parts.{until, stepsFor, segmentFrom, parts}
-use Rattle.sdp_window.proofs.SegmentLaws.{two, west-most}
+use Rattle.sdp_window.proofs.SegmentLaws.{west-most}
 
 -- ---- the latest adjustment, where they rise
 -- those past b are passed over
@@ -19,7 +19,7 @@ latest-early : (y : Zone) (a : ℕ) (zs : List Zone) (b : ℕ) → rise a zs ≡
 unfolding rise latest
 latest-early y a [] b r h = refl
 latest-early y a (z ∷ zs) b r h =
-    let q = two (leb a (z .adjustmentTime)) (rise (z .adjustmentTime) zs) r in
+    let q = and-eq-true-iff (leb a (z .adjustmentTime)) (rise (z .adjustmentTime) zs) .0 r in
     let l = leb-true a (z .adjustmentTime) (q .0) in
     rw (lt-leb (z .adjustmentTime) b (omega arith)) (latest-early y (z .adjustmentTime) zs b (q .1) (omega arith))
 
@@ -118,7 +118,7 @@ module _ (d stop from to : ℕ) where
   unfolding parts rise
   by-parts y [] r n b = last y n b
   by-parts y (a ∷ zs) r n b =
-      let q = two (leb (y .adjustmentTime) (a .adjustmentTime)) (rise (a .adjustmentTime) zs) r in
+      let q = and-eq-true-iff (leb (y .adjustmentTime) (a .adjustmentTime)) (rise (a .adjustmentTime) zs) .0 r in
       go (eqb (a .adjustmentTime) 0) refl (leb-true (y .adjustmentTime) (a .adjustmentTime) (q .0)) (q .1) (by-parts a zs (q .1) n b)
     where
       go : (t : Bool) → eqb (a .adjustmentTime) 0 ≡ t → y .adjustmentTime ≤ a .adjustmentTime → rise (a .adjustmentTime) zs ≡ true

@@ -1,4 +1,8 @@
 //! The alignment, the page, and the program as a user runs it.
+#[path = "../../sdp/tests/c/mod.rs"]
+mod c;
+#[path = "../../sdp/tests/page/mod.rs"]
+mod page;
 use beside::align::{align, lines, Row};
 use beside::cells::{cells, columns};
 use beside::page::{page, LONGEST, WIDTH};
@@ -301,20 +305,7 @@ const RUNNER: &str = concat!(env!("CARGO_MANIFEST_DIR"), "/../../gate/run-x86");
 const PROGRAM: &str = env!("CARGO_BIN_EXE_beside");
 
 fn run(words: &[&str], input: &[u8]) -> Output {
-    let mut child = Command::new(RUNNER)
-        .arg(PROGRAM)
-        .args(words)
-        .stdin(Stdio::piped())
-        .stdout(Stdio::piped())
-        .stderr(Stdio::piped())
-        .spawn()
-        .unwrap_or_else(|error| panic!("{RUNNER}: {error}"));
-    let (mut to, input) = (child.stdin.take().unwrap(), input.to_vec());
-    // a program that has a file doesn't read this
-    let feed = std::thread::spawn(move || drop(to.write_all(&input)));
-    let output = child.wait_with_output().unwrap();
-    feed.join().unwrap();
-    output
+    c::run(&PathBuf::from(PROGRAM), words, input)
 }
 
 #[test]
@@ -350,11 +341,7 @@ fn words_and_statuses() {
         (&[], &vec![b'\n'; 3_000_000], 1, "     text (more than 32,768 bytes, not shown)\n\nrefused 1 ", ""),
         (&[], &vec![b'\n'; LONGEST], 1, "        text (LF)", ""),
     ] {
-        let output = run(words, input);
-        let said = (String::from_utf8(output.stdout).unwrap(), String::from_utf8(output.stderr).unwrap());
-        assert_eq!(output.status.code(), Some(status), "{words:?}: {said:?}");
-        assert!(said.0.starts_with(out) && said.0.is_empty() == out.is_empty(), "{words:?}: {said:?}");
-        assert!(said.1.starts_with(errors) && said.1.is_empty() == errors.is_empty(), "{words:?}: {said:?}");
+        c::hold(run(words, input), words, status, out, errors);
     }
     assert!(run(&["--help"], b"").stdout.split(|byte| *byte == b'\n').all(|row| row.len() <= 120));
 }

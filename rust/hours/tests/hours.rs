@@ -478,11 +478,7 @@ fn words_and_statuses() {
         (&[], &vec![b'\n'; 3_000_000], 1, "refused: the text has more than 32768 bytes (refusal 1)\n", ""),
         (&[FESTIVAL, "-"], b"", 1, "text:  standard input\nrefused: there is no version", ""),
     ] {
-        let output = run(words, input);
-        let said = (String::from_utf8(output.stdout).unwrap(), String::from_utf8(output.stderr).unwrap());
-        assert_eq!(output.status.code(), Some(status), "{words:?}: {said:?}");
-        assert!(said.0.starts_with(out) && said.0.is_empty() == out.is_empty(), "{words:?}: {said:?}");
-        assert!(said.1.starts_with(errors) && said.1.is_empty() == errors.is_empty(), "{words:?}: {said:?}");
+        c::hold(run(words, input), words, status, out, errors);
     }
     assert!(run(&["--help"], b"").stdout.split(|byte| *byte == b'\n').all(|row| row.len() <= 120));
 }

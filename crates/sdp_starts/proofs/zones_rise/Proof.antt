@@ -1,9 +1,8 @@
 -- `sdp_starts::zones_rise` meets its contract. Assumes nothing.
-use Rattle.sdp_starts.specs.Fill.{zonesOf}
 use Rattle.sdp_starts.proofs.ZoneLaws.{rise-all, rise-falls, rise-more, rise-none}
 use Rattle.sdp_area.specs.Area.{zonesAt}
 use Rattle.sdp_decode.specs.Rows.{rowsAt}
-use Rattle.sdp_decode.specs.Decode.{zoneOf}
+use Rattle.sdp_decode.specs.Decode.{zoneOf, zonesIn}
 use Rattle.sdp_hours.specs.Hours.{rise}
 use mathlib.Core.Path.{_≡_, sym, _∙_}
 use native.Mathlib.Omega.{arith}
@@ -13,7 +12,7 @@ use Rattle.sdp_starts.proofs.zones_rise.Tie as tie
 
 abbrev Inv-loop : tie.InvT-loop
 Inv-loop area rows p₀ last₀ i₀ p last i =
-    (rows < 65536) × (p ≤ zonesAt + 2 + i * 16) × (i ≤ rows) × (rise 0 (zonesOf area) ≡ rise last (rowsAt zoneOf 16 (rows - i) area p))
+    (rows < 65536) × (p ≤ zonesAt + 2 + i * 16) × (i ≤ rows) × (rise 0 (zonesIn area) ≡ rise last (rowsAt zoneOf 16 (rows - i) area p))
 
 abbrev μ-loop : tie.MeasureT-loop
 μ-loop area rows p₀ last₀ i₀ p last i = rows - i

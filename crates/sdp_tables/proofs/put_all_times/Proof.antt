@@ -1,11 +1,9 @@
 -- `sdp_tables::put_all_times` meets its contract. Assumes nothing.
 use Rattle.sdp_tables.proofs.RowLaws.{Left, left-begin, left-turn, left-finish}
 use Rattle.sdp_row.specs.Written.{timeLines}
-use Rattle.sdp_tables.specs.Tables.{offsetsIn}
-use Rattle.sdp_decode.specs.Rows.{table}
-use Rattle.sdp_decode.specs.Decode.{timeOf, repeatOf}
+use Rattle.sdp_decode.specs.Decode.{timeOf, repeatsIn, offsetsIn}
 use Rattle.sdp_cells.specs.Bytes.{num}
-use Rattle.sdp_area.specs.Area.{timesAt, repeatsAt}
+use Rattle.sdp_area.specs.Area.{timesAt}
 use mathlib.Core.Path.{_≡_, refl}
 use mathlib.Core.List.{List}
 use Prim.Native.Nat.{ℕ, _-_}
@@ -17,7 +15,7 @@ use Rattle.sdp_tables.proofs.put_all_times.Tie as tie
 
 -- a t line with its r lines
 abbrev lines : List ℕ → ℕ → ℕ → List ℕ
-lines a k p = timeLines (table repeatOf 18 a repeatsAt) (offsetsIn a) k (timeOf a p)
+lines a k p = timeLines (repeatsIn a) (offsetsIn a) k (timeOf a p)
 
 abbrev Inv-loop : tie.InvT-loop
 Inv-loop out₀ at text area count p₀ i₀ q₀ out p i q = (length out ≡ length out₀) × Left (lines area) 16 timesAt (num 2 area timesAt) count out₀ at out p i q

@@ -2,8 +2,8 @@
 use Rattle.sdp_tables.proofs.OwnerLaws.{Ours, ours-none, ours-begin, ours-turn, ours-stop, repeats-rise}
 use Rattle.sdp_tables.proofs.RowLaws.{left-finish}
 use Rattle.sdp_row.specs.Written.{repeatLine}
-use Rattle.sdp_tables.specs.Tables.{own, offsetsIn}
-use Rattle.sdp_decode.specs.Decode.{repeatOf}
+use Rattle.sdp_tables.specs.Tables.{own}
+use Rattle.sdp_decode.specs.Decode.{repeatOf, offsetsIn}
 use Rattle.sdp_area.specs.Area.{repeatsAt}
 use mathlib.Core.Path.{_≡_, refl}
 use mathlib.Core.List.{List}

@@ -1,5 +1,5 @@
-//! C programs, compiled with the archive and run as cargo runs the tests: under the kit's emulator where they are x86-64 and
-//! the machine is not.
+//! Programs, those in C compiled with the archive, run as cargo runs the tests: under the kit's emulator where they are x86-64
+//! and the machine is not.
 #![allow(dead_code)] // each test file takes what it needs
 use crate::page::path;
 use std::fs::OpenOptions;
@@ -50,4 +50,12 @@ pub fn run_to(program: &PathBuf, arguments: &[&str], input: &[u8], output: Optio
 
 pub fn run(program: &PathBuf, arguments: &[&str], input: &[u8]) -> Output {
     run_to(program, arguments, input, None)
+}
+
+/// Holds a run to its status, and to how its output and its errors begin; where nothing is due, nothing may be said.
+pub fn hold(output: Output, words: &[&str], status: i32, out: &str, errors: &str) {
+    let said = (String::from_utf8(output.stdout).unwrap(), String::from_utf8(output.stderr).unwrap());
+    assert_eq!(output.status.code(), Some(status), "{words:?}: {said:?}");
+    assert!(said.0.starts_with(out) && said.0.is_empty() == out.is_empty(), "{words:?}: {said:?}");
+    assert!(said.1.starts_with(errors) && said.1.is_empty() == errors.is_empty(), "{words:?}: {said:?}");
 }
