@@ -8,13 +8,13 @@ use lib.Dec.{eqb, lit<}
 use lib.ListN.{length, getD, set, List·getD-map}
 use Rattle.sdp_lines.specs.declared.Span.{Span}
 use Rattle.sdp_cells.specs.Bytes.{le, num, over}
-use Rattle.sdp_area.specs.Session.{Origin, Connection, Key, Session, Within}
-use Rattle.sdp_area.specs.With.{withOrigin, withName, withDescription, withUri, withConnection, withKey}
-use Rattle.sdp_area.specs.Area.{span, opt, originBytes, nameBytes, connectionBytes, keyBytes, cat, segments, encode, originAt, nameAt, descriptionAt, uriAt, connectionAt, keyAt}
+use Rattle.sdp_area.specs.Session.{Origin, Connection, Session, Within}
+use Rattle.sdp_area.specs.With.{withOrigin, withName, withDescription, withUri, withConnection}
+use Rattle.sdp_area.specs.Area.{span, opt, originBytes, nameBytes, connectionBytes, cat, segments, encode, originAt, nameAt, descriptionAt, uriAt, connectionAt}
 use Rattle.sdp_area.specs.Latest.{given}
 use Rattle.sdp_cells.proofs.ByteLaws.{over-at, num-at, zeros-add, le-zero}
 use Rattle.sdp_area.proofs.SegmentLaws.{set-view, cat-view}
-use Rattle.sdp_area.proofs.WidthLaws.{widths, segment-widths, start, before, behind, begins, length-opt, length-origin, length-span, length-connection, length-key}
+use Rattle.sdp_area.proofs.WidthLaws.{widths, segment-widths, start, before, behind, begins, length-opt, length-origin, length-span, length-connection}
 
 -- the mark of what may be absent
 pub mark-at : {X : Type 0} (w : ℕ) (f : X → List ℕ) (o : Option X) (p q : List ℕ) (n : ℕ) → length p ≡ n → eqb (num 2 (p ++ (opt w f o ++ q)) n) 1 ≡ given o
@@ -41,7 +41,7 @@ module _ (s : Session Span) (t : List ℕ) (ok : Within s) (a : List ℕ) (is : 
         ap (λ (l : List ℕ). eqb (num 2 l (start k)) 1) view
         ∙ rw e (mark-at w f o (before s k) (behind s k t) (start k) (begins s k))
 
-  -- ---- the six
+  -- ---- the five that are read
   pub origin-set : (x : Origin Span) → over a originAt (le 2 1 ++ originBytes x) ≡ encode (withOrigin s x) ++ t
   unfolding encode opt
   origin-set x = field-set 0 (lit< tt) (le 2 1 ++ originBytes x) (length-opt 30 originBytes length-origin (some x))
@@ -73,10 +73,3 @@ module _ (s : Session Span) (t : List ℕ) (ok : Within s) (a : List ℕ) (is : 
 
   pub connection-mark : eqb (num 2 a connectionAt) 1 ≡ given (s .head .connection)
   connection-mark = field-mark 4 (lit< tt) 12 connectionBytes (s .head .connection) refl
-
-  pub key-set : (x : Key Span) → over a keyAt (le 2 1 ++ keyBytes x) ≡ encode (withKey s x) ++ t
-  unfolding encode opt
-  key-set x = field-set 5 (lit< tt) (le 2 1 ++ keyBytes x) (length-opt 10 keyBytes length-key (some x))
-
-  pub key-mark : eqb (num 2 a keyAt) 1 ≡ given (s .head .key)
-  key-mark = field-mark 5 (lit< tt) 10 keyBytes (s .head .key) refl

@@ -1,8 +1,8 @@
--- Laws of the latest media: whether there is one, its title and its key.
+-- Laws of the latest media: whether there is one, and its title.
 -- Assumes nothing.
 use mathlib.Core.Path.{_≡_, refl, sym, ap, _∙_}
 use mathlib.Core.Bool.{true, false, and-false}
-use mathlib.Core.List.{List, [], _∷_, _++_, append-assoc, append-nil}
+use mathlib.Core.List.{List, [], _∷_, _++_, append-assoc}
 use mathlib.Core.Option.{Option, some}
 use Prim.Native.Nat.{ℕ, _+_, _*_, _≤_, _<_}
 use native.Mathlib.Omega.{arith}
@@ -12,14 +12,14 @@ use lib.ListN.{length, length-append}
 use Rattle.sdp_lines.specs.declared.Span.{Span}
 use Rattle.sdp_cells.specs.Bytes.{le, num}
 use Rattle.sdp_cells.specs.Tables.{tab}
-use Rattle.sdp_area.specs.Session.{Key, Media, Session, Within}
-use Rattle.sdp_area.specs.With.{withLast, setLast, withMedias, titled, keyed}
+use Rattle.sdp_area.specs.Session.{Media, Session, Within}
+use Rattle.sdp_area.specs.With.{withLast, setLast, withMedias, titled}
 use Rattle.sdp_area.specs.Area.{span, opt, keyBytes, mediaRow, cat, segments, encode, mediasAt}
-use Rattle.sdp_area.specs.Latest.{anyMedia, latestAt, overLast, markLast, given, lastGiven, lastTitled, lastKeyed}
+use Rattle.sdp_area.specs.Latest.{anyMedia, titleAt, overTitle, markTitle, given, lastGiven, lastTitled}
 use Rattle.sdp_cells.proofs.ByteLaws.{over-at, length-le}
 use Rattle.sdp_cells.proofs.TableLaws.{front, back, tab-count, length-front, last-view}
 use Rattle.sdp_area.proofs.SegmentLaws.{cat-view}
-use Rattle.sdp_area.proofs.WidthLaws.{length-span, length-opt, length-maybe, length-key, length-media, begins}
+use Rattle.sdp_area.proofs.WidthLaws.{length-span, length-opt, length-maybe, length-media, begins}
 use Rattle.sdp_area.proofs.WidthLaws as area
 use Rattle.sdp_area.proofs.HeadLaws.{mark-at}
 
@@ -59,13 +59,19 @@ last-given o [] x = refl
 last-given o (u ∷ []) x = refl
 last-given o (u ∷ v ∷ us) x = last-given o (v ∷ us) x
 
--- ---- a part of a media's row that may be absent: o says what it is, and it stands at byte off
-record Part {Y : Type 0} (off w : ℕ) (f : Y → List ℕ) (o : Media Span → Option Y) : Type 0 where
-  before : Media Span → List ℕ
-  behind : Media Span → List ℕ
-  row : (m : Media Span) → mediaRow m ≡ before m ++ (opt w f (o m) ++ behind m)
-  long : (m : Media Span) → length (before m) ≡ off
-  wide : (y : Y) → length (f y) ≡ w
+-- ---- the title in a media's row, what stands before it and what behind it
+abbrev before-title : Media Span → List ℕ
+before-title m = span (m .media) ++ (le 2 (m .port) ++ (opt 2 (le 2) (m .numPorts) ++ (span (m .proto) ++ span (m .fmt))))
+
+abbrev behind-title : Media Span → List ℕ
+behind-title m = opt 10 keyBytes (m .key)
+
+title-row : (m : Media Span) → mediaRow m ≡ before-title m ++ (opt 4 span (m .mediaTitle) ++ behind-title m)
+unfolding mediaRow
+title-row m = simp append-assoc
+
+title-long : (m : Media Span) → length (before-title m) ≡ 18
+title-long m = simp (length-append, length-le, length-span, length-opt 2 (le 2) (length-le 2))
 
 -- p stands before the table of medias, q behind it
 abbrev all : List ℕ → List ℕ → List (Media Span) → List ℕ
@@ -85,88 +91,52 @@ module _ (p q : List ℕ) (here : length p ≡ mediasAt) where
     there : anyMedia (all p q (us ++ (x ∷ []))) ≡ true
     there = one-there (all p q (us ++ (x ∷ []))) (length us + 1) (sym count-last) (omega arith) (omega arith)
 
-    module _ {Y : Type 0} {off w : ℕ} {f : Y → List ℕ} {o : Media Span → Option Y} (part : Part off w f o) where
-      latest-at : latestAt (all p q (us ++ (x ∷ []))) off ≡ mediasAt + (2 + (length us * 36 + length (part .before x)))
-      latest-at = rw (count-last, part .long x) (omega arith)
+    title-at : titleAt (all p q (us ++ (x ∷ []))) ≡ mediasAt + (2 + (length us * 36 + length (before-title x)))
+    title-at = rw (count-last, title-long x) (omega arith)
 
-      -- what stands before the part and what behind it
-      before : List ℕ
-      before = front mediaRow p us (part .before x)
+    -- what stands before the title and what behind it
+    before : List ℕ
+    before = front mediaRow p us (before-title x)
 
-      behind : List ℕ
-      behind = back 32 36 us q (part .behind x)
+    behind : List ℕ
+    behind = back 32 36 us q (behind-title x)
 
-      long : length before ≡ mediasAt + (2 + (length us * 36 + length (part .before x)))
-      unfolding before
-      long = length-front mediaRow 32 36 length-media p q mediasAt here us room (part .before x)
+    long : length before ≡ mediasAt + (2 + (length us * 36 + length (before-title x)))
+    unfolding before
+    long = length-front mediaRow 32 36 length-media p q mediasAt here us room (before-title x)
 
-      view : (y : Media Span) (m : List ℕ) → mediaRow y ≡ part .before x ++ (m ++ part .behind x) → all p q (us ++ (y ∷ [])) ≡ before ++ (m ++ behind)
-      unfolding before behind
-      view y m e = last-view mediaRow 32 36 length-media p q mediasAt here us room y (part .before x) m (part .behind x) e
+    view : (y : Media Span) (m : List ℕ) → mediaRow y ≡ before-title x ++ (m ++ behind-title x) → all p q (us ++ (y ∷ [])) ≡ before ++ (m ++ behind)
+    unfolding before behind
+    view y m e = last-view mediaRow 32 36 length-media p q mediasAt here us room y (before-title x) m (behind-title x) e
 
-      latest-mark : markLast (all p q (us ++ (x ∷ []))) off ≡ given (o x)
-      unfolding markLast
-      latest-mark = rw (there, latest-at, view x (opt w f (o x)) (part .row x)) (mark-at w f (o x) before behind _ long)
+    latest-mark : markTitle (all p q (us ++ (x ∷ []))) ≡ given (x .mediaTitle)
+    unfolding markTitle
+    latest-mark = rw (there, title-at, view x (opt 4 span (x .mediaTitle)) (title-row x)) (mark-at 4 span (x .mediaTitle) before behind _ long)
 
-      latest-set : (g : Media Span → Media Span) (bs : List ℕ) → mediaRow (g x) ≡ part .before x ++ (bs ++ part .behind x) → length bs ≡ 2 + w
-          → overLast (all p q (us ++ (x ∷ []))) off bs ≡ all p q (us ++ (g x ∷ []))
-      unfolding overLast
-      latest-set g bs e l =
-          rw (there, latest-at, view x (opt w f (o x)) (part .row x), view (g x) bs e)
-          (over-at before (opt w f (o x)) behind bs _ long (length-opt w f (part .wide) (o x) ∙ sym l))
+    latest-set : (t : Span) → overTitle (all p q (us ++ (x ∷ []))) (le 2 1 ++ span t) ≡ all p q (us ++ (titled t x ∷ []))
+    unfolding overTitle opt
+    latest-set t =
+        rw (there, title-at, view x (opt 4 span (x .mediaTitle)) (title-row x), view (titled t x) (le 2 1 ++ span t) (title-row (titled t x)))
+        (over-at before (opt 4 span (x .mediaTitle)) behind (le 2 1 ++ span t) _ long (length-maybe (x .mediaTitle) ∙ sym (length-maybe (some t))))
 
   -- ---- the same of any list of medias
-  module _ {Y : Type 0} {off w : ℕ} {f : Y → List ℕ} {o : Media Span → Option Y} (part : Part off w f o) where
-    any-mark : (ms : List (Media Span)) → length ms ≤ 32 → markLast (all p q ms) off ≡ lastGiven o ms
-    unfolding markLast lastGiven
-    any-mark [] within = rw no-media
-    any-mark (m ∷ ms) within =
-        let r = last-of m ms in
-        ap (λ (l : List (Media Span)). markLast (all p q l) off) (r .is)
-        ∙ latest-mark (r .before) (omega arith) (r .last) part
-        ∙ sym (ap (lastGiven o) (r .is) ∙ last-given o (r .before) (r .last))
+  any-mark : (ms : List (Media Span)) → length ms ≤ 32 → markTitle (all p q ms) ≡ lastTitled ms
+  unfolding markTitle lastGiven
+  any-mark [] within = rw no-media
+  any-mark (m ∷ ms) within =
+      let r = last-of m ms in
+      ap (λ (l : List (Media Span)). markTitle (all p q l)) (r .is)
+      ∙ latest-mark (r .before) (omega arith) (r .last)
+      ∙ sym (ap lastTitled (r .is) ∙ last-given (λ (n : Media Span). n .mediaTitle) (r .before) (r .last))
 
-    any-set : (g : Media Span → Media Span) (bs : List ℕ) → ((m : Media Span) → mediaRow (g m) ≡ part .before m ++ (bs ++ part .behind m)) → length bs ≡ 2 + w
-        → (ms : List (Media Span)) → length ms ≤ 32 → overLast (all p q ms) off bs ≡ all p q (setLast g ms)
-    unfolding overLast setLast
-    any-set g bs changed l [] within = rw no-media
-    any-set g bs changed l (m ∷ ms) within =
-        let r = last-of m ms in
-        ap (λ (l : List (Media Span)). overLast (all p q l) off bs) (r .is)
-        ∙ latest-set (r .before) (omega arith) (r .last) part g bs (changed (r .last)) l
-        ∙ ap (all p q) (sym (ap (setLast g) (r .is) ∙ set-last g (r .before) (r .last)))
-
--- ---- the title and the key
-abbrev before-title : Media Span → List ℕ
-before-title m = span (m .media) ++ (le 2 (m .port) ++ (opt 2 (le 2) (m .numPorts) ++ (span (m .proto) ++ span (m .fmt))))
-
-title-row : (m : Media Span) → mediaRow m ≡ before-title m ++ (opt 4 span (m .mediaTitle) ++ opt 10 keyBytes (m .key))
-unfolding mediaRow
-title-row m = simp append-assoc
-
-title-long : (m : Media Span) → length (before-title m) ≡ 18
-title-long m = simp (length-append, length-le, length-span, length-opt 2 (le 2) (length-le 2))
-
-abbrev title : Part 18 4 span (λ m. m .mediaTitle)
-title = record {
-  before = before-title;
-  behind = λ m. opt 10 keyBytes (m .key);
-  row = title-row;
-  long = title-long;
-  wide = length-span;
-}
-
-abbrev before-key : Media Span → List ℕ
-before-key m = before-title m ++ opt 4 span (m .mediaTitle)
-
-key-row : (m : Media Span) → mediaRow m ≡ before-key m ++ (opt 10 keyBytes (m .key) ++ [])
-key-row m = title-row m ∙ simp (append-assoc, append-nil)
-
-key-long : (m : Media Span) → length (before-key m) ≡ 24
-key-long m = simp (length-append (before-title m), title-long, length-maybe)
-
-abbrev media-key : Part 24 10 keyBytes (λ m. m .key)
-media-key = record { before = before-key; behind = λ m. []; row = key-row; long = key-long; wide = length-key }
+  any-set : (t : Span) (ms : List (Media Span)) → length ms ≤ 32 → overTitle (all p q ms) (le 2 1 ++ span t) ≡ all p q (setLast (titled t) ms)
+  unfolding overTitle setLast
+  any-set t [] within = rw no-media
+  any-set t (m ∷ ms) within =
+      let r = last-of m ms in
+      ap (λ (l : List (Media Span)). overTitle (all p q l) (le 2 1 ++ span t)) (r .is)
+      ∙ latest-set (r .before) (omega arith) (r .last) t
+      ∙ ap (all p q) (sym (ap (setLast (titled t)) (r .is) ∙ set-last (titled t) (r .before) (r .last)))
 
 -- ---- of a session
 module _ (s : Session Span) (t : List ℕ) (ok : Within s) (a : List ℕ) (is : a ≡ encode s ++ t) where
@@ -174,26 +144,10 @@ module _ (s : Session Span) (t : List ℕ) (ok : Within s) (a : List ℕ) (is : 
   unfolding encode cat
   with-medias ms = cat-view (segments (withMedias s ms)) 15 (lit< tt) t
 
-  module _ {Y : Type 0} {off w : ℕ} {f : Y → List ℕ} {o : Media Span → Option Y} (part : Part off w f o) where
-    session-mark : markLast a off ≡ lastGiven o (s .tables .medias)
-    session-mark = rw (is, with-medias (s .tables .medias)) (any-mark (area.before s 15) t (begins s 15) part (s .tables .medias) (ok .medias))
+  pub title-mark : markTitle a ≡ lastTitled (s .tables .medias)
+  title-mark = rw (is, with-medias (s .tables .medias)) (any-mark (area.before s 15) t (begins s 15) (s .tables .medias) (ok .medias))
 
-    session-set : (g : Media Span → Media Span) (bs : List ℕ) → ((m : Media Span) → mediaRow (g m) ≡ part .before m ++ (bs ++ part .behind m)) → length bs ≡ 2 + w
-        → overLast a off bs ≡ encode (withLast s g) ++ t
-    session-set g bs changed l =
-        rw (is, with-medias (s .tables .medias), with-medias (setLast g (s .tables .medias)))
-        (any-set (area.before s 15) t (begins s 15) part g bs changed l (s .tables .medias) (ok .medias))
-
-  pub title-set : (x : Span) → overLast a 18 (le 2 1 ++ span x) ≡ encode (withLast s (titled x)) ++ t
-  unfolding opt
-  title-set x = session-set title (titled x) (le 2 1 ++ span x) (λ m. title-row (titled x m)) (length-maybe (some x))
-
-  pub media-key-set : (x : Key Span) → overLast a 24 (le 2 1 ++ keyBytes x) ≡ encode (withLast s (keyed x)) ++ t
-  unfolding opt
-  media-key-set x = session-set media-key (keyed x) (le 2 1 ++ keyBytes x) (λ m. key-row (keyed x m)) (length-opt 10 keyBytes length-key (some x))
-
-  pub title-mark : markLast a 18 ≡ lastTitled (s .tables .medias)
-  title-mark = session-mark title
-
-  pub media-key-mark : markLast a 24 ≡ lastKeyed (s .tables .medias)
-  media-key-mark = session-mark media-key
+  pub title-set : (x : Span) → overTitle a (le 2 1 ++ span x) ≡ encode (withLast s (titled x)) ++ t
+  title-set x =
+      rw (is, with-medias (s .tables .medias), with-medias (setLast (titled x) (s .tables .medias)))
+      (any-set (area.before s 15) t (begins s 15) x (s .tables .medias) (ok .medias))

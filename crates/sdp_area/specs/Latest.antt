@@ -1,4 +1,4 @@
--- The latest media's row: its title's mark stands at 18 of the row's 36 bytes, its key's at 24.
+-- The latest media's row: its title's mark stands at 18 of the row's 36 bytes.
 use mathlib.Core.Bool.{Bool, true, false, _&&_, cond}
 use mathlib.Core.List.{List, [], _∷_}
 use mathlib.Core.Option.{Option, none, some}
@@ -13,17 +13,17 @@ use Rattle.sdp_area.specs.Session.{Media}
 abbrev pub anyMedia : List ℕ → Bool
 anyMedia a = ltb 0 (num 2 a mediasAt) && leb (num 2 a mediasAt) mostMedias
 
--- the place of byte off of the latest row
-abbrev pub latestAt : List ℕ → ℕ → ℕ
-latestAt a off = mediasAt + (2 + ((num 2 a mediasAt - 1) * 36 + off))
+-- the place of its title's mark
+abbrev pub titleAt : List ℕ → ℕ
+titleAt a = mediasAt + (2 + ((num 2 a mediasAt - 1) * 36 + 18))
 
--- bs written over the latest row from byte off on
-unfoldable pub overLast : List ℕ → ℕ → List ℕ → List ℕ
-overLast a off bs = cond (anyMedia a) (over a (latestAt a off) bs) a
+-- bs written over its title, mark and all
+unfoldable pub overTitle : List ℕ → List ℕ → List ℕ
+overTitle a bs = cond (anyMedia a) (over a (titleAt a) bs) a
 
--- the mark at byte off of the latest row says present
-unfoldable pub markLast : List ℕ → ℕ → Bool
-markLast a off = cond (anyMedia a) (eqb (num 2 a (latestAt a off)) 1) false
+-- the mark says present
+unfoldable pub markTitle : List ℕ → Bool
+markTitle a = cond (anyMedia a) (eqb (num 2 a (titleAt a)) 1) false
 
 -- ---- the same of the session
 -- present or absent
@@ -40,7 +40,3 @@ lastGiven o (x ∷ y ∷ ys) = lastGiven o (y ∷ ys)
 -- whether the latest media has a title
 abbrev pub lastTitled : {S : Type 0} → List (Media S) → Bool
 lastTitled {S} ms = lastGiven (λ (m : Media S). m .mediaTitle) ms
-
--- and whether it has a key
-abbrev pub lastKeyed : {S : Type 0} → List (Media S) → Bool
-lastKeyed {S} ms = lastGiven (λ (m : Media S). m .key) ms

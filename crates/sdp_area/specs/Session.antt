@@ -22,7 +22,7 @@ pub record Connection (S : Type 0) : Type 0 where
   pub addrtype : S
   pub connectionAddress : S
 
--- a k line; without a colon it has no key
+-- a key, where an area kept from earlier has one: no k line is read (document 02, P4). A line without a colon had no encryption key
 pub record Key (S : Type 0) : Type 0 where
   pub method : S
   pub encryptionKey : Option S
@@ -67,7 +67,7 @@ pub record Attribute (S : Type 0) : Type 0 where
   pub attribute : S
   pub value : Option S
 
--- an m line with its i and k lines
+-- an m line with its i line, and a key as above
 pub record Media (S : Type 0) : Type 0 where
   pub media : S
   pub port : ℕ

@@ -6,7 +6,7 @@ use lib.Dec.{eqb}
 use Rattle.sdp_numbers.specs.Tables.{mostEmails, mostPhones}
 use Rattle.sdp_cells.specs.Bytes.{num, over}
 use Rattle.sdp_area.specs.Area.{descriptionAt, uriAt, emailsAt, phonesAt}
-use Rattle.sdp_area.specs.Latest.{overLast, markLast}
+use Rattle.sdp_area.specs.Latest.{overTitle, markTitle}
 use Rattle.sdp_area.specs.declared.Text.{Text}
 use Rattle.sdp_area.specs.declared.Text.the-variants.{Description, Uri, Title}
 use Rattle.sdp_area.specs.declared.Contact.{Contact}
@@ -16,13 +16,13 @@ use Rattle.sdp_area.specs.declared.Contact.the-variants.{Email, Phone}
 abbrev pub markText : Text → List ℕ → Bool
 markText Description a = eqb (num 2 a descriptionAt) 1
 markText Uri a = eqb (num 2 a uriAt) 1
-markText Title a = markLast a 18
+markText Title a = markTitle a
 
 -- bs written over the mark and the string
 abbrev pub overText : Text → List ℕ → List ℕ → List ℕ
 overText Description a bs = over a descriptionAt bs
 overText Uri a bs = over a uriAt bs
-overText Title a bs = overLast a 18 bs
+overText Title a bs = overTitle a bs
 
 -- where the table begins
 abbrev pub contactsAt : Contact → ℕ

@@ -11,12 +11,9 @@ setLast g (x ∷ []) = g x ∷ []
 setLast g (x ∷ y ∷ ys) = x ∷ setLast g (y ∷ ys)
 
 module _ {S : Type 0} where
-  -- the latest media with a title, and with a key
+  -- the latest media with a title
   abbrev pub titled : S → Media S → Media S
   titled x m = record { media = m .media; port = m .port; numPorts = m .numPorts; proto = m .proto; fmt = m .fmt; mediaTitle = some x; key = m .key }
-
-  abbrev pub keyed : Key S → Media S → Media S
-  keyed x m = record { media = m .media; port = m .port; numPorts = m .numPorts; proto = m .proto; fmt = m .fmt; mediaTitle = m .mediaTitle; key = some x }
 
 module _ {S : Type 0} (s : Session S) where
   open Head (s .head) using (origin, name, description, uri, connection, key)
@@ -40,9 +37,6 @@ module _ {S : Type 0} (s : Session S) where
 
   abbrev pub withConnection : Connection S → Session S
   withConnection x = headed origin name description uri (some x) key
-
-  abbrev pub withKey : Key S → Session S
-  withKey x = headed origin name description uri connection (some x)
 
   -- ---- the ten tables, in their order
   abbrev tabled : List S → List S → List (MediaConnection S) → List (Bandwidth S) → List Time → List Repeat → List Offset → List Zone

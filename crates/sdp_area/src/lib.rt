@@ -9,8 +9,8 @@ ghost use lib.Dec.{eqb};
 ghost use Rattle.sdp_numbers.specs.Tables.{mostMediaConnections, mostBandwidths, mostTimes, mostRepeats, mostOffsets, mostZones, mostAttributes, mostMedias};
 ghost use Rattle.sdp_cells.specs.Bytes.{le, num, over, zeros};
 ghost use Rattle.sdp_cells.specs.Tables.{pairs, grown, told};
-ghost use Rattle.sdp_area.specs.Area.{size, span, originBytes, connectionBytes, keyBytes, mediaConnectionRow, bandwidthRow, timeRow, repeatRow, offsetRow, zoneRow, attributeRow, mediaRow, originAt, nameAt, connectionAt, keyAt, phonesAt, connectionsAt, bandwidthsAt, timesAt, repeatsAt, offsetsAt, zonesAt, attributesAt, mediasAt};
-ghost use Rattle.sdp_area.specs.Latest.{overLast, markLast};
+ghost use Rattle.sdp_area.specs.Area.{size, span, originBytes, connectionBytes, mediaConnectionRow, bandwidthRow, timeRow, repeatRow, offsetRow, zoneRow, attributeRow, mediaRow, originAt, nameAt, connectionAt, phonesAt, connectionsAt, bandwidthsAt, timesAt, repeatsAt, offsetsAt, zonesAt, attributesAt, mediasAt};
+ghost use Rattle.sdp_area.specs.Latest.{overTitle, markTitle};
 ghost use Rattle.sdp_area.specs.Maybe.{maybe, maybePorts};
 ghost use Rattle.sdp_area.specs.Which.{markText, overText, contactsAt, mostContacts};
 use sdp_cells::Pushed;
@@ -92,10 +92,10 @@ pub fn clear(area: &mut [u8])
     }
 }
 
-// Numbers of two bytes each, over the latest media's row from byte off on; nothing where there is no media.
-fn put_last(area: &mut [u8], off: usize, ws: &[usize])
-    requires { ⌜ (size ≤ length (now area)) × (off + length (now ws) * 2 ≤ 36) ⌝ }
-    ensures { λ _. ⌜ now (area .exit) ≡ overLast (now (area .entry)) off (pairs (now (ws .entry))) ⌝ }
+// Numbers of two bytes each, over the latest media's title, mark and all; nothing where there is no media.
+fn put_title(area: &mut [u8], ws: &[usize])
+    requires { ⌜ (size ≤ length (now area)) × (length (now ws) * 2 ≤ 6) ⌝ }
+    ensures { λ _. ⌜ now (area .exit) ≡ overTitle (now (area .entry)) (pairs (now (ws .entry))) ⌝ }
 {
     let n = get2(area, MEDIAS);
     if n == 0 {
@@ -104,13 +104,13 @@ fn put_last(area: &mut [u8], off: usize, ws: &[usize])
     if 32 < n {
         return;
     }
-    put_words(area, MEDIAS + (2 + ((n - 1) * 36 + off)), ws);
+    put_words(area, MEDIAS + (2 + ((n - 1) * 36 + 18)), ws);
 }
 
-// Whether the mark at byte off of the latest media's row says present; false where there is no media.
-fn marked_last(area: &[u8], off: usize) -> bool
-    requires { ⌜ (size ≤ length (now area)) × (off + 2 ≤ 36) ⌝ }
-    ensures { λ r. ⌜ r ≡ markLast (now (area .entry)) off ⌝ }
+// Whether the latest media has a title; false where there is no media.
+fn has_title(area: &[u8]) -> bool
+    requires { ⌜ size ≤ length (now area) ⌝ }
+    ensures { λ r. ⌜ r ≡ markTitle (now (area .entry)) ⌝ }
 {
     let n = get2(area, MEDIAS);
     if n == 0 {
@@ -119,7 +119,7 @@ fn marked_last(area: &[u8], off: usize) -> bool
     if 32 < n {
         return false;
     }
-    marked(area, MEDIAS + (2 + ((n - 1) * 36 + off)))
+    marked(area, MEDIAS + (2 + ((n - 1) * 36 + 18)))
 }
 
 // 1 for present, 0 for absent.
@@ -394,7 +394,7 @@ pub fn set_text(area: &mut [u8], which: Text, x: Span)
     match which {
         Text::Description => put_words(area, DESCRIPTION, &row),
         Text::Uri => put_words(area, URI, &row),
-        Text::Title => put_last(area, 18, &row),
+        Text::Title => put_title(area, &row),
     }
 }
 
@@ -415,38 +415,6 @@ pub fn set_connection(area: &mut [u8], nettype: Span, addrtype: Span, address: S
     put_words(area, CONNECTION, &row);
 }
 
-// The k line of the session.
-pub fn set_key(area: &mut [u8], method: Span, key: MaybeSpan)
-    requires { ⌜ size ≤ length (now area) ⌝ }
-    ensures { λ _. ⌜ now (area .exit) ≡ over (now (area .entry)) keyAt (le 2 1 ++ keyBytes (record { method = method; encryptionKey = maybe key })) ⌝ }
-{
-    let row = [
-        1,
-        method.at.0,
-        method.len,
-        mark(key.there),
-        place_of(key),
-        len_of(key),
-    ];
-    put_words(area, KEY, &row);
-}
-
-// The k line of the latest media.
-pub fn set_media_key(area: &mut [u8], method: Span, key: MaybeSpan)
-    requires { ⌜ size ≤ length (now area) ⌝ }
-    ensures { λ _. ⌜ now (area .exit) ≡ overLast (now (area .entry)) 24 (le 2 1 ++ keyBytes (record { method = method; encryptionKey = maybe key })) ⌝ }
-{
-    let row = [
-        1,
-        method.at.0,
-        method.len,
-        mark(key.there),
-        place_of(key),
-        len_of(key),
-    ];
-    put_last(area, 24, &row);
-}
-
 // Whether there was an o line.
 pub fn has_origin(area: &[u8]) -> bool
     requires { ⌜ size ≤ length (now area) ⌝ }
@@ -463,7 +431,7 @@ pub fn has_text(area: &[u8], which: Text) -> bool
     match which {
         Text::Description => marked(area, DESCRIPTION),
         Text::Uri => marked(area, URI),
-        Text::Title => marked_last(area, 18),
+        Text::Title => has_title(area),
     }
 }
 
@@ -473,22 +441,6 @@ pub fn has_connection(area: &[u8]) -> bool
     ensures { λ r. ⌜ r ≡ eqb (num 2 (now (area .entry)) connectionAt) 1 ⌝ }
 {
     marked(area, CONNECTION)
-}
-
-// Whether there was a k line of the session.
-pub fn has_key(area: &[u8]) -> bool
-    requires { ⌜ size ≤ length (now area) ⌝ }
-    ensures { λ r. ⌜ r ≡ eqb (num 2 (now (area .entry)) keyAt) 1 ⌝ }
-{
-    marked(area, KEY)
-}
-
-// Whether the latest media has a key.
-pub fn has_media_key(area: &[u8]) -> bool
-    requires { ⌜ size ≤ length (now area) ⌝ }
-    ensures { λ r. ⌜ r ≡ markLast (now (area .entry)) 24 ⌝ }
-{
-    marked_last(area, 24)
 }
 
 // How many times there are.

@@ -10,6 +10,7 @@ use lib.Dec.{ltb}
 use Rattle.sdp_lines.specs.Strings.{bytesOf}
 use Rattle.sdp_lines.specs.declared.Span.{Span}
 use Rattle.sdp_area.specs.Session.{MediaConnection, Bandwidth, Attribute, Session}
+use Rattle.sdp_area.specs.Area.{size}
 use Rattle.sdp_strings.specs.Strings.{spanAt}
 use Rattle.sdp_read.specs.Run.{Verdict, accepted, refused, lines, readText}
 use Rattle.sdp_row.specs.Written.{written}
@@ -20,12 +21,14 @@ use Rattle.sdp_same.specs.Said.{saidMediaConnection, saidBandwidth, saidAttribu
 use Rattle.sdp_same.specs.Sound.{FineIn, Rising, Sound}
 use Rattle.sdp_same.proofs.LinesLaws.{accepted-said, refused-said}
 use Rattle.sdp_same.proofs.SoundLaws.{read-sound}
-use Rattle.sdp_same.proofs.SameLaws.{read-is, read-fits, read-then-write}
+use Rattle.sdp_same.proofs.SameLaws.{read-is, read-fits, write-is, read-then-write}
 use Rattle.sdp_same.proofs.WrittenLaws.{written-said}
 use Rattle.sdp_back.specs.Again.{again}
 use Rattle.sdp_back.specs.Back.{SaidAgain, ReadBack}
+use Rattle.sdp_back.specs.Keys.{withoutKeys, KeptFrom, KeysLeftOut, KeptBack}
 use Rattle.sdp_back.proofs.PlainLaws.{read-plain}
 use Rattle.sdp_back.proofs.WholeLaws.{Ordered, written-back}
+use Rattle.sdp_back.proofs.KeyLaws.{kept-written}
 
 -- ---- counts, numbers and owners of what is said
 rising-map : {X Y : Type 0} (h : X → Y) (owner : Y → ℕ) (most lo : ℕ) (xs : List X) → Rising (λ x. owner (h x)) most lo xs → Rising owner most lo (map h xs)
@@ -110,3 +113,20 @@ read-back t a o b h k l m =
       readAgain = read-is w b l m _ x;
       same = y;
     })
+
+-- document 02, P4: "written without their keys, and demand 3's reading back leaves those keys out"
+pub kept-back : (t a : List ℕ) (k : KeptFrom t a) (c o b : List ℕ) → KeptBack t a k c o b
+kept-back t a k c o b short full = (kept-written t a k short o ∙ sym today, left-out)
+  where
+    s : Session Span
+    s = withoutKeys (k .session)
+
+    today : writeText t (readText t c .area) o ≡ fill (written (bytesOf t) s) o
+    today = ap (λ r. writeText t (r .area) o) (read-is t c short full (accepted s) (k .today)) ∙ write-is t short s (read-sound t s (k .today)) (drop size c) o
+
+    left-out : writeText t a o .answer .number ≡ 0 → length (wrote (writeText t a o)) ≤ 32768 → size ≤ length b → KeysLeftOut t (k .session) (wrote (writeText t a o)) b
+    left-out n l m =
+        let w : List ℕ = wrote (writeText t a o) in
+        let e : w ≡ written (bytesOf t) s = ap wrote (kept-written t a k short o) ∙ wrote-fill (written (bytesOf t) s) o (rw (kept-written t a k short o) at n) in
+        let q : lines bytesAt w ≡ accepted (again (said (bytesOf t) s)) = ap (lines bytesAt) e ∙ back t s (k .today) in
+        at-places (KeysLeftOut t (k .session) w b) w _ q (λ second x y. record { second = second; saysAgain = x; readAgain = read-is w b l m _ x; same = y })

@@ -10,4 +10,6 @@ pub mod LeadLaws
 pub mod LineLaws
 pub mod OffsetLaws
 pub mod WholeLaws
+pub mod KeyLaws
 pub mod BackLaws
+pub mod KeySamples

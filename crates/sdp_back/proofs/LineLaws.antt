@@ -11,9 +11,9 @@ use Rattle.sdp_split.specs.Split.{part}
 use Rattle.sdp_judge.specs.Read.{Read, got, refused}
 use Rattle.sdp_lists.specs.Lists.{zonesOf}
 use Rattle.sdp_lists.specs.declared.Zone as zone
-use Rattle.sdp_area.specs.Session.{Origin, Connection, Key, MediaConnection, Bandwidth, Time, Repeat, Zone, Attribute, Media, Session}
-use Rattle.sdp_area.specs.With.{withOrigin, withName, withDescription, withUri, withConnection, withKey, withEmails, withPhones, withConnections, withBandwidths, withTimes, withRepeats, withOffsets, withZones, withAttributes, withMedias, withLast, setLast, titled, keyed}
-use Rattle.sdp_area.specs.Latest.{given, lastTitled, lastKeyed}
+use Rattle.sdp_area.specs.Session.{Origin, Connection, MediaConnection, Bandwidth, Time, Repeat, Zone, Attribute, Media, Session}
+use Rattle.sdp_area.specs.With.{withOrigin, withName, withDescription, withUri, withConnection, withEmails, withPhones, withConnections, withBandwidths, withTimes, withRepeats, withOffsets, withZones, withAttributes, withMedias, withLast, setLast, titled}
+use Rattle.sdp_area.specs.Latest.{given, lastTitled}
 use Rattle.sdp_area.proofs.LatestLaws.{set-last, last-given}
 use Rattle.sdp_roles.specs.Roles as roles
 use Rattle.sdp_roles.specs.Roles.{beforeMedia, fromMedia}
@@ -22,15 +22,15 @@ use Rattle.sdp_roles.specs.declared.Role.the-variants as role
 use Rattle.sdp_step.specs.Step as steps
 use Rattle.sdp_step.specs.Step.{Reading, goes, once, row, zoneIn, zonesTaken, stepRole}
 use Rattle.sdp_row.specs.Written as form
-use Rattle.sdp_row.specs.Written.{line, stringLine, originValue, connectionLine, bandwidthLine, pairLine, keyLine, mediaLine, timeValue}
+use Rattle.sdp_row.specs.Written.{line, stringLine, originValue, connectionLine, bandwidthLine, attributeLine, mediaLine, timeValue}
 use Rattle.sdp_bound.specs.Kept.{id}
 use Rattle.sdp_same.specs.Fits.{Each, FitTime, FitZone}
 use Rattle.sdp_back.proofs.ByteLaws.{bare}
 use Rattle.sdp_back.proofs.FieldLaws.{Backs, mapRead}
 use Rattle.sdp_back.proofs.AddressLaws.{ConnectionBack, OriginBack}
-use Rattle.sdp_back.proofs.PieceLaws.{BandwidthBack, PairBack, MediaBack, mediaAlone}
+use Rattle.sdp_back.proofs.PieceLaws.{BandwidthBack, AttributeBack, MediaBack, mediaAlone}
 use Rattle.sdp_back.proofs.TimeLaws.{time-line-back, repeatValue, repeat-line-back, zonesValue, zones-line-back}
-use Rattle.sdp_back.proofs.PlainLaws.{TextBack, KeyBack}
+use Rattle.sdp_back.proofs.PlainLaws.{TextBack}
 use Rattle.sdp_back.proofs.LeadLaws.{letter, Leads, line-leads}
 
 -- ---- the shapes of a step
@@ -82,10 +82,6 @@ module _ (ρ : Reading (List ℕ)) where
     pub connection-leads : (c : Connection (List ℕ)) → ConnectionBack c → given (s .head .connection) ≡ false → Leads ρ (connectionLine id c) (to (withConnection s c))
     unfolding roles.beforeMedia steps.stepRole form.connectionLine
     connection-leads c b g = before-leads 0x63 _ role.Connection _ refl (b .bare) refl (once-steps _ _ _ _ b 16 _ g (λ c. to (withConnection s c)))
-
-    pub key-leads : (k : Key (List ℕ)) → KeyBack k → given (s .head .key) ≡ false → Leads ρ (keyLine id k) (to (withKey s k))
-    unfolding roles.beforeMedia steps.stepRole form.pairLine
-    key-leads k b g = before-leads 0x6b _ role.Key _ refl (b 25 26 .bare) refl (once-steps _ _ _ _ (b 25 26) 19 _ g (λ p. to (withKey s (record { method = p .0; encryptionKey = p .1 }))))
 
     pub email-leads : (x : List ℕ) → TextBack x → length (s .tables .emails) < 16 → Leads ρ (stringLine id 0x65 x) (to (withEmails s (s .tables .emails ++ (x ∷ []))))
     unfolding roles.beforeMedia steps.stepRole
@@ -143,12 +139,12 @@ module _ (ρ : Reading (List ℕ)) where
       (row-steps _ _ _ _ h 4 64 _ l (λ x. to (withBandwidths s (s .tables .bandwidths ++ (record { owner = length (s .tables .medias); bwtype = x .0; bandwidth = x .1 } ∷ []))))
       ∙ ap (λ n. goes (to (withBandwidths s (s .tables .bandwidths ++ (record { owner = n; bwtype = b .bwtype; bandwidth = b .bandwidth } ∷ []))))) (sym o))
 
-  pub attribute-leads : (a : Attribute (List ℕ)) → PairBack (a .attribute) (a .value) → a .owner ≡ length (s .tables .medias) → length (s .tables .attributes) < 512
-      → Leads ρ (pairLine id 0x61 (a .attribute) (a .value)) (to (withAttributes s (s .tables .attributes ++ (a ∷ []))))
-  unfolding roles.beforeMedia roles.fromMedia steps.stepRole form.pairLine
+  pub attribute-leads : (a : Attribute (List ℕ)) → AttributeBack (a .attribute) (a .value) → a .owner ≡ length (s .tables .medias) → length (s .tables .attributes) < 512
+      → Leads ρ (attributeLine id a) (to (withAttributes s (s .tables .attributes ++ (a ∷ []))))
+  unfolding roles.beforeMedia roles.fromMedia steps.stepRole form.attributeLine
   attribute-leads a h o l =
-      any-leads 0x61 _ role.Attribute _ refl (h 23 24 .bare) refl refl
-      (row-steps _ _ _ _ (h 23 24) 9 512 _ l (λ x. to (withAttributes s (s .tables .attributes ++ (record { owner = length (s .tables .medias); attribute = x .0; value = x .1 } ∷ []))))
+      any-leads 0x61 _ role.Attribute _ refl (h .bare) refl refl
+      (row-steps _ _ _ _ h 9 512 _ l (λ x. to (withAttributes s (s .tables .attributes ++ (record { owner = length (s .tables .medias); attribute = x .0; value = x .1 } ∷ []))))
       ∙ ap (λ n. goes (to (withAttributes s (s .tables .attributes ++ (record { owner = n; attribute = a .attribute; value = a .value } ∷ []))))) (sym o))
 
   pub media-leads : (m : Media (List ℕ)) → MediaBack m → length (s .tables .medias) < 32 → Leads ρ (mediaLine id m) (to (withMedias s (s .tables .medias ++ (mediaAlone m ∷ []))))
@@ -175,10 +171,3 @@ module _ (ρ : Reading (List ℕ)) where
           from-leads 0x69 _ role.MediaTitle _ refl (b 33 .bare) refl
           (once-steps _ _ _ _ (b 33) 18 _ (ap lastTitled e ∙ last-given (λ n. n .mediaTitle) ms m ∙ g) (λ x. to (withLast s (titled x)))
           ∙ ap (λ ns. goes (to (withMedias s ns))) (ap (setLast (titled x)) e ∙ set-last (titled x) ms m))
-
-      pub media-key-leads : (k : Key (List ℕ)) → KeyBack k → given (m .key) ≡ false → Leads ρ (keyLine id k) (to (withMedias s (ms ++ (keyed k m ∷ []))))
-      unfolding roles.fromMedia steps.stepRole form.pairLine
-      media-key-leads k b g =
-          from-leads 0x6b _ role.MediaKey _ refl (b 25 26 .bare) refl
-          (once-steps _ _ _ _ (b 25 26) 19 _ (ap lastKeyed e ∙ last-given (λ n. n .key) ms m ∙ g) (λ p. to (withLast s (keyed (record { method = p .0; encryptionKey = p .1 }))))
-          ∙ ap (λ ns. goes (to (withMedias s ns))) (ap (setLast (keyed k)) e ∙ set-last (keyed k) ms m))

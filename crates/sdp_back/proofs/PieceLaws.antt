@@ -1,4 +1,4 @@
--- The b, a, k and m lines: what was read of a value is written so that it is read again. Assumes nothing.
+-- The b, a and m lines: what was read of a value is written so that it is read again. Assumes nothing.
 use mathlib.Core.Path.{_≡_, refl, sym, ap, _∙_}
 use mathlib.Core.Bool.{Bool, true, false, cond, not}
 use mathlib.Core.List.{List, [], _∷_, _++_, append-assoc}
@@ -15,12 +15,12 @@ use Rattle.sdp_number.specs.declared.Number.the-variants.{Value, Encoding, Form
 use Rattle.sdp_split.specs.Split.{part, firstPiece, pieceAfter, restAfter}
 use Rattle.sdp_judge.specs.Read.{Read, got, refused, encoding, andThen}
 use Rattle.sdp_fields.specs.Records as records
-use Rattle.sdp_fields.specs.Records.{bandwidthOf, pairOf}
+use Rattle.sdp_fields.specs.Records.{bandwidthOf, attributeOf}
 use Rattle.sdp_media_line.specs.MediaLine
 use Rattle.sdp_media_line.specs.MediaLine.{portNumber, portOf, mediaOf}
 use Rattle.sdp_lists.specs.Lists.{numbered}
 use Rattle.sdp_fields.specs.declared.Bandwidth as bandwidth
-use Rattle.sdp_fields.specs.declared.Pair.{Pair}
+use Rattle.sdp_fields.specs.declared.Attribute as attribute
 use Rattle.sdp_media_line.specs.declared.Port.{Port}
 use Rattle.sdp_media_line.specs.declared.MaybeNumber.{MaybeNumber}
 use Rattle.sdp_media_line.specs.declared.Media as media
@@ -103,56 +103,56 @@ bandwidth-back v b h e =
     gives-cut _ 13 0x3a (cut 0x3a v .1) (behind-bare 0x3a v h) _ (λ s r x y z. gives-number _ 13 (wholeNumber 64 s) _ (λ n q.
     gives-unseen _ 14 (Option·map (cut 0x3a) r) _ (bandwidth-again (cut 0x3a v .0) n (front-bare 0x3a v h) (front-lacks 0x3a v) u (number-below 64 s n q))))))
 
--- ---- a and k: a name, and perhaps a value
-abbrev pub pairIs : List ℕ → Pair → List ℕ × Option (List ℕ)
-pairIs v p = (part v (p .name), maybeIn (part v) (p .value))
+-- ---- a: a name, and perhaps a value
+abbrev pub attributeIs : List ℕ → attribute.Attribute → List ℕ × Option (List ℕ)
+attributeIs v a = (part v (a .attribute), maybeIn (part v) (a .value))
 
-pairRest : ℕ → List ℕ → Option (List ℕ) → Read (List ℕ × Option (List ℕ))
-pairRest x name r = andThen (choiceIn x r) (λ value. got (name, value))
+attributeRest : List ℕ → Option (List ℕ) → Read (List ℕ × Option (List ℕ))
+attributeRest name r = andThen (choiceIn 24 r) (λ value. got (name, value))
 
-pairFrom : ℕ → ℕ → List ℕ × Option (List ℕ) → Read (List ℕ × Option (List ℕ))
-pairFrom w x c = andThen (textIn w (c .0)) (λ name. pairRest x name (c .1))
+attributeFrom : List ℕ × Option (List ℕ) → Read (List ℕ × Option (List ℕ))
+attributeFrom c = andThen (textIn 23 (c .0)) (λ name. attributeRest name (c .1))
 
-see-pair : (w x : ℕ) (v : List ℕ) → mapRead (pairIs v) (pairOf w x v) ≡ pairFrom w x (cut 0x3a v)
-unfolding pairFrom pairRest records.pairOf
-see-pair w x v =
-    see-text _ w v (behind v) (firstPiece 0x3a v) _ (see-first v 0x3a) _ (pairRest x) (λ name e q.
-    see-choice v _ x e _ (λ o. got (part v name, o)) (λ value. refl))
+see-attribute : (v : List ℕ) → mapRead (attributeIs v) (attributeOf v) ≡ attributeFrom (cut 0x3a v)
+unfolding attributeFrom attributeRest records.attributeOf
+see-attribute v =
+    see-text _ 23 v (behind v) (firstPiece 0x3a v) _ (see-first v 0x3a) _ attributeRest (λ name e q.
+    see-choice v _ 24 e _ (λ o. got (part v name, o)) (λ value. refl))
 
-abbrev pub PairBack : List ℕ → Option (List ℕ) → Type 0
-PairBack name value = (w x : ℕ) → Backs (pairOf w x) pairIs (text id name ++ optional (λ s. (0x3a ∷ []) ++ text id s) value) (name, value)
+abbrev pub AttributeBack : List ℕ → Option (List ℕ) → Type 0
+AttributeBack name value = Backs attributeOf attributeIs (text id name ++ optional (λ s. (0x3a ∷ []) ++ text id s) value) (name, value)
 
-pair-text : (value : Option (List ℕ)) → IfGiven (λ r. bare r ≡ true) value → (optional (λ s. (0x3a ∷ []) ++ text id s) value ≡ sepText 0x3a value) × (bare (sepText 0x3a value) ≡ true)
+value-text : (value : Option (List ℕ)) → IfGiven (λ r. bare r ≡ true) value → (optional (λ s. (0x3a ∷ []) ++ text id s) value ≡ sepText 0x3a value) × (bare (sepText 0x3a value) ≡ true)
 unfolding every
-pair-text none h = (refl, refl)
-pair-text (some s) h = (ap (λ (l : List ℕ). 0x3a ∷ l) (clean-bare s h), h)
+value-text none h = (refl, refl)
+value-text (some s) h = (ap (λ (l : List ℕ). 0x3a ∷ l) (clean-bare s h), h)
 
-pair-again : (name : List ℕ) (value : Option (List ℕ)) → bare name ≡ true → lacks 0x3a name ≡ true → isUtf8 name ≡ true → IfGiven (λ r. bare r ≡ true) value → IfGiven (λ r. isUtf8 r ≡ true) value → PairBack name value
-unfolding pairFrom pairRest
-pair-again name value b l u c d w x =
-    let t = pair-text value c in
+attribute-again : (name : List ℕ) (value : Option (List ℕ)) → bare name ≡ true → lacks 0x3a name ≡ true → isUtf8 name ≡ true → IfGiven (λ r. bare r ≡ true) value → IfGiven (λ r. isUtf8 r ≡ true) value → AttributeBack name value
+unfolding attributeFrom attributeRest
+attribute-again name value b l u c d =
+    let t = value-text value c in
     rw (clean-bare name b, t .0) (record {
-      says = see-pair w x _ ∙ ap (pairFrom w x) (cut-back 0x3a name value l) ∙ rw u (chosen value d);
+      says = see-attribute _ ∙ ap attributeFrom (cut-back 0x3a name value l) ∙ rw u (chosen value d);
       bare = every-append (λ b. not (dropped b)) name _ b (t .1);
     })
   where
-    chosen : (o : Option (List ℕ)) → IfGiven (λ r. isUtf8 r ≡ true) o → pairRest x name o ≡ got (name, o)
+    chosen : (o : Option (List ℕ)) → IfGiven (λ r. isUtf8 r ≡ true) o → attributeRest name o ≡ got (name, o)
     chosen none h = refl
     chosen (some s) h = rw h
 
-pub pair-back : (w x : ℕ) (v : List ℕ) (p : Pair) → bare v ≡ true → pairOf w x v ≡ got p → PairBack (part v (p .name)) (maybeIn (part v) (p .value))
-unfolding pairFrom pairRest
-pair-back w x v p h e =
-    gives-got (λ y. PairBack (y .0) (y .1)) (pairFrom w x (cut 0x3a v)) _ (sym (see-pair w x v) ∙ ap (mapRead (pairIs v)) e)
+pub attribute-back : (v : List ℕ) (a : attribute.Attribute) → bare v ≡ true → attributeOf v ≡ got a → AttributeBack (part v (a .attribute)) (maybeIn (part v) (a .value))
+unfolding attributeFrom attributeRest
+attribute-back v a h e =
+    gives-got (λ y. AttributeBack (y .0) (y .1)) (attributeFrom (cut 0x3a v)) _ (sym (see-attribute v) ∙ ap (mapRead (attributeIs v)) e)
     (gives-test _ isUtf8 _ (cut 0x3a v .0) _ (λ u.
-    gives-then _ (λ o. IfGiven (λ r. bare r ≡ true) o × IfGiven (λ r. isUtf8 r ≡ true) o) (choiceIn x (cut 0x3a v .1)) _ (choose (cut 0x3a v .1) (behind-bare 0x3a v h)) (λ o q.
-    pair-again (cut 0x3a v .0) o (front-bare 0x3a v h) (front-lacks 0x3a v) u (q .0) (q .1))))
+    gives-then _ (λ o. IfGiven (λ r. bare r ≡ true) o × IfGiven (λ r. isUtf8 r ≡ true) o) (choiceIn 24 (cut 0x3a v .1)) _ (choose (cut 0x3a v .1) (behind-bare 0x3a v h)) (λ o q.
+    attribute-again (cut 0x3a v .0) o (front-bare 0x3a v h) (front-lacks 0x3a v) u (q .0) (q .1))))
   where
-    choose : (o : Option (List ℕ)) → IfGiven (λ r. bare r ≡ true) o → Gives (λ o. IfGiven (λ r. bare r ≡ true) o × IfGiven (λ r. isUtf8 r ≡ true) o) (choiceIn x o)
+    choose : (o : Option (List ℕ)) → IfGiven (λ r. bare r ≡ true) o → Gives (λ o. IfGiven (λ r. bare r ≡ true) o × IfGiven (λ r. isUtf8 r ≡ true) o) (choiceIn 24 o)
     choose none b = (tt, tt)
     choose (some s) b = go (isUtf8 s) refl
       where
-        go : (t : Bool) → isUtf8 s ≡ t → Gives (λ o. IfGiven (λ r. bare r ≡ true) o × IfGiven (λ r. isUtf8 r ≡ true) o) (mapRead some (cond t (got s) (refused (encoding x))))
+        go : (t : Bool) → isUtf8 s ≡ t → Gives (λ o. IfGiven (λ r. bare r ≡ true) o × IfGiven (λ r. isUtf8 r ≡ true) o) (mapRead some (cond t (got s) (refused (encoding 24))))
         go true q = (b, q)
         go false q = tt
 
@@ -248,7 +248,7 @@ see-media v =
     see-text _ 31 v (behind v) (pieceAfter 0x20 v e) _ (see-after v 0x20 e) _ _ (λ proto e q.
     see-text _ 32 v (λ i. tt) (restAfter v e) _ (see-rest v e) _ _ (λ fmt e q. refl))))
 
--- the m line of a media, without its title and key
+-- the m line of a media, without its title
 abbrev pub mediaAlone : Media (List ℕ) → Media (List ℕ)
 mediaAlone m = record { media = m .media; port = m .port; numPorts = m .numPorts; proto = m .proto; fmt = m .fmt; mediaTitle = none; key = none }
 

@@ -2,6 +2,7 @@
 use mathlib.Core.Path.{_≡_, refl, sym, subst}
 use mathlib.Core.Bool.{Bool, true, false, cond, not, _&&_, _||_}
 use mathlib.Core.List.{List, [], _∷_}
+use mathlib.Core.Option.{none}
 use Prim.Native.Nat.{ℕ, _+_, _-_}
 use native.Mathlib.Omega.{arith}
 use lib.ListN.{length, getD, take, drop}
@@ -14,17 +15,17 @@ use Rattle.sdp_lines.specs.declared.Form.the-variants.{Blank, Good, Bad}
 use Rattle.sdp_lines.specs.declared.Fault.the-variants.{NulOrCr}
 use Rattle.sdp_split.specs.Split.{part}
 use Rattle.sdp_judge.specs.Read.{Read, got, refused, wholeOf}
-use Rattle.sdp_fields.specs.Records.{originOf, connectionOf, bandwidthOf, timesOf, pairOf}
+use Rattle.sdp_fields.specs.Records.{originOf, connectionOf, bandwidthOf, timesOf, attributeOf}
 use Rattle.sdp_media_line.specs.MediaLine.{mediaOf}
 use Rattle.sdp_lists.specs.Lists.{RepeatLine, repeatOf, zonesOf}
-use Rattle.sdp_area.specs.Session.{Key, MediaConnection, Bandwidth, Time, Repeat, Offset, Zone, Attribute, Media, Head, Tables, Session, empty}
-use Rattle.sdp_area.specs.With.{withTimes, withRepeats, withOffsets, withZones, withMedias, titled, keyed, withLast}
-use Rattle.sdp_area.specs.Latest.{given, lastTitled, lastKeyed}
+use Rattle.sdp_area.specs.Session.{MediaConnection, Bandwidth, Time, Repeat, Offset, Zone, Attribute, Media, Head, Tables, Session, empty}
+use Rattle.sdp_area.specs.With.{withTimes, withRepeats, withOffsets, withZones, withMedias, titled, withLast}
+use Rattle.sdp_area.specs.Latest.{given, lastTitled}
 use Rattle.sdp_roles.specs.Roles.{roleAt}
 use Rattle.sdp_roles.specs.declared.Role.{Role}
 use Rattle.sdp_roles.specs.declared.Role.the-variants as role
 use Rattle.sdp_step.specs.Step as steps
-use Rattle.sdp_step.specs.Step.{Reading, Stepped, goes, stops, keyIn, repeated, stepRole, fresh}
+use Rattle.sdp_step.specs.Step.{Reading, Stepped, goes, stops, repeated, stepRole, fresh}
 use Rattle.sdp_read.specs.Run as reader
 use Rattle.sdp_read.specs.Run.{Verdict, accepted, refused, noVersion, badVersion, isZero, after, stepForm, run, beginForm, begin, lines}
 use Rattle.sdp_put.specs.Strings.{dropped, clean}
@@ -35,21 +36,18 @@ use Rattle.sdp_bound.proofs.StepLaws.{Going, on, off, past-cond, past-once, pas
 use Rattle.sdp_back.proofs.ByteLaws.{every, every-take, every-drop, lacks, bare}
 use Rattle.sdp_back.proofs.FieldLaws.{Backs}
 use Rattle.sdp_back.proofs.AddressLaws.{whole-back, ConnectionBack, connection-back, OriginBack, origin-back}
-use Rattle.sdp_back.proofs.PieceLaws.{BandwidthBack, bandwidth-back, PairBack, pair-back, MediaBack, media-back}
+use Rattle.sdp_back.proofs.PieceLaws.{BandwidthBack, bandwidth-back, AttributeBack, attribute-back, MediaBack, media-back}
 
 -- ---- what reads back
 -- one string
 abbrev pub TextBack : List ℕ → Type 0
 TextBack x = (w : ℕ) → Backs (wholeOf w) part (clean x) x
 
-abbrev pub KeyBack : Key (List ℕ) → Type 0
-KeyBack k = PairBack (k .method) (k .encryptionKey)
-
--- a media with its title and key
+-- a media with its title; no reader keeps a key
 pub record MediaPlain (m : Media (List ℕ)) : Type 0 where
   pub line : MediaBack m
   pub title : IfGiven TextBack (m .mediaTitle)
-  pub key : IfGiven KeyBack (m .key)
+  pub key : m .key ≡ none
 
 pub record PlainHead (h : Head (List ℕ)) : Type 0 where
   pub origin : IfGiven OriginBack (h .origin)
@@ -57,7 +55,7 @@ pub record PlainHead (h : Head (List ℕ)) : Type 0 where
   pub description : IfGiven TextBack (h .description)
   pub uri : IfGiven TextBack (h .uri)
   pub connection : IfGiven ConnectionBack (h .connection)
-  pub key : IfGiven KeyBack (h .key)
+  pub key : h .key ≡ none
 
 -- the tables with strings
 pub record PlainTables (t : Tables (List ℕ)) : Type 0 where
@@ -65,7 +63,7 @@ pub record PlainTables (t : Tables (List ℕ)) : Type 0 where
   pub phones : Each TextBack (t .phones)
   pub connections : Each (λ c. ConnectionBack (c .connection)) (t .connections)
   pub bandwidths : Each (λ b. BandwidthBack (b .bwtype) (b .bandwidth)) (t .bandwidths)
-  pub attributes : Each (λ a. PairBack (a .attribute) (a .value)) (t .attributes)
+  pub attributes : Each (λ a. AttributeBack (a .attribute) (a .value)) (t .attributes)
   pub medias : Each MediaPlain (t .medias)
 
 pub record Plain (s : Session (List ℕ)) : Type 0 where
@@ -124,9 +122,6 @@ module _ (ρ : Reading (List ℕ)) (v : List ℕ) (b : bare v ≡ true) (h : Pla
   step-plain role.Connection =
       past-once Kept 16 (given (ρ .session .head .connection)) (connectionOf v) _ (λ c q.
       head-goes _ (record { origin = H .origin; name = H .name; description = H .description; uri = H .uri; connection = connection-back v c b q; key = H .key }))
-  step-plain role.Key =
-      past-once Kept 19 (given (ρ .session .head .key)) (pairOf 25 26 v) _ (λ p q.
-      head-goes _ (record { origin = H .origin; name = H .name; description = H .description; uri = H .uri; connection = H .connection; key = pair-back 25 26 v p b q }))
   step-plain role.Zone =
       past-once Kept 17 (ρ .zoned) (zonesOf v) _ (λ zs q. past-cond Kept (leb (length zs) 64) _ _ (on Kept _ (times-plain _ _ _ _)) (off Kept _ _))
   step-plain role.Email =
@@ -142,18 +137,15 @@ module _ (ρ : Reading (List ℕ)) (v : List ℕ) (b : bare v ≡ true) (h : Pla
       past-row Kept 4 64 _ (bandwidthOf v) _ (λ x q.
       tables-kept _ (record { emails = T .emails; phones = T .phones; connections = T .connections; bandwidths = each-append (λ (b : Bandwidth (List ℕ)). BandwidthBack (b .bwtype) (b .bandwidth)) (ρ .session .tables .bandwidths) _ (T .bandwidths) (bandwidth-back v x b q, tt); attributes = T .attributes; medias = T .medias }))
   step-plain role.Attribute =
-      past-row Kept 9 512 _ (pairOf 23 24 v) _ (λ p q.
-      tables-kept _ (record { emails = T .emails; phones = T .phones; connections = T .connections; bandwidths = T .bandwidths; attributes = each-append (λ (a : Attribute (List ℕ)). PairBack (a .attribute) (a .value)) (ρ .session .tables .attributes) _ (T .attributes) (pair-back 23 24 v p b q, tt); medias = T .medias }))
+      past-row Kept 9 512 _ (attributeOf v) _ (λ x q.
+      tables-kept _ (record { emails = T .emails; phones = T .phones; connections = T .connections; bandwidths = T .bandwidths; attributes = each-append (λ (a : Attribute (List ℕ)). AttributeBack (a .attribute) (a .value)) (ρ .session .tables .attributes) _ (T .attributes) (attribute-back v x b q, tt); medias = T .medias }))
   step-plain role.Time = past-row Kept 5 32 _ (timesOf v) _ (λ t q. times-plain _ _ _ _)
   step-plain role.Repeat = past-cond Kept (eqb (length (ρ .session .tables .times)) 0) _ _ (off Kept _ _) (repeat-plain (repeatOf v))
   step-plain role.Media =
-      past-row Kept 10 32 _ (mediaOf v) _ (λ m q. medias-plain _ (each-append MediaPlain (ρ .session .tables .medias) _ (T .medias) (record { line = media-back v m b q; title = tt; key = tt }, tt)))
+      past-row Kept 10 32 _ (mediaOf v) _ (λ m q. medias-plain _ (each-append MediaPlain (ρ .session .tables .medias) _ (T .medias) (record { line = media-back v m b q; title = tt; key = refl }, tt)))
   step-plain role.MediaTitle =
       past-once Kept 18 (lastTitled (ρ .session .tables .medias)) (wholeOf 33 v) _ (λ p q.
       last-goes (titled (part v p)) (λ m g. record { line = g .line; title = λ w. whole-back 33 w v p b q; key = g .key }))
-  step-plain role.MediaKey =
-      past-once Kept 19 (lastKeyed (ρ .session .tables .medias)) (pairOf 25 26 v) _ (λ p q.
-      last-goes (keyed (keyIn (part v) p)) (λ m g. record { line = g .line; title = g .title; key = pair-back 25 26 v p b q }))
   step-plain role.Nothing = on Kept ρ h
 
 -- ---- the lines of a text
@@ -218,7 +210,7 @@ run-plain (r ∷ rs) b ρ n p h =
 
 empty-plain : Plain empty
 empty-plain = record {
-  head = record { origin = tt; name = tt; description = tt; uri = tt; connection = tt; key = tt };
+  head = record { origin = tt; name = tt; description = tt; uri = tt; connection = tt; key = refl };
   tables = record { emails = tt; phones = tt; connections = tt; bandwidths = tt; attributes = tt; medias = tt };
 }
 

@@ -1,5 +1,5 @@
 -- The lines of a written session, read from the first to the last, lead to the session. Assumes nothing.
-use mathlib.Core.Path.{_≡_, refl, sym, _∙_}
+use mathlib.Core.Path.{_≡_, refl, sym, subst, _∙_}
 use mathlib.Core.Bool.{Bool, true, false}
 use mathlib.Core.List.{List, [], _∷_, _++_, append-nil, append-assoc}
 use mathlib.Core.Option.{Option, none, some}
@@ -11,7 +11,7 @@ use Rattle.sdp_utf8.specs.Utf8 as utf8
 use Rattle.sdp_judge.specs.Read as field-read
 use Rattle.sdp_lines.specs.Lines as cutter
 use Rattle.sdp_lines.specs.Lines.{split}
-use Rattle.sdp_area.specs.Session.{Origin, Connection, Key, MediaConnection, Bandwidth, Time, Repeat, Offset, Zone, Attribute, Media, Head, Tables, Session, Within}
+use Rattle.sdp_area.specs.Session.{Origin, Connection, MediaConnection, Bandwidth, Time, Repeat, Offset, Zone, Attribute, Media, Head, Tables, Session, Within}
 use Rattle.sdp_step.specs.Step.{Reading, fresh}
 use Rattle.sdp_read.specs.Run as reader
 use Rattle.sdp_read.specs.Run.{accepted, run, lines}
@@ -20,7 +20,7 @@ use Rattle.sdp_put.specs.Strings as strings
 use Rattle.sdp_decode.specs.Rows as rows
 use Rattle.sdp_decode.specs.Rows.{each, mine}
 use Rattle.sdp_row.specs.Written as form
-use Rattle.sdp_row.specs.Written.{line, optional, stringLine, originLine, nameLine, bandwidthLine, connectionLine, pairLine, mediaLines, repeatLine, timeLines, timesLines, zonesLine, headLines, contactLines, closingLines, written}
+use Rattle.sdp_row.specs.Written.{line, optional, stringLine, originLine, nameLine, bandwidthLine, connectionLine, attributeLine, mediaLines, repeatLine, timeLines, timesLines, zonesLine, headLines, contactLines, closingLines, written}
 use Rattle.sdp_bound.specs.Kept.{id}
 use Rattle.sdp_same.specs.Fits.{IfGiven, Each, FitTime, FitRepeat, FitOffset, FitZone}
 use Rattle.sdp_same.specs.Sound.{Rising}
@@ -28,10 +28,10 @@ use Rattle.sdp_same.specs.Said.{bytesAt}
 use Rattle.sdp_back.specs.Again.{placeholder, originAgain, nameAgain, timesAgain, again}
 use Rattle.sdp_back.proofs.ByteLaws.{every}
 use Rattle.sdp_back.proofs.AddressLaws.{OriginBack, ConnectionBack, placeholder-back}
-use Rattle.sdp_back.proofs.PieceLaws.{BandwidthBack, PairBack, mediaAlone}
-use Rattle.sdp_back.proofs.PlainLaws.{TextBack, KeyBack, MediaPlain, Plain}
+use Rattle.sdp_back.proofs.PieceLaws.{BandwidthBack, AttributeBack, mediaAlone}
+use Rattle.sdp_back.proofs.PlainLaws.{TextBack, MediaPlain, Plain}
 use Rattle.sdp_back.proofs.LeadLaws.{Leads, stay, _then_, begin-leads, optional-leads, rows-lead, below, below-none, below-all, owned-lead}
-use Rattle.sdp_back.proofs.LineLaws.{origin-leads, name-leads, description-leads, uri-leads, connection-leads, key-leads, email-leads, phone-leads, time-leads, repeat-leads, zones-lead, bandwidth-leads, attribute-leads, media-leads, media-connection-leads, title-leads, media-key-leads}
+use Rattle.sdp_back.proofs.LineLaws.{origin-leads, name-leads, description-leads, uri-leads, connection-leads, email-leads, phone-leads, time-leads, repeat-leads, zones-lead, bandwidth-leads, attribute-leads, media-leads, media-connection-leads, title-leads}
 use Rattle.sdp_back.proofs.OffsetLaws.{ownerOf, values, repeat-text, values-small, values-next, values-fit}
 
 -- ---- what is asked of a session besides its strings: counts, numbers and owners
@@ -76,8 +76,8 @@ module _ (s : Session (List ℕ)) (plain : Plain s) (ordered : Ordered s) where
   attrs n = below (λ (a : Attribute (List ℕ)). a .owner) n (T .attributes)
 
   -- ---- v, o, s, i, u
-  abbrev heads : Option (List ℕ) → Option (List ℕ) → Option (Connection (List ℕ)) → Option (Key (List ℕ)) → Head (List ℕ)
-  heads d u c k = record { origin = some (originAgain (s .head .origin)); name = some (nameAgain (s .head .name)); description = d; uri = u; connection = c; key = k }
+  abbrev heads : Option (List ℕ) → Option (List ℕ) → Option (Connection (List ℕ)) → Head (List ℕ)
+  heads d u c = record { origin = some (originAgain (s .head .origin)); name = some (nameAgain (s .head .name)); description = d; uri = u; connection = c; key = none }
 
   abbrev bareTables : Tables (List ℕ)
   bareTables = fresh {S = List ℕ} .session .tables
@@ -94,7 +94,7 @@ module _ (s : Session (List ℕ)) (plain : Plain s) (ordered : Ordered s) where
   name-part none h x = name-leads _ refl [] (λ w. record { says = refl; bare = refl }) refl
   name-part (some n) h x = name-leads _ refl n h refl
 
-  head-part : (rest : List ℕ) (r : Session (List ℕ)) → ((n p : ℕ) → run bytesAt (at (heads (s .head .description) (s .head .uri) none none) bareTables false) n p (split rest) ≡ accepted r)
+  head-part : (rest : List ℕ) (r : Session (List ℕ)) → ((n p : ℕ) → run bytesAt (at (heads (s .head .description) (s .head .uri) none) bareTables false) n p (split rest) ≡ accepted r)
       → lines bytesAt (headLines id (s .head) ++ rest) ≡ accepted r
   unfolding form.headLines
   head-part rest r h =
@@ -102,15 +102,15 @@ module _ (s : Session (List ℕ)) (plain : Plain s) (ordered : Ordered s) where
       (begin-leads _ r
       ((origin-part (s .head .origin) (plain .head .origin)
       then name-part (s .head .name) (plain .head .name) (originAgain (s .head .origin))
-      then optional-leads TextBack _ (λ d. at (heads d none none none) bareTables false) (λ x b. description-leads _ refl x b refl) (s .head .description) (plain .head .description)
-      then optional-leads TextBack _ (λ u. at (heads (s .head .description) u none none) bareTables false) (λ x b. uri-leads _ refl x b refl) (s .head .uri) (plain .head .uri)) .read rest r h))
+      then optional-leads TextBack _ (λ d. at (heads d none none) bareTables false) (λ x b. description-leads _ refl x b refl) (s .head .description) (plain .head .description)
+      then optional-leads TextBack _ (λ u. at (heads (s .head .description) u none) bareTables false) (λ x b. uri-leads _ refl x b refl) (s .head .uri) (plain .head .uri)) .read rest r h))
 
   -- ---- e, p, c, b
   abbrev contacts : List (List ℕ) → List (List ℕ) → List (Bandwidth (List ℕ)) → List Time → List Repeat → List Offset → Tables (List ℕ)
   contacts es ps bs ts rs os = record { emails = es; phones = ps; connections = []; bandwidths = bs; times = ts; repeats = rs; offsets = os; zones = []; attributes = []; medias = [] }
 
   abbrev beforeTimes : List Time → List Repeat → List Offset → Reading (List ℕ)
-  beforeTimes ts rs os = at (heads (s .head .description) (s .head .uri) (s .head .connection) none) (contacts (T .emails) (T .phones) (bands 1) ts rs os) false
+  beforeTimes ts rs os = at (heads (s .head .description) (s .head .uri) (s .head .connection)) (contacts (T .emails) (T .phones) (bands 1) ts rs os) false
 
   -- ---- each t with its r lines
   -- the r lines of the latest of the times ts
@@ -160,46 +160,45 @@ module _ (s : Session (List ℕ)) (plain : Plain s) (ordered : Ordered s) where
       rw (times-text (T .times) (ordered .ownedRepeats)) (rw (r₀, o₀, r₁, o₁) at (rows-lead FitTime 32 (timeLines (T .repeats) (T .offsets)) timesState time-part TA (f .0) (f .1)))
 
   -- ---- e, p, c, b, t
-  contact-part : Leads (at (heads (s .head .description) (s .head .uri) none none) bareTables false) (contactLines id s) (beforeTimes TA (T .repeats) (T .offsets))
+  contact-part : Leads (at (heads (s .head .description) (s .head .uri) none) bareTables false) (contactLines id s) (beforeTimes TA (T .repeats) (T .offsets))
   unfolding form.contactLines
   contact-part =
       let D : Option (List ℕ) = s .head .description in
       let U : Option (List ℕ) = s .head .uri in
       let b₀ : bands 0 ≡ [] = below-none (λ (b : Bandwidth (List ℕ)). b .owner) 0 _ 0 (T .bandwidths) (ordered .ownedBandwidths) (omega arith) in
-      rows-lead TextBack 16 (λ k x. stringLine id 0x65 x) (λ es. at (heads D U none none) (contacts es [] [] [] [] []) false) (λ es x b l. email-leads _ refl x b l) (T .emails) (plain .tables .emails) (ordered .within .emails)
-      then rows-lead TextBack 16 (λ k x. stringLine id 0x70 x) (λ ps. at (heads D U none none) (contacts (T .emails) ps [] [] [] []) false) (λ ps x b l. phone-leads _ refl x b l) (T .phones) (plain .tables .phones) (ordered .within .phones)
-      then optional-leads ConnectionBack _ (λ c. at (heads D U c none) (contacts (T .emails) (T .phones) [] [] [] []) false) (λ c b. connection-leads _ refl c b refl) (s .head .connection) (plain .head .connection)
-      then (rw b₀ at (owned-lead (λ (b : Bandwidth (List ℕ)). b .owner) (λ b. BandwidthBack (b .bwtype) (b .bandwidth)) 64 0 (λ k b. bandwidthLine id b) (λ bs. at (heads D U (s .head .connection) none) (contacts (T .emails) (T .phones) bs [] [] []) false) (λ bs x b o l. bandwidth-leads _ x b o l) (T .bandwidths) _ 0 (ordered .ownedBandwidths) (plain .tables .bandwidths) (ordered .within .bandwidths)))
+      rows-lead TextBack 16 (λ k x. stringLine id 0x65 x) (λ es. at (heads D U none) (contacts es [] [] [] [] []) false) (λ es x b l. email-leads _ refl x b l) (T .emails) (plain .tables .emails) (ordered .within .emails)
+      then rows-lead TextBack 16 (λ k x. stringLine id 0x70 x) (λ ps. at (heads D U none) (contacts (T .emails) ps [] [] [] []) false) (λ ps x b l. phone-leads _ refl x b l) (T .phones) (plain .tables .phones) (ordered .within .phones)
+      then optional-leads ConnectionBack _ (λ c. at (heads D U c) (contacts (T .emails) (T .phones) [] [] [] []) false) (λ c b. connection-leads _ refl c b refl) (s .head .connection) (plain .head .connection)
+      then (rw b₀ at (owned-lead (λ (b : Bandwidth (List ℕ)). b .owner) (λ b. BandwidthBack (b .bwtype) (b .bandwidth)) 64 0 (λ k b. bandwidthLine id b) (λ bs. at (heads D U (s .head .connection)) (contacts (T .emails) (T .phones) bs [] [] []) false) (λ bs x b o l. bandwidth-leads _ x b o l) (T .bandwidths) _ 0 (ordered .ownedBandwidths) (plain .tables .bandwidths) (ordered .within .bandwidths)))
       then times-part
 
-  -- ---- z, k, a
-  abbrev closing : List Zone → Option (Key (List ℕ)) → List (Attribute (List ℕ)) → Bool → Reading (List ℕ)
-  closing zs k xs z =
-      at (heads (s .head .description) (s .head .uri) (s .head .connection) k) (record { emails = T .emails; phones = T .phones; connections = []; bandwidths = bands 1; times = TA; repeats = T .repeats; offsets = T .offsets; zones = zs; attributes = xs; medias = [] }) z
+  -- ---- z, a
+  abbrev closing : List Zone → List (Attribute (List ℕ)) → Bool → Reading (List ℕ)
+  closing zs xs z =
+      at (heads (s .head .description) (s .head .uri) (s .head .connection)) (record { emails = T .emails; phones = T .phones; connections = []; bandwidths = bands 1; times = TA; repeats = T .repeats; offsets = T .offsets; zones = zs; attributes = xs; medias = [] }) z
 
-  zones-part : (zs : List Zone) → Each FitZone zs → length zs ≤ 64 → Leads (closing [] none [] false) (zonesLine zs) (closing zs none [] (anyZone zs))
+  zones-part : (zs : List Zone) → Each FitZone zs → length zs ≤ 64 → Leads (closing [] [] false) (zonesLine zs) (closing zs [] (anyZone zs))
   unfolding form.zonesLine
   zones-part [] h l = stay
   zones-part (z ∷ zs) h l = zones-lead _ refl z zs h l refl
 
-  closing-part : Leads (beforeTimes TA (T .repeats) (T .offsets)) (closingLines id s) (closing (T .zones) (s .head .key) (attrs 1) (anyZone (T .zones)))
+  closing-part : Leads (beforeTimes TA (T .repeats) (T .offsets)) (closingLines id s) (closing (T .zones) (attrs 1) (anyZone (T .zones)))
   unfolding form.closingLines
   closing-part =
       let a₀ : attrs 0 ≡ [] = below-none (λ (a : Attribute (List ℕ)). a .owner) 0 _ 0 (T .attributes) (ordered .ownedAttributes) (omega arith) in
       zones-part (T .zones) (ordered .zones) (ordered .within .zones)
-      then optional-leads KeyBack _ (λ k. closing (T .zones) k [] (anyZone (T .zones))) (λ k b. key-leads _ refl k b refl) (s .head .key) (plain .head .key)
-      then (rw a₀ at (owned-lead (λ (a : Attribute (List ℕ)). a .owner) (λ a. PairBack (a .attribute) (a .value)) 512 0 (λ k a. pairLine id 0x61 (a .attribute) (a .value)) (λ xs. closing (T .zones) (s .head .key) xs (anyZone (T .zones))) (λ xs a b o l. attribute-leads _ a b o l) (T .attributes) _ 0 (ordered .ownedAttributes) (plain .tables .attributes) (ordered .within .attributes)))
+      then (rw a₀ at (owned-lead (λ (a : Attribute (List ℕ)). a .owner) (λ a. AttributeBack (a .attribute) (a .value)) 512 0 (λ k a. attributeLine id a) (λ xs. closing (T .zones) xs (anyZone (T .zones))) (λ xs a b o l. attribute-leads _ a b o l) (T .attributes) _ 0 (ordered .ownedAttributes) (plain .tables .attributes) (ordered .within .attributes)))
 
   -- ---- each media
   abbrev full : List (MediaConnection (List ℕ)) → List (Bandwidth (List ℕ)) → List (Attribute (List ℕ)) → List (Media (List ℕ)) → Reading (List ℕ)
   full cs bs xs ms =
-      at (heads (s .head .description) (s .head .uri) (s .head .connection) (s .head .key)) (record { emails = T .emails; phones = T .phones; connections = cs; bandwidths = bs; times = TA; repeats = T .repeats; offsets = T .offsets; zones = T .zones; attributes = xs; medias = ms }) (anyZone (T .zones))
+      at (heads (s .head .description) (s .head .uri) (s .head .connection)) (record { emails = T .emails; phones = T .phones; connections = cs; bandwidths = bs; times = TA; repeats = T .repeats; offsets = T .offsets; zones = T .zones; attributes = xs; medias = ms }) (anyZone (T .zones))
 
   abbrev mediasState : List (Media (List ℕ)) → Reading (List ℕ)
   mediasState ms = full (conns (length ms + 1)) (bands (length ms + 1)) (attrs (length ms + 1)) ms
 
-  abbrev mediaWith : Media (List ℕ) → Option (List ℕ) → Option (Key (List ℕ)) → Media (List ℕ)
-  mediaWith m t k = record { media = m .media; port = m .port; numPorts = m .numPorts; proto = m .proto; fmt = m .fmt; mediaTitle = t; key = k }
+  abbrev mediaWith : Media (List ℕ) → Option (List ℕ) → Media (List ℕ)
+  mediaWith m t = record { media = m .media; port = m .port; numPorts = m .numPorts; proto = m .proto; fmt = m .fmt; mediaTitle = t; key = none }
 
   media-part : (ms : List (Media (List ℕ))) (m : Media (List ℕ)) → MediaPlain m → length ms < 32 → Leads (mediasState ms) (mediaLines id T (length ms + 1) m) (mediasState (ms ++ (m ∷ [])))
   unfolding form.mediaLines
@@ -207,16 +206,17 @@ module _ (s : Session (List ℕ)) (plain : Plain s) (ordered : Ordered s) where
       let n : ℕ = length ms + 1 in
       let e : (x : Media (List ℕ)) → length (ms ++ (x ∷ [])) ≡ n = λ x. length-append ms (x ∷ []) in
       let there : (x : Media (List ℕ)) → 0 < length (ms ++ (x ∷ [])) = λ x. (let q = e x in omega arith) in
-      let m₁ : Media (List ℕ) = mediaWith m (m .mediaTitle) none in
+      let m₁ : Media (List ℕ) = mediaWith m (m .mediaTitle) in
+      let same : m₁ ≡ m = λ i. record { media = m .media; port = m .port; numPorts = m .numPorts; proto = m .proto; fmt = m .fmt; mediaTitle = m .mediaTitle; key = sym (p .key) i } in
       rw (e m)
+      (subst (λ x. Leads (mediasState ms) (mediaLines id T n m) (full (conns (n + 1)) (bands (n + 1)) (attrs (n + 1)) (ms ++ (x ∷ [])))) same
       (media-leads (mediasState ms) m (p .line) l
-      then optional-leads TextBack _ (λ t. full (conns n) (bands n) (attrs n) (ms ++ (mediaWith m t none ∷ []))) (λ x b. title-leads _ (there _) ms (mediaAlone m) refl x b refl) (m .mediaTitle) (p .title)
+      then optional-leads TextBack _ (λ t. full (conns n) (bands n) (attrs n) (ms ++ (mediaWith m t ∷ []))) (λ x b. title-leads _ (there _) ms (mediaAlone m) refl x b refl) (m .mediaTitle) (p .title)
       then owned-lead (λ (c : MediaConnection (List ℕ)). c .owner) (λ c. ConnectionBack (c .connection)) 64 n (λ k c. connectionLine id (c .connection)) (λ cs. full cs (bands n) (attrs n) (ms ++ (m₁ ∷ []))) (λ cs c b o l. media-connection-leads _ (there _) c b (o ∙ sym (e m₁)) l) (T .connections) _ 1 (ordered .ownedConnections) (plain .tables .connections) (ordered .within .connections)
       then owned-lead (λ (b : Bandwidth (List ℕ)). b .owner) (λ b. BandwidthBack (b .bwtype) (b .bandwidth)) 64 n (λ k b. bandwidthLine id b) (λ bs. full (conns (n + 1)) bs (attrs n) (ms ++ (m₁ ∷ []))) (λ bs x b o l. bandwidth-leads _ x b (o ∙ sym (e m₁)) l) (T .bandwidths) _ 0 (ordered .ownedBandwidths) (plain .tables .bandwidths) (ordered .within .bandwidths)
-      then optional-leads KeyBack _ (λ k. full (conns (n + 1)) (bands (n + 1)) (attrs n) (ms ++ (mediaWith m (m .mediaTitle) k ∷ []))) (λ k b. media-key-leads _ (there _) ms m₁ refl k b refl) (m .key) (p .key)
-      then owned-lead (λ (a : Attribute (List ℕ)). a .owner) (λ a. PairBack (a .attribute) (a .value)) 512 n (λ k a. pairLine id 0x61 (a .attribute) (a .value)) (λ xs. full (conns (n + 1)) (bands (n + 1)) xs (ms ++ (m ∷ []))) (λ xs a b o l. attribute-leads _ a b (o ∙ sym (e m)) l) (T .attributes) _ 0 (ordered .ownedAttributes) (plain .tables .attributes) (ordered .within .attributes))
+      then owned-lead (λ (a : Attribute (List ℕ)). a .owner) (λ a. AttributeBack (a .attribute) (a .value)) 512 n (λ k a. attributeLine id a) (λ xs. full (conns (n + 1)) (bands (n + 1)) xs (ms ++ (m₁ ∷ []))) (λ xs a b o l. attribute-leads _ a b (o ∙ sym (e m₁)) l) (T .attributes) _ 0 (ordered .ownedAttributes) (plain .tables .attributes) (ordered .within .attributes)))
 
-  medias-part : Leads (closing (T .zones) (s .head .key) (attrs 1) (anyZone (T .zones))) (each (mediaLines id T) 1 (T .medias)) (full (T .connections) (T .bandwidths) (T .attributes) (T .medias))
+  medias-part : Leads (closing (T .zones) (attrs 1) (anyZone (T .zones))) (each (mediaLines id T) 1 (T .medias)) (full (T .connections) (T .bandwidths) (T .attributes) (T .medias))
   medias-part =
       let n : ℕ = length (T .medias) + 1 in
       let c₀ : conns 1 ≡ [] = below-none (λ (c : MediaConnection (List ℕ)). c .owner) 1 _ 1 (T .connections) (ordered .ownedConnections) (omega arith) in
@@ -230,4 +230,4 @@ module _ (s : Session (List ℕ)) (plain : Plain s) (ordered : Ordered s) where
   unfolding form.written cutter.split reader.run
   written-back =
       let xs : List ℕ = contactLines id s ++ (closingLines id s ++ each (mediaLines id T) 1 (T .medias)) in
-      head-part xs (again s) (λ n p. rw (append-nil xs) at ((contact-part then closing-part then medias-part) .read [] (again s) (λ n p. refl) n p))
+      head-part xs (again s) (λ n p. rw (append-nil xs) at ((contact-part then closing-part then medias-part) .read [] (again s) (λ n p. rw (plain .head .key)) n p))

@@ -1,2 +1,3 @@
 pub mod Again
 pub mod Back
+pub mod Keys

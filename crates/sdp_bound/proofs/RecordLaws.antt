@@ -1,5 +1,5 @@
 -- What is written of a line's record is no longer than the line: its value, letter, equals sign, CR and LF. Assumes nothing.
-use mathlib.Core.Path.{_≡_, refl, ap}
+use mathlib.Core.Path.{_≡_, refl}
 use mathlib.Core.Bool.{Bool, true, false, cond, _&&_}
 use mathlib.Core.List.{List, [], _∷_, _++_, map}
 use mathlib.Core.Option.{none, some}
@@ -16,7 +16,7 @@ use Rattle.sdp_number.specs.declared.Number.the-variants.{Value, Encoding, Form
 use Rattle.sdp_split.specs.Split.{part, wordAt, firstPiece, pieceAfter, restAfter, words}
 use Rattle.sdp_judge.specs.Read.{Read, got, refused, andThen, wholeOf}
 use Rattle.sdp_fields.specs.Records
-use Rattle.sdp_fields.specs.Records.{usernameOf, addressOf, originOf, connectionOf, bandwidthOf, timesOf, pairOf}
+use Rattle.sdp_fields.specs.Records.{usernameOf, addressOf, originOf, connectionOf, bandwidthOf, timesOf, attributeOf}
 use Rattle.sdp_media_line.specs.MediaLine
 use Rattle.sdp_media_line.specs.MediaLine.{portNumber, portOf, mediaOf}
 use Rattle.sdp_judge.specs.Offset.{offsetOf}
@@ -27,20 +27,20 @@ use Rattle.sdp_fields.specs.declared.Origin.{Origin}
 use Rattle.sdp_fields.specs.declared.Connection.{Connection}
 use Rattle.sdp_fields.specs.declared.Bandwidth.{Bandwidth}
 use Rattle.sdp_fields.specs.declared.Time.{Time}
-use Rattle.sdp_fields.specs.declared.Pair.{Pair}
+use Rattle.sdp_fields.specs.declared.Attribute.{Attribute}
 use Rattle.sdp_media_line.specs.declared.Port.{Port}
 use Rattle.sdp_media_line.specs.declared.Media.{Media}
 use Rattle.sdp_lists.specs.declared.RepeatHead.{RepeatHead}
 use Rattle.sdp_lists.specs.declared.Zone.{Zone}
 use Rattle.sdp_judge.proofs.EveryLaws.{Every, every-got, never, every-then, every-end, every-text, every-token, every-choice, whole-within}
 use Rattle.sdp_media_line.proofs.BoundLaws.{every-number, every-port}
-use Rattle.sdp_step.specs.Step.{maybeIn, originIn, connectionIn, bandwidthIn, mediaIn, timeIn, zoneIn}
+use Rattle.sdp_step.specs.Step.{maybeIn, originIn, connectionIn, attributeIn, bandwidthIn, mediaIn, timeIn, zoneIn}
 use Rattle.sdp_put.specs.Digits.{digits, timeText}
 use Rattle.sdp_put.specs.Strings.{clean}
 use Rattle.sdp_decode.specs.Rows as rows
 use Rattle.sdp_decode.specs.Rows.{each}
 use Rattle.sdp_row.specs.Written
-use Rattle.sdp_row.specs.Written.{line, optional, stringLine, usernameText, originLine, connectionLine, bandwidthLine, pairLine, mediaLine, timeValue, signedText, zoneText, zonesLine}
+use Rattle.sdp_row.specs.Written.{line, optional, stringLine, usernameText, originLine, connectionLine, bandwidthLine, attributeLine, mediaLine, timeValue, signedText, zoneText, zonesLine}
 use Rattle.sdp_room.proofs.LengthLaws.{length-clean, length-line}
 use Rattle.sdp_bound.specs.Kept.{id}
 use Rattle.sdp_bound.proofs.NumberLaws.{number-short, time-short, offset-short}
@@ -120,11 +120,11 @@ module _ (v : List ℕ) where
       (simp length-append
       (omega (arith, first-piece v 0x3a kind i k .0, next-piece v i p e 0x3a q .0, next-piece v i p e 0x3a q .1, l, length-clean (part v kind), part-len v kind, part-len v p))))))
 
-  pub pair-short : (letter w x : ℕ) (p : Pair) → pairOf w x v ≡ got p → length (pairLine id letter (part v (p .name)) (maybeIn (part v) (p .value))) ≤ length v + 4
-  unfolding Records.pairOf Written.pairLine Written.line
-  pair-short letter w x =
-      every-text _ w v _ (firstPiece 0x3a v) (λ name i n.
-      every-choice _ x v _ (restAfter v i)
+  pub attribute-short : (n : ℕ) (a : Attribute) → attributeOf v ≡ got a → length (attributeLine id (attributeIn (part v) n a)) ≤ length v + 4
+  unfolding Records.attributeOf Written.attributeLine Written.line
+  attribute-short n =
+      every-text _ 23 v _ (firstPiece 0x3a v) (λ name i n.
+      every-choice _ 24 v _ (restAfter v i)
       (λ value e q. every-got _ _
       (simp length-append
       (omega (arith, first-piece v 0x3a name i n .0, rest-piece v i value e q, length-clean (part v name), part-len v name, length-clean (part v value), part-len v value))))

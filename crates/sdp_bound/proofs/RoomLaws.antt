@@ -33,11 +33,9 @@ uses-once role.Bandwidth = omega arith
 uses-once role.Time = omega arith
 uses-once role.Repeat = omega arith
 uses-once role.Zone = omega arith
-uses-once role.Key = omega arith
 uses-once role.Attribute = omega arith
 uses-once role.MediaTitle = omega arith
 uses-once role.MediaConnection = omega arith
-uses-once role.MediaKey = omega arith
 
 -- a line with a use has a letter, an = and an LF
 line-three : (r : Raw) (medias : ℕ) → uses (roleOf medias (formOf (content r))) * 3 ≤ length (r .body) + 1

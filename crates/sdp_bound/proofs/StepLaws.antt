@@ -8,24 +8,24 @@ use lib.ListN.{length, length-append}
 use lib.Dec.{ltb, leb, eqb}
 use Rattle.sdp_split.specs.Split.{part}
 use Rattle.sdp_judge.specs.Read.{Read, got, refused, wholeOf}
-use Rattle.sdp_fields.specs.Records.{originOf, connectionOf, bandwidthOf, timesOf, pairOf}
+use Rattle.sdp_fields.specs.Records.{originOf, connectionOf, bandwidthOf, timesOf, attributeOf}
 use Rattle.sdp_media_line.specs.MediaLine.{mediaOf}
 use Rattle.sdp_lists.specs.Lists.{RepeatLine, repeatOf, zonesOf}
-use Rattle.sdp_area.specs.Session.{Key, Time, Media, Offset}
-use Rattle.sdp_area.specs.With.{titled, keyed}
-use Rattle.sdp_area.specs.Latest.{given, lastTitled, lastKeyed}
+use Rattle.sdp_area.specs.Session.{Time, Media, Offset}
+use Rattle.sdp_area.specs.With.{titled}
+use Rattle.sdp_area.specs.Latest.{given, lastTitled}
 use Rattle.sdp_step.specs.Step
-use Rattle.sdp_step.specs.Step.{Reading, Stepped, goes, stops, once, row, bandwidthIn, attributeIn, mediaConnectionIn, mediaIn, keyIn, timeIn, repeated, stepRole}
+use Rattle.sdp_step.specs.Step.{Reading, Stepped, goes, stops, once, row, bandwidthIn, attributeIn, mediaConnectionIn, mediaIn, timeIn, repeated, stepRole}
 use Rattle.sdp_roles.specs.declared.Role.{Role}
 use Rattle.sdp_roles.specs.declared.Role.the-variants as role
 use Rattle.sdp_step.proofs.OnceLaws.{length-last}
 use Rattle.sdp_row.specs.Written
-use Rattle.sdp_row.specs.Written.{stringLine, keyLine, mediaLine}
+use Rattle.sdp_row.specs.Written.{stringLine, mediaLine}
 use Rattle.sdp_bound.specs.Kept.{id, uses, opens}
 use Rattle.sdp_room.proofs.SumLaws
 use Rattle.sdp_room.proofs.SumLaws.{sum}
 use Rattle.sdp_bound.proofs.RowLaws.{sum-append, sum-more, sum-map, sum-last}
-use Rattle.sdp_bound.proofs.RecordLaws.{whole-short, connection-short, origin-short, times-short, bandwidth-short, pair-short, media-short, offsetsSize, repeatSize, repeat-short, zones-short}
+use Rattle.sdp_bound.proofs.RecordLaws.{whole-short, connection-short, origin-short, times-short, bandwidth-short, attribute-short, media-short, offsetsSize, repeatSize, repeat-short, zones-short}
 use Rattle.sdp_room.proofs.CostLaws
 use Rattle.sdp_room.proofs.CostLaws.{cost, timeCost, timesCost, repeatCost, offsetCost, connectionCost, bandwidthCost, attributeCost, mediaCost}
 
@@ -67,14 +67,10 @@ unfolding CostLaws.timesCost SumLaws.sum
 times-more [] t = omega arith
 times-more (x ∷ ts) t = let e = sum-more timeCost ts t in omega arith
 
--- a title or a key
+-- a title
 titled-more : (x : List ℕ) (m : Media (List ℕ)) → mediaCost id (titled x m) ≤ mediaCost id m + length (stringLine id 0x69 x)
 unfolding Written.mediaLine
 titled-more x m = let e : length (mediaLine id (titled x m)) ≡ length (mediaLine id m) = refl in omega arith
-
-keyed-more : (x : Key (List ℕ)) (m : Media (List ℕ)) → mediaCost id (keyed x m) ≤ mediaCost id m + length (keyLine id x)
-unfolding Written.mediaLine
-keyed-more x m = let e : length (mediaLine id (keyed x m)) ≡ length (mediaLine id m) = refl in omega arith
 
 module _ (ρ : Reading (List ℕ)) (v : List ℕ) where
   -- an r line, with its offsets
@@ -112,16 +108,10 @@ module _ (ρ : Reading (List ℕ)) (v : List ℕ) where
   step-grown role.Connection = past-once _ 16 (given (ρ .session .head .connection)) (connectionOf v) _ (λ c q. on _ _ (record { bytes = omega (arith, connection-short v c q); medias = omega arith }))
   step-grown role.Zone =
       past-once _ 17 (ρ .zoned) (zonesOf v) _ (λ zs q. past-cond _ (leb (length zs) 64) _ _ (on _ _ (record { bytes = omega (arith, zones-short v zs q); medias = omega arith })) (off _ _ _))
-  step-grown role.Key = past-once _ 19 (given (ρ .session .head .key)) (pairOf 25 26 v) _ (λ p q. on _ _ (record { bytes = omega (arith, pair-short v 0x6b 25 26 p q); medias = omega arith }))
   step-grown role.MediaTitle =
       past-once _ 18 (lastTitled (ρ .session .tables .medias)) (wholeOf 33 v) _ (λ p q. on _ _ (record {
         bytes = omega (arith, sum-last (mediaCost id) (titled (part v p)) (length v + 4) (λ m. omega (arith, titled-more (part v p) m, whole-short 0x69 33 v p q)) (ρ .session .tables .medias));
         medias = omega (arith, length-last (titled (part v p)) (ρ .session .tables .medias));
-      }))
-  step-grown role.MediaKey =
-      past-once _ 19 (lastKeyed (ρ .session .tables .medias)) (pairOf 25 26 v) _ (λ p q. on _ _ (record {
-        bytes = omega (arith, sum-last (mediaCost id) (keyed (keyIn (part v) p)) (length v + 4) (λ m. omega (arith, keyed-more (keyIn (part v) p) m, pair-short v 0x6b 25 26 p q)) (ρ .session .tables .medias));
-        medias = omega (arith, length-last (keyed (keyIn (part v) p)) (ρ .session .tables .medias));
       }))
   step-grown role.Email =
       past-row _ 1 16 _ (wholeOf 37 v) _ (λ p q. record { bytes = omega (arith, sum-more (λ x. length (stringLine id 0x65 x)) (ρ .session .tables .emails) (part v p), whole-short 0x65 37 v p q); medias = omega arith })
@@ -137,7 +127,9 @@ module _ (ρ : Reading (List ℕ)) (v : List ℕ) where
       past-row _ 5 32 _ (timesOf v) _ (λ t q. record { bytes = omega (arith, times-more (ρ .session .tables .times) (timeIn t), times-short v t q); medias = omega arith })
   step-grown role.Repeat = past-cond _ (eqb (length (ρ .session .tables .times)) 0) _ _ (off _ _ _) repeat-grown
   step-grown role.Attribute =
-      past-row _ 9 512 _ (pairOf 23 24 v) _ (λ p q. record { bytes = omega (arith, sum-more (attributeCost id) (ρ .session .tables .attributes) (attributeIn (part v) (length (ρ .session .tables .medias)) p), pair-short v 0x61 23 24 p q); medias = omega arith })
+      past-row _ 9 512 _ (attributeOf v) _ (λ a q.
+      let n = length (ρ .session .tables .medias) in
+      record { bytes = omega (arith, sum-more (attributeCost id) (ρ .session .tables .attributes) (attributeIn (part v) n a), attribute-short v n a q); medias = omega arith })
   step-grown role.Media =
       past-row _ 10 32 _ (mediaOf v) _ (λ m q. record {
         bytes = omega (arith, sum-more (mediaCost id) (ρ .session .tables .medias) (mediaIn (part v) m), media-short v m q);

@@ -6,8 +6,8 @@ use Rattle.sdp_lines.specs.declared.Form.{Form}
 use Rattle.sdp_lines.specs.declared.Form.the-variants.{Blank, Good, Bad}
 use Rattle.sdp_roles.specs.Roles.{roleAt}
 use Rattle.sdp_roles.specs.declared.Role.{Role}
-use Rattle.sdp_roles.specs.declared.Role.the-variants.{Origin, Name, Description, Uri, Email, Phone, Connection, Bandwidth, Time, Repeat, Zone, Key}
-use Rattle.sdp_roles.specs.declared.Role.the-variants.{Attribute, Media, MediaTitle, MediaConnection, MediaKey, Nothing}
+use Rattle.sdp_roles.specs.declared.Role.the-variants.{Origin, Name, Description, Uri, Email, Phone, Connection, Bandwidth, Time, Repeat, Zone}
+use Rattle.sdp_roles.specs.declared.Role.the-variants.{Attribute, Media, MediaTitle, MediaConnection, Nothing}
 
 -- the role of a line by its form, after that many medias; a line that is empty or of bad form has none
 abbrev pub roleOf : ℕ → Form → Role
@@ -30,11 +30,9 @@ byUse Bandwidth none media other = other
 byUse Time none media other = other
 byUse Repeat none media other = other
 byUse Zone none media other = other
-byUse Key none media other = other
 byUse Attribute none media other = other
 byUse MediaTitle none media other = other
 byUse MediaConnection none media other = other
-byUse MediaKey none media other = other
 
 -- 1 for a use
 abbrev pub uses : Role → ℕ

@@ -33,7 +33,7 @@ originOf a p =
 abbrev pub connectionOf : List ℕ → ℕ → Connection Span
 connectionOf a p = record { nettype = spanOf a p; addrtype = spanOf a (p + 4); connectionAddress = spanOf a (p + 8) }
 
--- a k line, 10 bytes
+-- a key, 10 bytes
 abbrev pub keyOf : List ℕ → ℕ → Key Span
 keyOf a p = record { method = spanOf a p; encryptionKey = marked spanOf a (p + 4) }
 

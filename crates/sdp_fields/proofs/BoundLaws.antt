@@ -9,12 +9,12 @@ use lib.Dec.{eqb}
 use lib.ListN.{getD}
 use Rattle.sdp_split.specs.Split.{wordAt, firstPiece, pieceAfter, restAfter, Inside}
 use Rattle.sdp_judge.specs.Read.{got, numberOf, absent}
-use Rattle.sdp_fields.specs.Records.{usernameOf, addressOf, originOf, connectionOf, bandwidthOf, pairOf}
+use Rattle.sdp_fields.specs.Records.{usernameOf, addressOf, originOf, connectionOf, bandwidthOf, attributeOf}
 use Rattle.sdp_split.specs.declared.Piece.{Piece}
 use Rattle.sdp_fields.specs.declared.Origin.{Origin}
 use Rattle.sdp_fields.specs.declared.Connection.{Connection}
 use Rattle.sdp_fields.specs.declared.Bandwidth.{Bandwidth}
-use Rattle.sdp_fields.specs.declared.Pair.{Pair}
+use Rattle.sdp_fields.specs.declared.Attribute.{Attribute}
 use Rattle.sdp_split.proofs.SplitLaws.{word-within, first-within, rest-within}
 use Rattle.sdp_judge.proofs.EveryLaws.{every-got, every-amount, every-text, every-token, every-choice, every-end, every-then}
 
@@ -74,15 +74,15 @@ bandwidth-within v =
     every-amount _ (numberOf 13 v (pieceAfter 0x3a v i)) _ (λ n e q.
     every-end _ 14 (pieceAfter 0x3a v e) _ (every-got _ _ (first-within 0x3a v kind i k .0))))
 
-pub record PairInside (v : List ℕ) (p : Pair) : Type 0 where
-  pub name : Inside v (p .name)
-  pub value : Inside v (p .value .piece)
+pub record AttributeInside (v : List ℕ) (a : Attribute) : Type 0 where
+  pub attribute : Inside v (a .attribute)
+  pub value : Inside v (a .value .piece)
 
-pub pair-within : (w x : ℕ) (v : List ℕ) (p : Pair) → pairOf w x v ≡ got p → PairInside v p
-unfolding pairOf
-pair-within w x v =
-    every-text _ w v _ (firstPiece 0x3a v) (λ name i n.
+pub attribute-within : (v : List ℕ) (a : Attribute) → attributeOf v ≡ got a → AttributeInside v a
+unfolding attributeOf
+attribute-within v =
+    every-text _ 23 v _ (firstPiece 0x3a v) (λ name i n.
     let l = first-within 0x3a v name i n .0 in
-    every-choice _ x v _ (restAfter v i)
-    (λ value e q. every-got _ _ (record { name = l; value = rest-within v i value e q .0 }))
-    (every-got _ _ (record { name = l; value = omega arith })))
+    every-choice _ 24 v _ (restAfter v i)
+    (λ value e q. every-got _ _ (record { attribute = l; value = rest-within v i value e q .0 }))
+    (every-got _ _ (record { attribute = l; value = omega arith })))

@@ -4,7 +4,7 @@ use Rattle.sdp_fields.specs.declared.Origin.{Origin}
 use Rattle.sdp_fields.specs.declared.Connection.{Connection}
 use Rattle.sdp_fields.specs.declared.Bandwidth.{Bandwidth}
 use Rattle.sdp_fields.specs.declared.Time.{Time}
-use Rattle.sdp_fields.specs.declared.Pair.{Pair}
+use Rattle.sdp_fields.specs.declared.Attribute.{Attribute}
 use Rattle.sdp_fields.specs.declared.OriginRead.{OriginRead}
 use Rattle.sdp_fields.specs.declared.OriginRead.the-variants as origin
 use Rattle.sdp_fields.specs.declared.ConnectionRead.{ConnectionRead}
@@ -13,8 +13,8 @@ use Rattle.sdp_fields.specs.declared.BandwidthRead.{BandwidthRead}
 use Rattle.sdp_fields.specs.declared.BandwidthRead.the-variants as bandwidth
 use Rattle.sdp_fields.specs.declared.TimeRead.{TimeRead}
 use Rattle.sdp_fields.specs.declared.TimeRead.the-variants as time
-use Rattle.sdp_fields.specs.declared.PairRead.{PairRead}
-use Rattle.sdp_fields.specs.declared.PairRead.the-variants as pair
+use Rattle.sdp_fields.specs.declared.AttributeRead.{AttributeRead}
+use Rattle.sdp_fields.specs.declared.AttributeRead.the-variants as attribute
 
 -- origin
 abbrev pub originAnswer : Read Origin → OriginRead
@@ -36,7 +36,7 @@ abbrev pub timeAnswer : Read Time → TimeRead
 timeAnswer (got x) = time.Got x
 timeAnswer (refused w) = time.Refused w
 
--- pair
-abbrev pub pairAnswer : Read Pair → PairRead
-pairAnswer (got x) = pair.Got x
-pairAnswer (refused w) = pair.Refused w
+-- attribute
+abbrev pub attributeAnswer : Read Attribute → AttributeRead
+attributeAnswer (got x) = attribute.Got x
+attributeAnswer (refused w) = attribute.Refused w

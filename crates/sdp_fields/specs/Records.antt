@@ -1,4 +1,4 @@
--- Document 01, "Fields": one reader for each record of o, c, b, t, a and k. "Fields are judged left to right".
+-- Document 01, "Fields": one reader for each record of o, c, b, t and a. "Fields are judged left to right".
 use Prim.Native.Nat.{ℕ, _+_}
 use mathlib.Core.Bool.{true, false, _&&_, cond}
 use mathlib.Core.List.{List}
@@ -14,7 +14,7 @@ use Rattle.sdp_fields.specs.declared.Origin.{Origin}
 use Rattle.sdp_fields.specs.declared.Connection.{Connection}
 use Rattle.sdp_fields.specs.declared.Bandwidth.{Bandwidth}
 use Rattle.sdp_fields.specs.declared.Time.{Time}
-use Rattle.sdp_fields.specs.declared.Pair.{Pair}
+use Rattle.sdp_fields.specs.declared.Attribute.{Attribute}
 
 -- "Username `-` means absent"
 abbrev pub usernameOf : List ℕ → Piece → MaybePiece
@@ -68,9 +68,9 @@ timesOf v =
     ending fields.timeTrailing (wordAt v e)
     (got (record { «start_time» = start; «stop_time» = stop }))))
 
--- a and k, "at the first colon": a name of field w, and perhaps a value of field x
-unfoldable pub pairOf : ℕ → ℕ → List ℕ → Read Pair
-pairOf w x v =
-    afterText (textOf w v (firstPiece 0x3a v)) (λ name e.
-    afterChoice (choiceOf x v (restAfter v e)) (λ value.
-    got (record { name = name; value = value })))
+-- a, "at the first colon": a name, and perhaps a value
+unfoldable pub attributeOf : List ℕ → Read Attribute
+attributeOf v =
+    afterText (textOf fields.attribute v (firstPiece 0x3a v)) (λ name e.
+    afterChoice (choiceOf fields.attributeValue v (restAfter v e)) (λ value.
+    got (record { attribute = name; value = value })))

@@ -2,8 +2,8 @@
 ghost use mathlib.Core.Path.{_≡_};
 ghost use Prim.Native.Nat.{_≤_};
 ghost use Rattle.sdp_split.specs.Split.{Inside};
-ghost use Rattle.sdp_fields.specs.Records.{usernameOf, originOf, addressOf, connectionOf, bandwidthOf, timesOf, pairOf};
-ghost use Rattle.sdp_fields.specs.Answers.{originAnswer, connectionAnswer, bandwidthAnswer, timeAnswer, pairAnswer};
+ghost use Rattle.sdp_fields.specs.Records.{usernameOf, originOf, addressOf, connectionOf, bandwidthOf, timesOf, attributeOf};
+ghost use Rattle.sdp_fields.specs.Answers.{originAnswer, connectionAnswer, bandwidthAnswer, timeAnswer, attributeAnswer};
 use sdp_judge::Amount;
 use sdp_judge::Choice;
 use sdp_judge::Counted;
@@ -51,9 +51,8 @@ pub struct Time {
     pub stop_time: u64,
 }
 
-// An attribute or a key: a name and perhaps a value.
-pub struct Pair {
-    pub name: Piece,
+pub struct Attribute {
+    pub attribute: Piece,
     pub value: MaybePiece,
 }
 
@@ -77,8 +76,8 @@ pub enum TimeRead {
     Refused(Wrong),
 }
 
-pub enum PairRead {
-    Got(Pair),
+pub enum AttributeRead {
+    Got(Attribute),
     Refused(Wrong),
 }
 
@@ -226,21 +225,21 @@ impl Time {
     }
 }
 
-impl Pair {
-    // <attribute>:<value> or <attribute>, <method>:<encryption key> or <method>: the name's field is w, the value's x.
-    pub fn parse(v: &[u8], w: u64, x: u64) -> PairRead
-        ensures { λ r. ⌜ r ≡ pairAnswer (pairOf w x (now (v .entry))) ⌝ }
+impl Attribute {
+    // <attribute>:<value> or <attribute>.
+    pub fn parse(v: &[u8]) -> AttributeRead
+        ensures { λ r. ⌜ r ≡ attributeAnswer (attributeOf (now (v .entry))) ⌝ }
     {
-        let name = match text_of(v, w, first_piece(v, b':')) {
+        let name = match text_of(v, 23, first_piece(v, b':')) {
             Text::Got { piece, next } => Taken { piece, next },
-            Text::Refused(x) => return PairRead::Refused(x),
+            Text::Refused(x) => return AttributeRead::Refused(x),
         };
-        match choice_of(v, x, rest_after(v, name.next)) {
+        match choice_of(v, 24, rest_after(v, name.next)) {
             Choice::Got(value) => {
-                let name = name.piece;
-                PairRead::Got(Pair { name, value })
+                let attribute = name.piece;
+                AttributeRead::Got(Attribute { attribute, value })
             }
-            Choice::Refused(x) => PairRead::Refused(x),
+            Choice::Refused(x) => AttributeRead::Refused(x),
         }
     }
 }

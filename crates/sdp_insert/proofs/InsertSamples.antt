@@ -1,11 +1,16 @@
 -- Lines that may be put in, and one that may not, at places of a sample. Assumes nothing.
 use mathlib.Core.Path.{_≡_, refl}
+use mathlib.Core.Bool.{Bool, true, false, cond}
 use mathlib.Core.List.{List, [], _∷_, _++_}
 use Prim.Native.Nat.{ℕ}
 use native.Mathlib.Omega.{arith}
+use lib.Dec.{eqb}
 use Rattle.sdp_bytes.specs.Runs
 use Rattle.sdp_lines.specs.Lines
+use Rattle.sdp_lines.specs.declared.Form.the-variants.{Good}
 use Rattle.sdp_roles.specs.Roles
+use Rattle.sdp_roles.specs.Roles.{beforeMedia, fromMedia}
+use Rattle.sdp_roles.specs.declared.Role.the-variants.{Nothing}
 use Rattle.sdp_insert.specs.Insert.{hasLf, endedForm, Idle, version, Inserted, begun, same, keep, put, above}
 
 -- m=a 1 b c
@@ -37,3 +42,12 @@ sample-above = (refl, refl, refl)
 pub time-used : Idle 0 (endedForm time) → ⊥
 unfolding Lines.content Lines.chop Lines.formOf Lines.hasNulOrCr Lines.plainForm Runs.indexOf Roles.beforeMedia
 time-used h = let z : _≡_ {A = ℕ} 0 1 = cc in omega arith
+
+-- document 02, P4: "k joins demand 3's letters without use", before the first media and from it on
+pub key-idle : (medias : ℕ) → Idle medias (Good 0x6b)
+unfolding Roles.beforeMedia Roles.fromMedia
+key-idle medias = go (eqb medias 0)
+  where
+    go : (b : Bool) → cond b (beforeMedia 0x6b) (fromMedia 0x6b) ≡ Nothing
+    go true = refl
+    go false = refl

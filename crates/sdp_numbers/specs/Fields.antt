@@ -81,7 +81,7 @@ attribute = 23
 abbrev pub attributeValue : ℕ
 attributeValue = 24
 
--- "25-26 k"
+-- "25-26 k"; document 02, P4: "fields 25 and 26 stay reserved"
 abbrev pub keyMethod : ℕ
 keyMethod = 25
 

@@ -68,7 +68,7 @@ secondZones = 17
 abbrev pub secondTitle : ℕ
 secondTitle = 18
 
--- "second key"
+-- "second key"; document 02, P4: "19 never occurs any more"
 abbrev pub secondKey : ℕ
 secondKey = 19
 

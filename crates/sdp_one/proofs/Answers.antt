@@ -38,7 +38,7 @@ use Rattle.sdp_fields.proofs.Origin.parse.Reads as sdpFieldsOriginParse
 use Rattle.sdp_fields.proofs.Connection.parse.Reads as sdpFieldsConnectionParse
 use Rattle.sdp_fields.proofs.Bandwidth.parse.Reads as sdpFieldsBandwidthParse
 use Rattle.sdp_fields.proofs.Time.parse.Reads as sdpFieldsTimeParse
-use Rattle.sdp_fields.proofs.Pair.parse.Reads as sdpFieldsPairParse
+use Rattle.sdp_fields.proofs.Attribute.parse.Reads as sdpFieldsAttributeParse
 use Rattle.sdp_media_line.proofs.Media.parse_m_line.Reads as sdpMediaLineMediaParseMLine
 use Rattle.sdp_lists.proofs.RepeatHead.parse.Reads as sdpListsRepeatHeadParse
 use Rattle.sdp_lists.proofs.repeat_offset.Reads as sdpListsRepeatOffset
@@ -61,13 +61,9 @@ use Rattle.sdp_area.proofs.set_origin.Reads as sdpAreaSetOrigin
 use Rattle.sdp_area.proofs.set_name.Reads as sdpAreaSetName
 use Rattle.sdp_area.proofs.set_text.Reads as sdpAreaSetText
 use Rattle.sdp_area.proofs.set_connection.Reads as sdpAreaSetConnection
-use Rattle.sdp_area.proofs.set_key.Reads as sdpAreaSetKey
-use Rattle.sdp_area.proofs.set_media_key.Reads as sdpAreaSetMediaKey
 use Rattle.sdp_area.proofs.has_origin.Reads as sdpAreaHasOrigin
 use Rattle.sdp_area.proofs.has_text.Reads as sdpAreaHasText
 use Rattle.sdp_area.proofs.has_connection.Reads as sdpAreaHasConnection
-use Rattle.sdp_area.proofs.has_key.Reads as sdpAreaHasKey
-use Rattle.sdp_area.proofs.has_media_key.Reads as sdpAreaHasMediaKey
 use Rattle.sdp_area.proofs.times.Reads as sdpAreaTimes
 use Rattle.sdp_area.proofs.repeats.Reads as sdpAreaRepeats
 use Rattle.sdp_area.proofs.medias.Reads as sdpAreaMedias
@@ -101,7 +97,6 @@ use Rattle.sdp_row.proofs.put_connection.Reads as sdpRowPutConnection
 use Rattle.sdp_row.proofs.put_session_connection.Reads as sdpRowPutSessionConnection
 use Rattle.sdp_row.proofs.put_time_line.Reads as sdpRowPutTimeLine
 use Rattle.sdp_row.proofs.put_media_line.Reads as sdpRowPutMediaLine
-use Rattle.sdp_table_row.proofs.put_key.Reads as sdpTableRowPutKey
 use Rattle.sdp_table_row.proofs.put_row.Reads as sdpTableRowPutRow
 use Rattle.sdp_tables.proofs.put_contact.Reads as sdpTablesPutContact
 use Rattle.sdp_tables.proofs.put_closing.Reads as sdpTablesPutClosing
@@ -235,8 +230,8 @@ sdp-fields-Bandwidth-parse κs a z z′ e e′ p q = same p q
 pub sdp-fields-Time-parse : OneAnswer sdpFieldsTimeParse.Learnt
 sdp-fields-Time-parse κs a z z′ e e′ p q = same p q
 
-pub sdp-fields-Pair-parse : OneAnswer sdpFieldsPairParse.Learnt
-sdp-fields-Pair-parse κs a z z′ e e′ p q = same p q
+pub sdp-fields-Attribute-parse : OneAnswer sdpFieldsAttributeParse.Learnt
+sdp-fields-Attribute-parse κs a z z′ e e′ p q = same p q
 
 -- ---- sdp_media_line
 pub sdp-media-line-Media-parse-m-line : OneAnswer sdpMediaLineMediaParseMLine.Learnt
@@ -308,12 +303,6 @@ sdp-area-set-text κs a z z′ e e′ p q = (refl, same p q)
 pub sdp-area-set-connection : OneState (λ κs e. now (e .0)) sdpAreaSetConnection.Learnt
 sdp-area-set-connection κs a z z′ e e′ p q = (refl, same p q)
 
-pub sdp-area-set-key : OneState (λ κs e. now (e .0)) sdpAreaSetKey.Learnt
-sdp-area-set-key κs a z z′ e e′ p q = (refl, same p q)
-
-pub sdp-area-set-media-key : OneState (λ κs e. now (e .0)) sdpAreaSetMediaKey.Learnt
-sdp-area-set-media-key κs a z z′ e e′ p q = (refl, same p q)
-
 pub sdp-area-has-origin : OneAnswer sdpAreaHasOrigin.Learnt
 sdp-area-has-origin κs a z z′ e e′ p q = same p q
 
@@ -322,12 +311,6 @@ sdp-area-has-text κs a z z′ e e′ p q = same p q
 
 pub sdp-area-has-connection : OneAnswer sdpAreaHasConnection.Learnt
 sdp-area-has-connection κs a z z′ e e′ p q = same p q
-
-pub sdp-area-has-key : OneAnswer sdpAreaHasKey.Learnt
-sdp-area-has-key κs a z z′ e e′ p q = same p q
-
-pub sdp-area-has-media-key : OneAnswer sdpAreaHasMediaKey.Learnt
-sdp-area-has-media-key κs a z z′ e e′ p q = same p q
 
 pub sdp-area-times : OneAnswer sdpAreaTimes.Learnt
 sdp-area-times κs a z z′ e e′ p q = same (p .0) (q .0)
@@ -441,9 +424,6 @@ pub sdp-row-put-media-line : OnePut (λ κs a. now (a .0)) (λ κs a. a .1 .0) (
 sdp-row-put-media-line κs a z z′ e e′ l k p q = same-put l k p q
 
 -- ---- sdp_table_row
-pub sdp-table-row-put-key : OnePut (λ κs a. now (a .0)) (λ κs a. a .1 .0) (λ κs e. now (e .0)) sdpTableRowPutKey.Learnt
-sdp-table-row-put-key κs a z z′ e e′ l k p q = same-put l k p q
-
 pub sdp-table-row-put-row : OnePut (λ κs a. now (a .0)) (λ κs a. a .1 .0) (λ κs e. now (e .0)) sdpTableRowPutRow.Learnt
 sdp-table-row-put-row κs a z z′ e e′ l k p q = same-put l k p q
 

@@ -15,12 +15,10 @@ pub enum Role {
     Time,
     Repeat,
     Zone,
-    Key,
     Attribute,
     Media,
     MediaTitle,
     MediaConnection,
-    MediaKey,
     Nothing,
 }
 
@@ -40,7 +38,6 @@ fn before_media(letter: u8) -> Role
         b't' => Role::Time,
         b'r' => Role::Repeat,
         b'z' => Role::Zone,
-        b'k' => Role::Key,
         b'a' => Role::Attribute,
         b'm' => Role::Media,
         _ => Role::Nothing,
@@ -56,7 +53,6 @@ fn from_media(letter: u8) -> Role
         b'i' => Role::MediaTitle,
         b'c' => Role::MediaConnection,
         b'b' => Role::Bandwidth,
-        b'k' => Role::MediaKey,
         b'a' => Role::Attribute,
         _ => Role::Nothing,
     }

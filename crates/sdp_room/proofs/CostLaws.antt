@@ -8,7 +8,7 @@ use Rattle.sdp_area.specs.Session.{MediaConnection, Bandwidth, Time, Repeat, Of
 use Rattle.sdp_put.specs.Digits.{timeText}
 use Rattle.sdp_decode.specs.Rows.{each}
 use Rattle.sdp_row.specs.Written
-use Rattle.sdp_row.specs.Written.{line, optional, spaced, timeValue, repeatLine, timeLines, timesLines, zonesLine, stringLine, originLine, nameLine, connectionLine, bandwidthLine, pairLine, keyLine, mediaLine, mediaLines, written}
+use Rattle.sdp_row.specs.Written.{line, optional, spaced, timeValue, repeatLine, timeLines, timesLines, zonesLine, stringLine, originLine, nameLine, connectionLine, bandwidthLine, attributeLine, mediaLine, mediaLines, written}
 use Rattle.sdp_room.proofs.SumLaws.{sum, Rows, each-short, rows-short, ofOwner, fromOwner, owner-next, owner-all, owner-sum}
 use Rattle.sdp_room.proofs.LengthLaws.{length-line}
 
@@ -65,11 +65,11 @@ module _ {S : Type 0} (str : S → List ℕ) where
   bandwidthCost b = length (bandwidthLine str b)
 
   abbrev pub attributeCost : Attribute S → ℕ
-  attributeCost a = length (pairLine str 0x61 (a .attribute) (a .value))
+  attributeCost a = length (attributeLine str a)
 
-  -- a media with its i and k lines
+  -- a media with its i line
   abbrev pub mediaCost : Media S → ℕ
-  mediaCost m = length (mediaLine str m) + length (optional (stringLine str 0x69) (m .mediaTitle)) + length (optional (keyLine str) (m .key))
+  mediaCost m = length (mediaLine str m) + length (optional (stringLine str 0x69) (m .mediaTitle))
 
   -- ---- the whole; the version line has 5 bytes
   unfoldable pub cost : Session S → ℕ
@@ -87,7 +87,6 @@ module _ {S : Type 0} (str : S → List ℕ) where
       + sum repeatCost (s .tables .repeats)
       + sum offsetCost (s .tables .offsets)
       + length (zonesLine (s .tables .zones))
-      + length (optional (keyLine str) (s .head .key))
       + sum attributeCost (s .tables .attributes)
       + sum connectionCost (s .tables .connections)
       + sum mediaCost (s .tables .medias)
@@ -100,7 +99,7 @@ module _ {S : Type 0} (str : S → List ℕ) where
   bandwidthRows = record { owner = λ b. b .owner; bytes = λ k b. bandwidthLine str b }
 
   abbrev attributeRows : Rows (Attribute S)
-  attributeRows = record { owner = λ a. a .owner; bytes = λ k a. pairLine str 0x61 (a .attribute) (a .value) }
+  attributeRows = record { owner = λ a. a .owner; bytes = λ k a. attributeLine str a }
 
   module _ (t : Tables S) where
     -- the c, b and a lines of the media n, and of all from n on

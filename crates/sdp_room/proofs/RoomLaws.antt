@@ -14,15 +14,15 @@ use Rattle.sdp_lines.specs.Strings.{bytesOf}
 use Rattle.sdp_cells.specs.Bytes.{num}
 use Rattle.sdp_cells.proofs.ByteLaws.{num-below}
 use Rattle.sdp_area.specs.Session.{Time, Zone}
-use Rattle.sdp_area.specs.Area.{originAt, nameAt, descriptionAt, uriAt, connectionAt, keyAt, emailsAt, phonesAt, connectionsAt, bandwidthsAt, timesAt, repeatsAt, offsetsAt, zonesAt, attributesAt, mediasAt}
+use Rattle.sdp_area.specs.Area.{originAt, nameAt, descriptionAt, uriAt, connectionAt, emailsAt, phonesAt, connectionsAt, bandwidthsAt, timesAt, repeatsAt, offsetsAt, zonesAt, attributesAt, mediasAt}
 use Rattle.sdp_decode.specs.Rows as rows
 use Rattle.sdp_decode.specs.Rows.{rowsAt, marked, each}
 use Rattle.sdp_decode.specs.Decode
-use Rattle.sdp_decode.specs.Decode.{num2, spanOf, originOf, connectionOf, mediaConnectionOf, keyOf, bandwidthOf, timeOf, repeatOf, offsetOf, zoneOf, attributeOf, mediaOf, timesIn, zonesIn, decode}
+use Rattle.sdp_decode.specs.Decode.{num2, spanOf, originOf, connectionOf, mediaConnectionOf, bandwidthOf, timeOf, repeatOf, offsetOf, zoneOf, attributeOf, mediaOf, timesIn, zonesIn, decode}
 use Rattle.sdp_row.specs.Written
-use Rattle.sdp_row.specs.Written.{optional, signedText, zoneText, zonesLine, usernameText, originValue, originLine, connectionLine, bandwidthLine, pairLine, keyLine, stringLine, mediaLine, written}
+use Rattle.sdp_row.specs.Written.{optional, signedText, zoneText, zonesLine, usernameText, originValue, originLine, connectionLine, bandwidthLine, attributeLine, stringLine, mediaLine, written}
 use Rattle.sdp_valid.specs.declared.Row.the-variants.{Plain, Connection, Bandwidth, Attribute, Media}
-use Rattle.sdp_room.specs.Room.{sumAt, connectionRoom, pairRoom, mediaRoom, rowRoom, originRoom, headRoom, timesRoom, tablesRoom, roomFor}
+use Rattle.sdp_room.specs.Room.{sumAt, connectionRoom, mediaRoom, rowRoom, originRoom, headRoom, timesRoom, tablesRoom, roomFor}
 use Rattle.sdp_room.proofs.SumLaws.{sum, rows-short}
 use Rattle.sdp_room.proofs.LengthLaws.{length-clean, digits-20, time-21, signed-22, length-line}
 use Rattle.sdp_room.proofs.CostLaws.{timeCost, timesCost, repeatCost, offsetCost, connectionCost, bandwidthCost, attributeCost, mediaCost, cost, written-cost}
@@ -127,17 +127,12 @@ module _ (t a : List ℕ) (byte : (i : ℕ) → getD a i 0 < 256) where
   unfolding Written.bandwidthLine
   bandwidth-line p = rw length-line (simp length-append (omega (arith, string (p + 2) (p + 4) (omega arith), digits-of (p + 6))))
 
-  pair-line : (l p v : ℕ) → v ≡ p + 4 → length (pairLine (bytesOf t) l (spanOf a p) (marked spanOf a v)) ≤ pairRoom a p
-  unfolding Written.pairLine pairRoom
-  pair-line l p v e =
+  attribute-line : (p : ℕ) → length (attributeLine (bytesOf t) (attributeOf a p)) ≤ 5 + (num 2 a (p + 4) + num 2 a (p + 10))
+  unfolding Written.attributeLine
+  attribute-line p =
       rw length-line
       (simp length-append
-      (omega (arith, string p (p + 2) refl, if-marked (λ x. (0x3a ∷ []) ++ clean (bytesOf t x)) spanOf (1 + num 2 a (p + 8)) v (omega (arith, string (v + 2) (p + 8) (omega arith))))))
-
-  key-if : (p q : ℕ) → q ≡ p + 2 → length (optional (keyLine (bytesOf t)) (marked keyOf a p)) ≤ pairRoom a q
-  key-if p q e =
-      if-marked (keyLine (bytesOf t)) keyOf (pairRoom a q) p
-      (omega (arith, pair-line 0x6b (p + 2) (p + 2 + 4) refl, ap (pairRoom a) e))
+      (omega (arith, string (p + 2) (p + 4) (omega arith), if-marked (λ x. (0x3a ∷ []) ++ clean (bytesOf t x)) spanOf (1 + num 2 a (p + 10)) (p + 6) (omega (arith, string (p + 6 + 2) (p + 10) (omega arith))))))
 
   port : (p : ℕ) → length (digits (num 2 a p)) ≤ 20
   port p = digits-20 (num 2 a p) (omega (arith, num-below a byte 2 p))
@@ -158,7 +153,7 @@ module _ (t a : List ℕ) (byte : (i : ℕ) → getD a i 0 < 256) where
 
   media-lines : (p : ℕ) → mediaCost (bytesOf t) (mediaOf a p) ≤ mediaRoom a p
   unfolding mediaRoom
-  media-lines p = omega (arith, media-line p, string-if 0x69 (p + 18) (p + 22) (omega arith), key-if (p + 24) (p + 26) (omega arith))
+  media-lines p = omega (arith, media-line p, string-if 0x69 (p + 18) (p + 22) (omega arith))
 
   -- ---- the whole
   connection-if : (p : ℕ) → length (optional (connectionLine (bytesOf t)) (marked connectionOf a p)) ≤ connectionRoom a (p + 2)
@@ -186,7 +181,6 @@ module _ (t a : List ℕ) (byte : (i : ℕ) → getD a i 0 < 256) where
         string-if 0x69 descriptionAt (descriptionAt + 4) refl,
         string-if 0x75 uriAt (uriAt + 4) refl,
         connection-if connectionAt,
-        key-if keyAt (keyAt + 2) refl,
         times-most (timesIn a),
         rows-most timeCost timeOf a 16 45 time-line (num 2 a timesAt) (timesAt + 2),
         rows-most repeatCost repeatOf a 18 47 repeat-line (num 2 a repeatsAt) (repeatsAt + 2),
@@ -197,7 +191,7 @@ module _ (t a : List ℕ) (byte : (i : ℕ) → getD a i 0 < 256) where
         rows-room (λ x. length (stringLine (bytesOf t) 0x70 x)) spanOf a 4 (rowRoom a Plain) (string-line 0x70) (num 2 a phonesAt) (phonesAt + 2),
         rows-room (connectionCost (bytesOf t)) mediaConnectionOf a 14 (rowRoom a Connection) (λ p. connection-line (p + 2)) (num 2 a connectionsAt) (connectionsAt + 2),
         rows-room (bandwidthCost (bytesOf t)) bandwidthOf a 14 (rowRoom a Bandwidth) bandwidth-line (num 2 a bandwidthsAt) (bandwidthsAt + 2),
-        rows-room (attributeCost (bytesOf t)) attributeOf a 12 (rowRoom a Attribute) (λ p. pair-line 0x61 (p + 2) (p + 6) (omega arith)) (num 2 a attributesAt) (attributesAt + 2),
+        rows-room (attributeCost (bytesOf t)) attributeOf a 12 (rowRoom a Attribute) attribute-line (num 2 a attributesAt) (attributesAt + 2),
         rows-room (mediaCost (bytesOf t)) mediaOf a 36 (rowRoom a Media) media-lines (num 2 a mediasAt) (mediasAt + 2),
       )
 

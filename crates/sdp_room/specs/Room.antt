@@ -3,7 +3,7 @@
 use Prim.Native.Nat.{ℕ, zero, suc, _+_, _*_}
 use mathlib.Core.List.{List}
 use Rattle.sdp_cells.specs.Bytes.{num}
-use Rattle.sdp_area.specs.Area.{originAt, nameAt, descriptionAt, uriAt, connectionAt, keyAt}
+use Rattle.sdp_area.specs.Area.{originAt, nameAt, descriptionAt, uriAt, connectionAt}
 use Rattle.sdp_area.specs.Area.{emailsAt, phonesAt, connectionsAt, bandwidthsAt, timesAt, repeatsAt, offsetsAt, zonesAt, attributesAt, mediasAt}
 use Rattle.sdp_valid.specs.declared.Row.{Row}
 use Rattle.sdp_valid.specs.declared.Row.the-variants.{Plain, Connection, Bandwidth, Attribute, Media}
@@ -18,20 +18,16 @@ module _ (a : List ℕ) where
   unfoldable pub connectionRoom : ℕ → ℕ
   connectionRoom p = 6 + (num 2 a (p + 2) + num 2 a (p + 6) + num 2 a (p + 10))
 
-  -- a k or an a line: a name, a colon, a value
-  unfoldable pub pairRoom : ℕ → ℕ
-  pairRoom p = 5 + (num 2 a (p + 2) + num 2 a (p + 8))
-
-  -- an m line, with 3 spaces, a slash and 2 numbers; its i and k lines
+  -- an m line, with 3 spaces, a slash and 2 numbers; its i line
   unfoldable pub mediaRoom : ℕ → ℕ
-  mediaRoom p = 52 + (num 2 a (p + 2) + num 2 a (p + 12) + num 2 a (p + 16) + num 2 a (p + 22)) + pairRoom (p + 26)
+  mediaRoom p = 52 + (num 2 a (p + 2) + num 2 a (p + 12) + num 2 a (p + 16) + num 2 a (p + 22))
 
-  -- a row of each kind; a b line has a colon and a number
+  -- a row of each kind; a b line has a colon and a number, an a line a name, a colon and a value
   abbrev pub rowRoom : Row → ℕ → ℕ
   rowRoom Plain p = 4 + num 2 a (p + 2)
   rowRoom Connection p = connectionRoom (p + 2)
   rowRoom Bandwidth p = 25 + num 2 a (p + 4)
-  rowRoom Attribute p = pairRoom (p + 2)
+  rowRoom Attribute p = 5 + (num 2 a (p + 4) + num 2 a (p + 10))
   rowRoom Media p = mediaRoom p
 
   -- the rows of the table at base
@@ -42,14 +38,13 @@ module _ (a : List ℕ) where
   unfoldable pub originRoom : ℕ → ℕ
   originRoom p = 30 + (num 2 a (p + 4) + num 2 a (p + 8) + num 2 a (p + 20) + num 2 a (p + 24) + num 2 a (p + 28))
 
-  -- v, o, s, i, u, c, k
+  -- v, o, s, i, u, c
   unfoldable pub headRoom : ℕ
   headRoom =
       17
       + originRoom (originAt + 2)
       + (num 2 a (nameAt + 2) + num 2 a (descriptionAt + 4) + num 2 a (uriAt + 4))
       + connectionRoom (connectionAt + 2)
-      + pairRoom (keyAt + 2)
 
   -- t, r with its offsets, z: numbers only. 11 bytes of `t=0 0` and of the z line
   unfoldable pub timesRoom : ℕ

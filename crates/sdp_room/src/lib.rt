@@ -1,14 +1,13 @@
 // Room that is enough for what is written of an area, found without writing it.
 ghost use mathlib.Core.Path.{_≡_};
 ghost use Prim.Native.Nat.{_<_};
-ghost use Rattle.sdp_room.specs.Room.{connectionRoom, pairRoom, mediaRoom, rowRoom, rowsRoom, originRoom, headRoom, timesRoom, tablesRoom, roomFor};
+ghost use Rattle.sdp_room.specs.Room.{connectionRoom, mediaRoom, rowRoom, rowsRoom, originRoom, headRoom, timesRoom, tablesRoom, roomFor};
 use sdp_area::ATTRIBUTES;
 use sdp_area::BANDWIDTHS;
 use sdp_area::CONNECTION;
 use sdp_area::CONNECTIONS;
 use sdp_area::DESCRIPTION;
 use sdp_area::EMAILS;
-use sdp_area::KEY;
 use sdp_area::MEDIAS;
 use sdp_area::NAME;
 use sdp_area::OFFSETS;
@@ -28,22 +27,12 @@ fn connection_room(area: &[u8], p: usize) -> usize
     6 + (num2(area, p + 2) + num2(area, p + 6) + num2(area, p + 10))
 }
 
-// A k or an a line.
-fn pair_room(area: &[u8], p: usize) -> usize
-    requires { ⌜ p < 3800000 ⌝ }
-    ensures { λ r. ⌜ (r ≡ pairRoom (now (area .entry)) p) × (r < 132000) ⌝ }
-{
-    5 + (num2(area, p + 2) + num2(area, p + 8))
-}
-
-// An m line with its title and its key.
+// An m line with its title.
 fn media_room(area: &[u8], p: usize) -> usize
     requires { ⌜ p < 3700000 ⌝ }
     ensures { λ r. ⌜ (r ≡ mediaRoom (now (area .entry)) p) × (r < 400000) ⌝ }
 {
-    52
-        + (num2(area, p + 2) + num2(area, p + 12) + num2(area, p + 16) + num2(area, p + 22))
-        + pair_room(area, p + 26)
+    52 + (num2(area, p + 2) + num2(area, p + 12) + num2(area, p + 16) + num2(area, p + 22))
 }
 
 fn row_room(area: &[u8], row: Row, p: usize) -> usize
@@ -54,7 +43,7 @@ fn row_room(area: &[u8], row: Row, p: usize) -> usize
         Row::Plain => 4 + num2(area, p + 2),
         Row::Connection => connection_room(area, p + 2),
         Row::Bandwidth => 25 + num2(area, p + 4),
-        Row::Attribute => pair_room(area, p + 2),
+        Row::Attribute => 5 + (num2(area, p + 4) + num2(area, p + 10)),
         Row::Media => media_room(area, p),
     }
 }
@@ -96,7 +85,6 @@ fn head_room(area: &[u8]) -> usize
         + origin_room(area, ORIGIN + 2)
         + (num2(area, NAME + 2) + num2(area, DESCRIPTION + 4) + num2(area, URI + 4))
         + connection_room(area, CONNECTION + 2)
-        + pair_room(area, KEY + 2)
 }
 
 // The tables of numbers.

@@ -1,4 +1,5 @@
--- Document 01, "Writing": the written form of a session, a concatenation of lines in the crate's order. str gives the bytes of a string.
+-- Document 01, "Writing", and document 02, P4: the written form of a session, a concatenation of lines in the crate's order. Keys are never
+-- written. str gives the bytes of a string.
 use Prim.Native.Nat.{ℕ, _+_, _-_, _^_}
 use mathlib.Core.Bool.{cond}
 use mathlib.Core.List.{List, [], _∷_, _++_}
@@ -8,7 +9,7 @@ use lib.Dec.{leb, eqb}
 use Rattle.sdp_put.specs.Digits.{digits, timeText, offsetText}
 use Rattle.sdp_put.specs.Strings.{clean}
 use Rattle.sdp_decode.specs.Rows.{each, mine}
-use Rattle.sdp_area.specs.Session.{Origin, Connection, Key, MediaConnection, Bandwidth, Time, Repeat, Offset, Zone, Attribute, Media, Head, Tables, Session}
+use Rattle.sdp_area.specs.Session.{Origin, Connection, MediaConnection, Bandwidth, Time, Repeat, Offset, Zone, Attribute, Media, Head, Tables, Session}
 
 -- "Every line ends CR LF."
 abbrev pub ending : List ℕ
@@ -116,13 +117,9 @@ module _ {S : Type 0} (str : S → List ℕ) where
   unfoldable pub bandwidthLine : Bandwidth S → List ℕ
   bandwidthLine b = line 0x62 (text (b .bwtype) ++ ((0x3a ∷ []) ++ digits (b .bandwidth)))
 
-  -- k and a: name or name:value; `a=note:` and `a=note` differ
-  unfoldable pub pairLine : ℕ → S → Option S → List ℕ
-  pairLine letter name value = line letter (text name ++ optional (λ x. (0x3a ∷ []) ++ text x) value)
-
-  -- the k line
-  abbrev pub keyLine : Key S → List ℕ
-  keyLine k = pairLine 0x6b (k .method) (k .encryptionKey)
+  -- name or name:value; `a=note:` and `a=note` differ
+  unfoldable pub attributeLine : Attribute S → List ℕ
+  attributeLine a = line 0x61 (text (a .attribute) ++ optional (λ x. (0x3a ∷ []) ++ text x) (a .value))
 
   -- the lines of the owner n: 0 is the session
   abbrev pub bandwidthsOf : List (Bandwidth S) → ℕ → List ℕ
@@ -130,7 +127,7 @@ module _ {S : Type 0} (str : S → List ℕ) where
 
   -- a lines
   abbrev pub attributesOf : List (Attribute S) → ℕ → List ℕ
-  attributesOf xs n = each (λ k x. mine n (x .owner) (pairLine 0x61 (x .attribute) (x .value))) 1 xs
+  attributesOf xs n = each (λ k x. mine n (x .owner) (attributeLine x)) 1 xs
 
   -- c lines of a media
   abbrev pub connectionsOf : List (MediaConnection S) → ℕ → List ℕ
@@ -145,14 +142,13 @@ module _ {S : Type 0} (str : S → List ℕ) where
       ++ (optional (λ n. (0x2f ∷ []) ++ digits n) (m .numPorts)
       ++ (spaced (text (m .proto)) ++ spaced (text (m .fmt))))))
 
-  -- "each media: m, i, c, b, k, a"
+  -- "each media: m, i, c, b, k, a", without its key
   unfoldable pub mediaLines : Tables S → ℕ → Media S → List ℕ
   mediaLines s n m =
       mediaLine m
       ++ (optional (stringLine 0x69) (m .mediaTitle)
       ++ (connectionsOf (s .connections) n
-      ++ (bandwidthsOf (s .bandwidths) n
-      ++ (optional keyLine (m .key) ++ attributesOf (s .attributes) n))))
+      ++ (bandwidthsOf (s .bandwidths) n ++ attributesOf (s .attributes) n)))
 
   -- v, o, s, i, u
   unfoldable pub headLines : Head S → List ℕ
@@ -171,13 +167,11 @@ module _ {S : Type 0} (str : S → List ℕ) where
       ++ (bandwidthsOf (s .tables .bandwidths) 0
       ++ timesLines (s .tables .repeats) (s .tables .offsets) (s .tables .times))))
 
-  -- z, k, a
+  -- z, a
   unfoldable pub closingLines : Session S → List ℕ
-  closingLines s =
-      zonesLine (s .tables .zones)
-      ++ (optional keyLine (s .head .key) ++ attributesOf (s .tables .attributes) 0)
+  closingLines s = zonesLine (s .tables .zones) ++ attributesOf (s .tables .attributes) 0
 
-  -- "Order: v, o, s, i, u, e, p, c, b, each t with its r lines, z, k, a; each media"
+  -- "Order: v, o, s, i, u, e, p, c, b, each t with its r lines, z, k, a; each media", a k line "never written"
   unfoldable pub written : Session S → List ℕ
   written s =
       headLines (s .head)

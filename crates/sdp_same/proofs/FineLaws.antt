@@ -22,7 +22,7 @@ use Rattle.sdp_split.specs.Split.{part, wordAt, firstPiece, pieceAfter, restAft
 use Rattle.sdp_judge.specs.Read as field-read
 use Rattle.sdp_judge.specs.Read.{Read, got, refused, andThen, encoding, format, textOf, tokenOf, amountOf, numberOf, timeOf, choiceOf, absent, afterText, afterAmount, afterChoice, ending, wholeOf}
 use Rattle.sdp_fields.specs.Records as records
-use Rattle.sdp_fields.specs.Records.{usernameOf, addressOf, originOf, connectionOf, bandwidthOf, timesOf, pairOf}
+use Rattle.sdp_fields.specs.Records.{usernameOf, addressOf, originOf, connectionOf, bandwidthOf, timesOf, attributeOf}
 use Rattle.sdp_media_line.specs.MediaLine
 use Rattle.sdp_media_line.specs.MediaLine.{portNumber, portOf, afterPort, mediaOf}
 use Rattle.sdp_judge.specs.Offset as signed-offset
@@ -32,7 +32,6 @@ use Rattle.sdp_lists.specs.Lists.{repeatHead, RepeatLine, numbered, offsetsOf, 
 use Rattle.sdp_split.specs.declared.Piece.{Piece}
 use Rattle.sdp_judge.specs.declared.MaybePiece.{MaybePiece}
 use Rattle.sdp_media_line.specs.declared.MaybeNumber.{MaybeNumber}
-use Rattle.sdp_fields.specs.declared.Pair.{Pair}
 use Rattle.sdp_media_line.specs.declared.Port.{Port}
 use Rattle.sdp_judge.specs.declared.Wrong.{Wrong}
 use Rattle.sdp_split.specs.declared.Field.{Field}
@@ -41,8 +40,8 @@ use Rattle.sdp_judge.specs.declared.Text.the-variants as text
 use Rattle.sdp_judge.specs.declared.Choice.the-variants as choice
 use Rattle.sdp_split.proofs.SplitLaws.{word-within, first-within, after-within, rest-within}
 use Rattle.sdp_number.proofs.NumberLaws.{number-below}
-use Rattle.sdp_step.specs.Step.{maybeIn, originIn, connectionIn, keyIn, attributeIn, bandwidthIn, portsIn, mediaIn, timeIn, zoneIn}
-use Rattle.sdp_same.specs.Fits.{IfGiven, Each, FitOrigin, FitConnection, FitKey, FitBandwidth, FitAttribute, FitMedia, FitTime, FitZone}
+use Rattle.sdp_step.specs.Step.{maybeIn, originIn, connectionIn, attributeIn, bandwidthIn, portsIn, mediaIn, timeIn, zoneIn}
+use Rattle.sdp_same.specs.Fits.{IfGiven, Each, FitOrigin, FitConnection, FitBandwidth, FitAttribute, FitMedia, FitTime, FitZone}
 use Rattle.sdp_same.proofs.TokenLaws.{token-utf8}
 
 -- a piece of v that is UTF-8
@@ -272,18 +271,11 @@ module _ (v : List ℕ) (mk : Piece → Span) (P : Span → Type 0) (fine : (p :
       of-text _ 12 v (firstPiece 0x3a v) (first-within 0x3a v) _ (λ kind i k.
       of-number _ 13 v (pieceAfter 0x3a v i) _ (λ n e l. gives-end _ 14 (pieceAfter 0x3a v e) (got _) (record { owner = small; bwtype = fine kind k; bandwidth = l })))
 
-  -- a name, and a value that may be absent, as any Q that they make
-  of-pair : (Q : Pair → Type 0) → ((p : Pair) → P (mk (p .name)) → IfGiven P (maybeIn mk (p .value)) → Q p) → (w x : ℕ) → Gives Q (pairOf w x v)
-  unfolding records.pairOf
-  of-pair Q h w x =
-      of-text _ w v (firstPiece 0x3a v) (first-within 0x3a v) _ (λ name e n.
-      of-choice _ x v (restAfter v e) (rest-within v e) _ (λ value m. h (record { name = name; value = value }) (fine name n) (maybe-fit value m)))
-
-  pub key-fit : Gives (λ p. FitKey P (keyIn mk p)) (pairOf 25 26 v)
-  key-fit = of-pair _ (λ p n m. record { method = n; encryptionKey = m }) 25 26
-
-  pub attribute-fit : (owner : ℕ) → owner < 65536 → Gives (λ p. FitAttribute P (attributeIn mk owner p)) (pairOf 23 24 v)
-  attribute-fit owner small = of-pair _ (λ p n m. record { owner = small; attribute = n; value = m }) 23 24
+  pub attribute-fit : (owner : ℕ) → owner < 65536 → Gives (λ a. FitAttribute P (attributeIn mk owner a)) (attributeOf v)
+  unfolding records.attributeOf
+  attribute-fit owner small =
+      of-text _ 23 v (firstPiece 0x3a v) (first-within 0x3a v) _ (λ name e n.
+      of-choice _ 24 v (restAfter v e) (rest-within v e) _ (λ value m. record { owner = small; attribute = fine name n; value = maybe-fit value m }))
 
   ports-fit : (m : MaybeNumber) → m .value < 65536 → IfGiven (λ n. n < 65536) (portsIn mk m)
   ports-fit m h = go (m .there)

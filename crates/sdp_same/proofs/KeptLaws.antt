@@ -9,23 +9,23 @@ use lib.Dec.{ltb, leb, eqb, lit<}
 use lib.ListN.{length, length-append, length-map}
 use Rattle.sdp_lines.specs.declared.Span.{Span}
 use Rattle.sdp_judge.specs.Read.{Read, got, refused, wholeOf}
-use Rattle.sdp_fields.specs.Records.{originOf, connectionOf, bandwidthOf, timesOf, pairOf}
+use Rattle.sdp_fields.specs.Records.{originOf, connectionOf, bandwidthOf, timesOf, attributeOf}
 use Rattle.sdp_media_line.specs.MediaLine.{mediaOf}
 use Rattle.sdp_lists.specs.Lists.{RepeatLine, repeatOf, zonesOf}
 use Rattle.sdp_split.specs.declared.Piece.{Piece}
 use Rattle.sdp_area.specs.Session.{MediaConnection, Bandwidth, Repeat, Offset, Attribute, Media, Head, Tables, Session}
-use Rattle.sdp_area.specs.With.{withMedias, titled, keyed, withLast}
-use Rattle.sdp_area.specs.Latest.{given, lastTitled, lastKeyed}
+use Rattle.sdp_area.specs.With.{withMedias, titled, withLast}
+use Rattle.sdp_area.specs.Latest.{given, lastTitled}
 use Rattle.sdp_step.proofs.OnceLaws.{length-last}
 use Rattle.sdp_roles.specs.Roles as roles
 use Rattle.sdp_roles.specs.Roles.{beforeMedia, fromMedia}
 use Rattle.sdp_step.specs.Step as steps
-use Rattle.sdp_step.specs.Step.{Reading, Stepped, goes, stops, once, row, keyIn, mediaIn, zoneIn, repeated, zonesTaken, stepRole, step}
+use Rattle.sdp_step.specs.Step.{Reading, Stepped, goes, stops, once, row, mediaIn, zoneIn, repeated, zonesTaken, stepRole, step}
 use Rattle.sdp_roles.specs.declared.Role.{Role}
 use Rattle.sdp_roles.specs.declared.Role.the-variants as role
 use Rattle.sdp_same.specs.Fits.{Rows, FitMedia, FitOffset, FitHead, FitTables}
 use Rattle.sdp_same.specs.Sound.{Owned, Sound}
-use Rattle.sdp_same.proofs.FineLaws.{Fine, Gives, FitLine, time-fit, repeat-fit, zones-fit, whole-fine, origin-fit, connection-fit, bandwidth-fit, key-fit, attribute-fit, media-fit}
+use Rattle.sdp_same.proofs.FineLaws.{Fine, Gives, FitLine, time-fit, repeat-fit, zones-fit, whole-fine, origin-fit, connection-fit, bandwidth-fit, attribute-fit, media-fit}
 use Rattle.sdp_same.proofs.RowLaws.{each-map, rows-append, rows-more, rows-last, rising-more, rising-append}
 
 -- Q of what goes on; what stops has a number that is not 0
@@ -101,10 +101,6 @@ module _ (v : List ℕ) (mk : Piece → Span) (P : Span → Type 0) (fine : (p :
   unfolding steps.stepRole
   connection-kept = once-goes Kept _ 16 (lit< tt) (given (s .head .connection)) (connectionOf v) (connection-fit v mk P fine) _ (λ c f. head-kept _ (record { origin = H .origin; name = H .name; description = H .description; uri = H .uri; connection = f; key = H .key }))
 
-  key-kept : Keeps role.Key
-  unfolding steps.stepRole
-  key-kept = once-goes Kept _ 19 (lit< tt) (given (s .head .key)) (pairOf 25 26 v) (key-fit v mk P fine) _ (λ p f. head-kept _ (record { origin = H .origin; name = H .name; description = H .description; uri = H .uri; connection = H .connection; key = f }))
-
   -- ---- tables without owners
   emails-kept : Keeps role.Email
   unfolding steps.stepRole
@@ -145,7 +141,7 @@ module _ (v : List ℕ) (mk : Piece → Span) (P : Span → Type 0) (fine : (p :
   attributes-kept : Keeps role.Attribute
   unfolding steps.stepRole
   attributes-kept =
-      row-goes Kept _ 9 512 _ (pairOf 23 24 v) (attribute-fit v mk P fine _ small) _ (λ p f room.
+      row-goes Kept _ 9 512 _ (attributeOf v) (attribute-fit v mk P fine _ small) _ (λ x f room.
       tables-kept _
       (record { emails = T .emails; phones = T .phones; connections = T .connections; bandwidths = T .bandwidths; times = T .times; repeats = T .repeats; offsets = T .offsets; zones = T .zones; attributes = rows-more _ 512 (s .tables .attributes) (T .attributes) _ f room; medias = T .medias })
       (record { connections = O .connections; bandwidths = O .bandwidths; repeats = O .repeats; offsets = O .offsets; attributes = rising-append (λ (a : Attribute Span). a .owner) _ (s .tables .attributes) 0 (omega arith) (O .attributes) _ (refl, tt) }))
@@ -208,12 +204,6 @@ module _ (v : List ℕ) (mk : Piece → Span) (P : Span → Type 0) (fine : (p :
       once-goes Kept _ 18 (lit< tt) (lastTitled (s .tables .medias)) (wholeOf 33 v) (whole-fine 33 v) _ (λ p f.
       last-kept (titled (mk p)) (λ m g. record { media = g .media; port = g .port; numPorts = g .numPorts; proto = g .proto; fmt = g .fmt; mediaTitle = fine p f; key = g .key }))
 
-  media-key-kept : Keeps role.MediaKey
-  unfolding steps.stepRole
-  media-key-kept =
-      once-goes Kept _ 19 (lit< tt) (lastKeyed (s .tables .medias)) (pairOf 25 26 v) (key-fit v mk P fine) _ (λ p f.
-      last-kept (keyed (keyIn mk p)) (λ m g. record { media = g .media; port = g .port; numPorts = g .numPorts; proto = g .proto; fmt = g .fmt; mediaTitle = g .mediaTitle; key = f }))
-
   nothing-kept : Keeps role.Nothing
   unfolding steps.stepRole
   nothing-kept = sound
@@ -237,9 +227,8 @@ module _ (v : List ℕ) (mk : Piece → Span) (P : Span → Type 0) (fine : (p :
       (pick (eqb l 0x74) role.Time _ times-kept
       (pick (eqb l 0x72) role.Repeat _ repeats-kept
       (pick (eqb l 0x7a) role.Zone _ zones-kept
-      (pick (eqb l 0x6b) role.Key _ key-kept
       (pick (eqb l 0x61) role.Attribute _ attributes-kept
-      (pick (eqb l 0x6d) role.Media role.Nothing media-kept nothing-kept)))))))))))))
+      (pick (eqb l 0x6d) role.Media role.Nothing media-kept nothing-kept))))))))))))
 
   from-kept : 1 ≤ length (s .tables .medias) → (l : ℕ) → Keeps (fromMedia l)
   unfolding roles.fromMedia
@@ -248,8 +237,7 @@ module _ (v : List ℕ) (mk : Piece → Span) (P : Span → Type 0) (fine : (p :
       (pick (eqb l 0x69) role.MediaTitle _ title-kept
       (pick (eqb l 0x63) role.MediaConnection _ (connections-kept some)
       (pick (eqb l 0x62) role.Bandwidth _ bandwidths-kept
-      (pick (eqb l 0x6b) role.MediaKey _ media-key-kept
-      (pick (eqb l 0x61) role.Attribute role.Nothing attributes-kept nothing-kept)))))
+      (pick (eqb l 0x61) role.Attribute role.Nothing attributes-kept nothing-kept))))
 
   pub line-kept : (l : ℕ) → Goes Kept (step mk ρ v l)
   line-kept l = go (eqb (length (s .tables .medias)) 0) refl

@@ -25,7 +25,7 @@ use Rattle.sdp_unfit.proofs.UnfitLaws.{fit}
 use Rattle.sdp_write.specs.Write as writer
 use Rattle.sdp_write.specs.Write.{Outcome, textOf, fill, writeText}
 use Rattle.sdp_same.specs.Fits.{nameOf, named}
-use Rattle.sdp_same.specs.Sound.{FineIn}
+use Rattle.sdp_same.specs.Sound.{FineIn, Sound}
 use Rattle.sdp_same.specs.Same.{ReadThenWritten, filled}
 use Rattle.sdp_same.proofs.DecodeLaws.{decode-encode}
 use Rattle.sdp_same.proofs.SoundLaws.{read-sound, refusal-number}
@@ -80,19 +80,19 @@ module _ (t a : List ℕ) where
       go false true p q n = absurd (let z : _≡_ {A = ℕ} 1 0 = n in omega arith)
       go false false p q n = (ltb-false 32768 (length t) q, ltb-false (length a) size p)
 
--- ---- and what writing makes of it
-module _ (t : List ℕ) (short : length t ≤ 32768) (s : Session Span) (read : lines spanAt t ≡ accepted s) where
+-- ---- and what writing makes of a sound session
+module _ (t : List ℕ) (short : length t ≤ 32768) (s : Session Span) (sound : Sound (FineIn t) s) where
   text-is : (x : List ℕ) → textOf t (encode s ++ x) ≡ written (bytesOf t) s
-  text-is x = ap (written (bytesOf t)) (decode-encode (FineIn t) (fine-room t short) s (read-sound t s read .fits) x) ∙ written-same t s
+  text-is x = ap (written (bytesOf t)) (decode-encode (FineIn t) (fine-room t short) s (sound .fits) x) ∙ written-same t s
 
-  write-is : (x o : List ℕ) → writeText t (encode s ++ x) o ≡ fill (written (bytesOf t) s) o
+  pub write-is : (x o : List ℕ) → writeText t (encode s ++ x) o ≡ fill (written (bytesOf t) s) o
   unfolding writer.writeText
   write-is x o =
       let l : size ≤ length (encode s ++ x) = omega (arith, length-append (encode s) x, length-encode s) in
-      rw (fit t (encode s ++ x) l short (well-formed t short s (read-sound t s read) x), text-is x)
+      rw (fit t (encode s ++ x) l short (well-formed t short s sound x), text-is x)
 
-  accepted-written : (a o : List ℕ) → size ≤ length a → ReadThenWritten t a o
-  accepted-written a o h =
+  accepted-written : lines spanAt t ≡ accepted s → (a o : List ℕ) → size ≤ length a → ReadThenWritten t a o
+  accepted-written read a o h =
       let left = read-is t a short h (accepted s) read in
       let e : writeText t (readText t a .area) o ≡ fill (written (bytesOf t) s) o = ap (λ r. writeText t (r .area) o) left ∙ write-is (drop size a) o in
       record {
@@ -108,7 +108,7 @@ pub read-then-write : (t a o : List ℕ) → readText t a .answer .number ≡ 0 
 read-then-write t a o h = go (lines spanAt t) refl (read-fits t a h)
   where
     go : (r : Verdict Span) → lines spanAt t ≡ r → (length t ≤ 32768) × (size ≤ length a) → ReadThenWritten t a o
-    go (accepted s) e f = accepted-written t (f .0) s e a o (f .1)
+    go (accepted s) e f = accepted-written t (f .0) s (read-sound t s e) e a o (f .1)
     go (refused x) e f =
         let z : x .number ≡ 0 = sym (ap (λ y. y .answer .number) (read-is t a (f .0) (f .1) (refused x) e)) ∙ h in
         absurd (omega (arith, refusal-number t x e))

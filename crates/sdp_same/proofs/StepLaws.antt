@@ -7,7 +7,7 @@ use mathlib.Core.Option.{Option, none, some, Option·map}
 use lib.Dec.{ltb, leb, eqb}
 use lib.ListN.{length, length-map}
 use Rattle.sdp_judge.specs.Read.{Read, got, refused, wholeOf}
-use Rattle.sdp_fields.specs.Records.{originOf, connectionOf, bandwidthOf, timesOf, pairOf}
+use Rattle.sdp_fields.specs.Records.{originOf, connectionOf, bandwidthOf, timesOf, attributeOf}
 use Rattle.sdp_media_line.specs.MediaLine.{mediaOf}
 use Rattle.sdp_lists.specs.Lists.{RepeatLine, repeatOf, zonesOf}
 use Rattle.sdp_split.specs.Split.{Inside}
@@ -15,22 +15,21 @@ use Rattle.sdp_split.specs.declared.Piece.{Piece}
 use Rattle.sdp_judge.specs.declared.MaybePiece.{MaybePiece}
 use Rattle.sdp_fields.specs.declared.Origin as origin
 use Rattle.sdp_fields.specs.declared.Connection as connection
-use Rattle.sdp_fields.specs.declared.Pair.{Pair}
 use Rattle.sdp_media_line.specs.declared.Media as media
-use Rattle.sdp_fields.proofs.BoundLaws.{OriginInside, origin-within, ConnectionInside, connection-within, PairInside, pair-within, bandwidth-within}
+use Rattle.sdp_fields.proofs.BoundLaws.{OriginInside, origin-within, ConnectionInside, connection-within, attribute-within, bandwidth-within}
 use Rattle.sdp_media_line.proofs.BoundLaws.{MediaInside, media-within}
 use Rattle.sdp_judge.proofs.EveryLaws.{Every, whole-within}
 use Rattle.sdp_area.specs.Session.{Media, Session}
 use Rattle.sdp_area.specs.With as change
-use Rattle.sdp_area.specs.With.{withOrigin, withName, withDescription, withUri, withConnection, withKey, withEmails, withPhones, withConnections, withBandwidths, withZones, withAttributes, withMedias, setLast, titled, keyed}
+use Rattle.sdp_area.specs.With.{withOrigin, withName, withDescription, withUri, withConnection, withEmails, withPhones, withConnections, withBandwidths, withZones, withAttributes, withMedias, setLast, titled}
 use Rattle.sdp_area.specs.Latest as latest
 use Rattle.sdp_area.specs.Latest.{given, lastGiven}
 use Rattle.sdp_step.specs.Step as steps
-use Rattle.sdp_step.specs.Step.{Reading, Stepped, goes, stops, once, row, maybeIn, originIn, connectionIn, keyIn, mediaIn, zoneIn, repeated, zonesTaken, stepRole, step}
+use Rattle.sdp_step.specs.Step.{Reading, Stepped, goes, stops, once, row, maybeIn, originIn, connectionIn, mediaIn, zoneIn, repeated, zonesTaken, stepRole, step}
 use Rattle.sdp_roles.specs.Roles.{roleAt}
 use Rattle.sdp_roles.specs.declared.Role.{Role}
 use Rattle.sdp_roles.specs.declared.Role.the-variants as role
-use Rattle.sdp_same.specs.Said.{saidOrigin, saidConnection, saidKey, saidMediaConnection, saidBandwidth, saidAttribute, saidMedia, saidReading, saidStep}
+use Rattle.sdp_same.specs.Said.{saidOrigin, saidConnection, saidMediaConnection, saidBandwidth, saidAttribute, saidMedia, saidReading, saidStep}
 
 -- ---- lists and what may be absent
 given-said : {X Y : Type 0} (h : X → Y) (o : Option X) → given o ≡ given (Option·map h o)
@@ -94,9 +93,6 @@ module _ {S T : Type 0} (f : S → T) where
     connection-said c h = λ i.
         record { nettype = same (c .nettype) (h .nettype) i; addrtype = same (c .addrtype) (h .addrtype) i; connectionAddress = same (c .«connection_address») (h .address) i }
 
-    key-said : (p : Pair) → PairInside v p → saidKey f (keyIn mk p) ≡ keyIn mk′ p
-    key-said p h = λ i. record { method = same (p .name) (h .name) i; encryptionKey = maybe-said (p .value) (h .value) i }
-
     media-said : (m : media.Media) → MediaInside v m → saidMedia f (mediaIn mk m) ≡ mediaIn mk′ m
     media-said m h = λ i.
         record { media = same (m .media) (h .media) i; port = m .port; numPorts = steps.portsIn mk (m .«num_ports»); proto = same (m .proto) (h .proto) i; fmt = same (m .fmt) (h .fmt) i; mediaTitle = none; key = none }
@@ -128,14 +124,9 @@ module _ {S T : Type 0} (f : S → T) where
       step-said role.Zone =
           once-said 17 (ρ .zoned) _ refl (zonesOf v) (zonesTaken mk ρ v) (zonesTaken mk′ τ v)
           (λ zs q. room-said (leb (length zs) 64) 8 (record { session = withZones s (map zoneIn zs); zoned = true }) _ refl)
-      step-said role.Key =
-          once-said 19 _ _ (given-said (saidKey f) (s .head .key)) (pairOf 25 26 v) _ _ (λ p q. ap (λ y. goes (keep (withKey (τ .session) y))) (key-said p (pair-within 25 26 v p q)))
       step-said role.MediaTitle =
           once-said 18 _ _ (last-given-said (saidMedia f) (λ m. m .mediaTitle) (λ m. m .mediaTitle) (λ m. given-said f (m .mediaTitle)) (s .tables .medias)) (wholeOf 33 v) _ _
           (λ p q. ap (λ y. goes (keep (withMedias (τ .session) y))) (last-said (saidMedia f) (titled (mk p)) (titled (mk′ p)) (λ m. ap (λ y. titled y (saidMedia f m)) (same p (whole-within 33 v p q))) (s .tables .medias)))
-      step-said role.MediaKey =
-          once-said 19 _ _ (last-given-said (saidMedia f) (λ m. m .key) (λ m. m .key) (λ m. given-said (saidKey f) (m .key)) (s .tables .medias)) (pairOf 25 26 v) _ _
-          (λ p q. ap (λ y. goes (keep (withMedias (τ .session) y))) (last-said (saidMedia f) (keyed (keyIn mk p)) (keyed (keyIn mk′ p)) (λ m. ap (λ y. keyed y (saidMedia f m)) (key-said p (pair-within 25 26 v p q))) (s .tables .medias)))
       step-said role.Email =
           row-said 1 16 _ _ (sym (length-map (s .tables .emails) f)) (wholeOf 37 v) _ _
           (λ p q. ap (λ y. keep (withEmails (τ .session) y)) (snoc-said f (s .tables .emails) (mk p) (mk′ p) (same p (whole-within 37 v p q))))
@@ -162,9 +153,9 @@ module _ {S T : Type 0} (f : S → T) where
           go false (got r) = room (ltb (length (s .tables .repeats)) 64) (leb (length (s .tables .offsets) + length (r .offsets)) 256) _
           go false (refused w) = refl
       step-said role.Attribute =
-          row-said 9 512 _ _ (sym (length-map (s .tables .attributes) (saidAttribute f))) (pairOf 23 24 v) _ _
-          (λ p q. ap (λ y. keep (withAttributes (τ .session) y))
-          (snoc-said (saidAttribute f) (s .tables .attributes) _ _ (λ i. record { owner = owner-said i; attribute = same (p .name) (pair-within 23 24 v p q .name) i; value = maybe-said (p .value) (pair-within 23 24 v p q .value) i })))
+          row-said 9 512 _ _ (sym (length-map (s .tables .attributes) (saidAttribute f))) (attributeOf v) _ _
+          (λ a q. ap (λ y. keep (withAttributes (τ .session) y))
+          (snoc-said (saidAttribute f) (s .tables .attributes) _ _ (λ i. record { owner = owner-said i; attribute = same (a .attribute) (attribute-within v a q .attribute) i; value = maybe-said (a .value) (attribute-within v a q .value) i })))
       step-said role.Media =
           row-said 10 32 _ _ owner-said (mediaOf v) _ _
           (λ m q. ap (λ y. keep (withMedias (τ .session) y)) (snoc-said (saidMedia f) (s .tables .medias) (mediaIn mk m) (mediaIn mk′ m) (media-said m (media-within v m q))))

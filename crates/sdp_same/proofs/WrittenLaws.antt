@@ -3,12 +3,12 @@ use Prim.Native.Nat.{ℕ, _+_}
 use mathlib.Core.Path.{_≡_, refl, ap}
 use mathlib.Core.List.{List, [], _∷_, _++_, map}
 use mathlib.Core.Option.{Option, none, some, Option·map}
-use Rattle.sdp_area.specs.Session.{Origin, Bandwidth, Key, MediaConnection, Attribute, Media, Head, Tables, Session}
+use Rattle.sdp_area.specs.Session.{Origin, Bandwidth, MediaConnection, Attribute, Media, Head, Tables, Session}
 use Rattle.sdp_decode.specs.Rows as rows
 use Rattle.sdp_decode.specs.Rows.{each, mine}
 use Rattle.sdp_row.specs.Written as form
-use Rattle.sdp_row.specs.Written.{line, text, zonesLine, optional, usernameText, originLine, nameLine, pairLine, stringLine, keyLine, bandwidthsOf, attributesOf, connectionsOf, mediaLine, mediaLines, headLines, contactLines, closingLines, written}
-use Rattle.sdp_same.specs.Said.{saidOrigin, saidConnection, saidKey, saidMediaConnection, saidBandwidth, saidAttribute, saidMedia, saidHead, saidTables, said}
+use Rattle.sdp_row.specs.Written.{line, text, zonesLine, optional, usernameText, originLine, nameLine, attributeLine, stringLine, bandwidthsOf, attributesOf, connectionsOf, mediaLine, mediaLines, headLines, contactLines, closingLines, written}
+use Rattle.sdp_same.specs.Said.{saidOrigin, saidConnection, saidMediaConnection, saidBandwidth, saidAttribute, saidMedia, saidHead, saidTables, said}
 
 behind : (a : List ℕ) {b b′ : List ℕ} → b ≡ b′ → a ++ b ≡ a ++ b′
 behind a q = λ i. a ++ q i
@@ -49,12 +49,9 @@ module _ {S : Type 0} (f : S → List ℕ) where
   string-said : (letter : ℕ) (o : Option S) → optional (stringLine f letter) o ≡ optional (stringLine id letter) (Option·map f o)
   string-said letter = optional-said f _ _ (λ x. refl)
 
-  pair-said : (letter : ℕ) (x : S) (o : Option S) → pairLine f letter x o ≡ pairLine id letter (f x) (Option·map f o)
-  unfolding form.pairLine
-  pair-said letter x o = ap (line letter) (behind (text f x) (optional-said f _ (λ y. (0x3a ∷ []) ++ text id y) (λ y. refl) o))
-
-  key-said : (o : Option (Key S)) → optional (keyLine f) o ≡ optional (keyLine id) (Option·map (saidKey f) o)
-  key-said = optional-said (saidKey f) _ _ (λ k. pair-said 0x6b (k .method) (k .encryptionKey))
+  attribute-said : (a : Attribute S) → attributeLine f a ≡ attributeLine id (saidAttribute f a)
+  unfolding form.attributeLine
+  attribute-said a = ap (line 0x61) (behind (text f (a .attribute)) (optional-said f _ (λ y. (0x3a ∷ []) ++ text id y) (λ y. refl) (a .value)))
 
   -- ---- the lines of an owner
   bandwidths-said : (bs : List (Bandwidth S)) (n : ℕ) → bandwidthsOf f bs n ≡ bandwidthsOf id (map (saidBandwidth f) bs) n
@@ -66,7 +63,7 @@ module _ {S : Type 0} (f : S → List ℕ) where
   connections-said cs n = each-said (saidMediaConnection f) _ _ (λ k c. refl) cs 1
 
   attributes-said : (xs : List (Attribute S)) (n : ℕ) → attributesOf f xs n ≡ attributesOf id (map (saidAttribute f) xs) n
-  attributes-said xs n = each-said (saidAttribute f) _ _ (λ k x. λ i. mine n (x .owner) (pair-said 0x61 (x .attribute) (x .value) i)) xs 1
+  attributes-said xs n = each-said (saidAttribute f) _ _ (λ k x. λ i. mine n (x .owner) (attribute-said x i)) xs 1
 
   -- ---- the parts
   media-said : (s : Tables S) (n : ℕ) (m : Media S) → mediaLines f s n m ≡ mediaLines id (saidTables f s) n (saidMedia f m)
@@ -75,7 +72,7 @@ module _ {S : Type 0} (f : S → List ℕ) where
       behind (mediaLine f m)
       (join (string-said 0x69 (m .mediaTitle))
       (join (connections-said (s .connections) n)
-      (join (bandwidths-said (s .bandwidths) n) (join (key-said (m .key)) (attributes-said (s .attributes) n)))))
+      (join (bandwidths-said (s .bandwidths) n) (attributes-said (s .attributes) n))))
 
   head-said : (h : Head S) → headLines f h ≡ headLines id (saidHead f h)
   unfolding form.headLines
@@ -92,7 +89,7 @@ module _ {S : Type 0} (f : S → List ℕ) where
 
   closing-said : (s : Session S) → closingLines f s ≡ closingLines id (said f s)
   unfolding form.closingLines
-  closing-said s = behind (zonesLine (s .tables .zones)) (join (key-said (s .head .key)) (attributes-said (s .tables .attributes) 0))
+  closing-said s = behind (zonesLine (s .tables .zones)) (attributes-said (s .tables .attributes) 0)
 
   -- the text of a session is the text of what its strings say
   pub written-said : (s : Session S) → written f s ≡ written (λ (b : List ℕ). b) (said f s)

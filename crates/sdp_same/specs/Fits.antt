@@ -44,7 +44,7 @@ pub record FitConnection (P : Span → Type 0) (c : Connection Span) : Type 0 wh
   pub addrtype : P (c .addrtype)
   pub connectionAddress : P (c .connectionAddress)
 
--- a k line
+-- a key
 pub record FitKey (P : Span → Type 0) (k : Key Span) : Type 0 where
   pub method : P (k .method)
   pub encryptionKey : IfGiven P (k .encryptionKey)

@@ -61,7 +61,7 @@ v-text = refl
 
 -- "Proved together as a single statement: those marked P."
 pub samples : Samples
-unfolding Runs.indexOf Ranges.fits Token.isToken Token.allToken Utf8.isUtf8 Utf8.utf8End Utf8.endFrom Utf8.charLen Number.allDigits Number.value Number.digitsBelow Number.dropPlus Number.numeral Number.wholeNumber Number.typedTime Lines.split Lines.chop Lines.content Lines.width Lines.hasNulOrCr Lines.plainForm Lines.formOf Split.spaces Split.wordAt Split.firstPiece Split.restAfter Split.wordsFrom Split.words Offset.offsetOf Records.addressOf Records.originOf Records.timesOf Records.pairOf Lists.repeatHead Lists.offsetsOf Lists.repeatOf Lists.pairsOf Lists.zonesOf Roles.beforeMedia Step.row Step.stepRole Run.run Run.begin Run.lines
+unfolding Runs.indexOf Ranges.fits Token.isToken Token.allToken Utf8.isUtf8 Utf8.utf8End Utf8.endFrom Utf8.charLen Number.allDigits Number.value Number.digitsBelow Number.dropPlus Number.numeral Number.wholeNumber Number.typedTime Lines.split Lines.chop Lines.content Lines.width Lines.hasNulOrCr Lines.plainForm Lines.formOf Split.spaces Split.wordAt Split.firstPiece Split.restAfter Split.wordsFrom Split.words Offset.offsetOf Records.addressOf Records.originOf Records.timesOf Records.attributeOf Lists.repeatHead Lists.offsetsOf Lists.repeatOf Lists.pairsOf Lists.zonesOf Roles.beforeMedia Step.row Step.stepRole Run.run Run.begin Run.lines
 samples = record {
   empty-text = refuses [] _ refl refl;
   v-accepted = accepts «V» _ refl refl;

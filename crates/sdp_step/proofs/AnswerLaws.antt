@@ -15,13 +15,13 @@ use Rattle.sdp_fields.specs.declared.Bandwidth.{Bandwidth}
 use Rattle.sdp_fields.specs.declared.BandwidthRead.the-variants as bandwidth
 use Rattle.sdp_fields.specs.declared.Time.{Time}
 use Rattle.sdp_fields.specs.declared.TimeRead.the-variants as time
-use Rattle.sdp_fields.specs.declared.Pair.{Pair}
-use Rattle.sdp_fields.specs.declared.PairRead.the-variants as pair
+use Rattle.sdp_fields.specs.declared.Attribute.{Attribute}
+use Rattle.sdp_fields.specs.declared.AttributeRead.the-variants as attribute
 use Rattle.sdp_media_line.specs.declared.Media.{Media}
 use Rattle.sdp_media_line.specs.declared.MediaRead.the-variants as media
 use Rattle.sdp_lists.specs.declared.RepeatHead.{RepeatHead}
 use Rattle.sdp_lists.specs.declared.RepeatRead.the-variants as repeat
-use Rattle.sdp_fields.specs.Answers.{originAnswer, connectionAnswer, bandwidthAnswer, timeAnswer, pairAnswer}
+use Rattle.sdp_fields.specs.Answers.{originAnswer, connectionAnswer, bandwidthAnswer, timeAnswer, attributeAnswer}
 use Rattle.sdp_media_line.specs.Answers.{mediaAnswer}
 use Rattle.sdp_lists.specs.Answers.{repeatAnswer}
 
@@ -65,13 +65,13 @@ pub time-refused : (r : Read Time) (w : Wrong) → timeAnswer r ≡ time.Refused
 time-refused (got y) w e = absurd (let z : _≡_ {A = ℕ} 0 1 = cc in omega arith)
 time-refused (refused x) w e = cc
 
-pub pair-got : (r : Read Pair) (x : Pair) → pairAnswer r ≡ pair.Got x → r ≡ got x
-pair-got (got y) x e = cc
-pair-got (refused w) x e = absurd (let z : _≡_ {A = ℕ} 0 1 = cc in omega arith)
+pub attribute-got : (r : Read Attribute) (x : Attribute) → attributeAnswer r ≡ attribute.Got x → r ≡ got x
+attribute-got (got y) x e = cc
+attribute-got (refused w) x e = absurd (let z : _≡_ {A = ℕ} 0 1 = cc in omega arith)
 
-pub pair-refused : (r : Read Pair) (w : Wrong) → pairAnswer r ≡ pair.Refused w → r ≡ refused w
-pair-refused (got y) w e = absurd (let z : _≡_ {A = ℕ} 0 1 = cc in omega arith)
-pair-refused (refused x) w e = cc
+pub attribute-refused : (r : Read Attribute) (w : Wrong) → attributeAnswer r ≡ attribute.Refused w → r ≡ refused w
+attribute-refused (got y) w e = absurd (let z : _≡_ {A = ℕ} 0 1 = cc in omega arith)
+attribute-refused (refused x) w e = cc
 
 pub media-got : (r : Read Media) (x : Media) → mediaAnswer r ≡ media.Got x → r ≡ got x
 media-got (got y) x e = cc

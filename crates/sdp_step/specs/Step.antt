@@ -20,16 +20,16 @@ use Rattle.sdp_fields.specs.declared.Origin as origin
 use Rattle.sdp_fields.specs.declared.Connection as connection
 use Rattle.sdp_fields.specs.declared.Bandwidth as bandwidth
 use Rattle.sdp_fields.specs.declared.Time as time
-use Rattle.sdp_fields.specs.declared.Pair.{Pair}
+use Rattle.sdp_fields.specs.declared.Attribute as attribute
 use Rattle.sdp_media_line.specs.declared.Media as media
 use Rattle.sdp_judge.specs.Read.{Read, got, refused, wholeOf}
-use Rattle.sdp_fields.specs.Records.{originOf, connectionOf, bandwidthOf, timesOf, pairOf}
+use Rattle.sdp_fields.specs.Records.{originOf, connectionOf, bandwidthOf, timesOf, attributeOf}
 use Rattle.sdp_media_line.specs.MediaLine.{mediaOf}
 use Rattle.sdp_lists.specs.Lists.{RepeatLine, repeatOf, zonesOf}
-use Rattle.sdp_area.specs.Session.{Origin, Connection, Key, MediaConnection, Bandwidth, Time, Repeat, Zone, Attribute, Media, Head, Tables, Session, empty}
-use Rattle.sdp_area.specs.With.{withOrigin, withName, withDescription, withUri, withConnection, withKey, withMedias, withLast, titled, keyed}
+use Rattle.sdp_area.specs.Session.{Origin, Connection, MediaConnection, Bandwidth, Time, Repeat, Zone, Attribute, Media, Head, Tables, Session, empty}
+use Rattle.sdp_area.specs.With.{withOrigin, withName, withDescription, withUri, withConnection, withMedias, withLast, titled}
 use Rattle.sdp_area.specs.With.{withEmails, withPhones, withConnections, withBandwidths, withTimes, withRepeats, withOffsets, withZones, withAttributes}
-use Rattle.sdp_area.specs.Latest.{given, lastTitled, lastKeyed}
+use Rattle.sdp_area.specs.Latest.{given, lastTitled}
 use Rattle.sdp_roles.specs.Roles.{roleAt}
 use Rattle.sdp_roles.specs.declared.Role.{Role}
 use Rattle.sdp_roles.specs.declared.Role.the-variants as role
@@ -82,11 +82,8 @@ module _ {S : Type 0} (mk : Piece → S) where
   abbrev pub mediaConnectionIn : ℕ → connection.Connection → MediaConnection S
   mediaConnectionIn n c = record { owner = n; connection = connectionIn c }
 
-  abbrev pub keyIn : Pair → Key S
-  keyIn p = record { method = mk (p .name); encryptionKey = maybeIn (p .value) }
-
-  abbrev pub attributeIn : ℕ → Pair → Attribute S
-  attributeIn n p = record { owner = n; attribute = mk (p .name); value = maybeIn (p .value) }
+  abbrev pub attributeIn : ℕ → attribute.Attribute → Attribute S
+  attributeIn n a = record { owner = n; attribute = mk (a .attribute); value = maybeIn (a .value) }
 
   abbrev pub bandwidthIn : ℕ → bandwidth.Bandwidth → Bandwidth S
   bandwidthIn n b = record { owner = n; bwtype = mk (b .bwtype); bandwidth = b .bandwidth }
@@ -136,7 +133,7 @@ repeatTaken ρ q ns =
 -- ---- the rules
 module _ {S : Type 0} (mk : Piece → S) (ρ : Reading S) (v : List ℕ) where
   open Reading ρ using (session as s, zoned)
-  open Head (s .head) using (origin, name, description, uri, connection, key)
+  open Head (s .head) using (origin, name, description, uri, connection)
   open Tables (s .tables) using (emails, phones, connections, bandwidths, times, attributes, medias)
 
   -- the session that goes on
@@ -181,14 +178,11 @@ module _ {S : Type 0} (mk : Piece → S) (ρ : Reading S) (v : List ℕ) where
   stepRole role.Time = add tables.times mostTimes times (timesOf v) timeIn (withTimes s)
   stepRole role.Repeat = cond (eqb (length times) 0) (stops refusals.repeatWithoutTime 0) (repeated (repeatOf v))
   stepRole role.Zone = once refusals.secondZones zoned (zonesOf v) zonesTaken
-  stepRole role.Key = set refusals.secondKey (given key) (pairOf fields.keyMethod fields.keyText v) (keyIn mk) (withKey s)
-  stepRole role.Attribute =
-      add tables.attributes mostAttributes attributes (pairOf fields.attribute fields.attributeValue v) (attributeIn mk section) (withAttributes s)
+  stepRole role.Attribute = add tables.attributes mostAttributes attributes (attributeOf v) (attributeIn mk section) (withAttributes s)
   stepRole role.Media = add tables.medias mostMedias medias (mediaOf v) (mediaIn mk) (withMedias s)
   stepRole role.MediaTitle = set refusals.secondTitle (lastTitled medias) (wholeOf fields.mediaTitle v) (λ p. titled (mk p)) (withLast s)
   stepRole role.MediaConnection =
       add tables.mediaConnections mostMediaConnections connections (connectionOf v) (mediaConnectionIn mk section) (withConnections s)
-  stepRole role.MediaKey = set refusals.secondKey (lastKeyed medias) (pairOf fields.keyMethod fields.keyText v) (λ p. keyed (keyIn mk p)) (withLast s)
   stepRole role.Nothing = goes ρ
 
   -- a line of good form with the letter l; "every other line is ignored, a later `v=` too"

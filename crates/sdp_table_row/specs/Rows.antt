@@ -4,7 +4,7 @@ use mathlib.Core.List.{List}
 use Rattle.sdp_lines.specs.Strings.{bytesOf}
 use Rattle.sdp_put.specs.Digits.{timeText}
 use Rattle.sdp_decode.specs.Decode.{spanOf, connectionOf, bandwidthOf, offsetOf, zoneOf, attributeOf}
-use Rattle.sdp_row.specs.Written.{spaced, stringLine, connectionLine, bandwidthLine, pairLine, zoneText}
+use Rattle.sdp_row.specs.Written.{spaced, stringLine, connectionLine, bandwidthLine, attributeLine, zoneText}
 use Rattle.sdp_table_row.specs.declared.Table.{Table}
 use Rattle.sdp_table_row.specs.declared.Table.the-variants.{Emails, Phones, Connections, Bandwidths, Offsets, Zones, Attributes}
 
@@ -16,4 +16,4 @@ rowText t a Connections k p = connectionLine (bytesOf t) (connectionOf a (p + 2)
 rowText t a Bandwidths k p = bandwidthLine (bytesOf t) (bandwidthOf a p)
 rowText t a Offsets k p = spaced (timeText (offsetOf a p .offset))
 rowText t a Zones k p = zoneText k (zoneOf a p)
-rowText t a Attributes k p = pairLine (bytesOf t) 0x61 (attributeOf a p .attribute) (attributeOf a p .value)
+rowText t a Attributes k p = attributeLine (bytesOf t) (attributeOf a p)

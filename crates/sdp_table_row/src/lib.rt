@@ -6,8 +6,8 @@ ghost use Rattle.sdp_lines.specs.Strings.{bytesOf};
 ghost use Rattle.sdp_put.specs.Out.{Put};
 ghost use Rattle.sdp_put.specs.Strings.{clean};
 ghost use Rattle.sdp_decode.specs.Rows.{marked};
-ghost use Rattle.sdp_decode.specs.Decode.{spanOf, keyOf, bandwidthOf, zoneOf};
-ghost use Rattle.sdp_row.specs.Written.{optional, signedText, between, zoneText, bandwidthLine, pairLine, keyLine};
+ghost use Rattle.sdp_decode.specs.Decode.{spanOf, bandwidthOf, zoneOf, attributeOf};
+ghost use Rattle.sdp_row.specs.Written.{optional, signedText, between, zoneText, bandwidthLine, attributeLine};
 ghost use Rattle.sdp_table_row.specs.Rows.{rowText};
 use sdp_decode::num2;
 use sdp_decode::num8;
@@ -54,33 +54,14 @@ fn put_value(out: &mut [u8], at: usize, text: &[u8], area: &[u8], p: usize) -> u
     put_string(out, b, text, area, p + 2)
 }
 
-// A k or an a line: a name, and perhaps a value.
-fn put_pair(
-    out: &mut [u8],
-    at: usize,
-    letter: u8,
-    text: &[u8],
-    area: &[u8],
-    p: usize,
-    v: usize,
-) -> usize
-    requires { ⌜ (p < 3900000) × (v < 3900000) ⌝ }
-    ensures { λ r. ⌜ Put (now (out .entry)) at (pairLine (bytesOf (now (text .entry))) letter (spanOf (now (area .entry)) p) (marked spanOf (now (area .entry)) v)) (now (out .exit)) r ⌝ }
+fn put_attribute(out: &mut [u8], at: usize, text: &[u8], area: &[u8], p: usize) -> usize
+    requires { ⌜ p < 3800000 ⌝ }
+    ensures { λ r. ⌜ Put (now (out .entry)) at (attributeLine (bytesOf (now (text .entry))) (attributeOf (now (area .entry)) p)) (now (out .exit)) r ⌝ }
 {
-    let b = put_two(out, at, letter, b'=');
-    let c = put_string(out, b, text, area, p);
-    let d = put_value(out, c, text, area, v);
+    let b = put_two(out, at, b'a', b'=');
+    let c = put_string(out, b, text, area, p + 2);
+    let d = put_value(out, c, text, area, p + 6);
     put_two(out, d, 13, 10)
-}
-
-pub fn put_key(out: &mut [u8], at: usize, text: &[u8], area: &[u8], p: usize) -> usize
-    requires { ⌜ p < 3700000 ⌝ }
-    ensures { λ r. ⌜ Put (now (out .entry)) at (optional (keyLine (bytesOf (now (text .entry)))) (marked keyOf (now (area .entry)) p)) (now (out .exit)) r ⌝ }
-{
-    if num2(area, p) == 0 {
-        return at;
-    }
-    put_pair(out, at, b'k', text, area, p + 2, p + 2 + 4)
 }
 
 // The 64 bits of a signed number: the magnitude of -2^63 has no signed number of its own.
@@ -134,6 +115,6 @@ pub fn put_row(
         Table::Bandwidths => put_bandwidth(out, at, text, area, p),
         Table::Offsets => put_spaced_time(out, at, num8(area, p + 2)),
         Table::Zones => put_zone(out, at, area, k, p),
-        Table::Attributes => put_pair(out, at, b'a', text, area, p + 2, p + 6),
+        Table::Attributes => put_attribute(out, at, text, area, p),
     }
 }

@@ -17,7 +17,6 @@ use sdp_area::ATTRIBUTES;
 use sdp_area::BANDWIDTHS;
 use sdp_area::CONNECTIONS;
 use sdp_area::EMAILS;
-use sdp_area::KEY;
 use sdp_area::MEDIAS;
 use sdp_area::OFFSETS;
 use sdp_area::PHONES;
@@ -35,7 +34,6 @@ use sdp_row::put_session_connection;
 use sdp_row::put_spaced_time;
 use sdp_row::put_time_line;
 use sdp_table_row::Table;
-use sdp_table_row::put_key;
 use sdp_table_row::put_row;
 
 // The rows of the table at base, of w bytes each.
@@ -207,17 +205,16 @@ fn put_zone_line(out: &mut [u8], at: usize, text: &[u8], area: &[u8]) -> usize
     put_two(out, c, 13, 10)
 }
 
-// z, k, a.
+// z, a.
 pub fn put_closing(out: &mut [u8], at: usize, text: &[u8], area: &[u8]) -> usize
     requires { ⌜ owners (now area) ≡ true ⌝ }
     ensures { λ r. ⌜ Put (now (out .entry)) at (closingLines (bytesOf (now (text .entry))) (decode (now (area .entry)))) (now (out .exit)) r ⌝ }
 {
     let b = put_zone_line(out, at, text, area);
-    let c = put_key(out, b, text, area, KEY);
-    put_mine_of(out, c, text, area, Table::Attributes, ATTRIBUTES, 12, 0)
+    put_mine_of(out, b, text, area, Table::Attributes, ATTRIBUTES, 12, 0)
 }
 
-// The m line with number k, and i, c, b, k and a of this media.
+// The m line with number k, and i, c, b and a of this media.
 fn put_media(out: &mut [u8], at: usize, text: &[u8], area: &[u8], k: usize, p: usize) -> usize
     requires { ⌜ p < 3600000 ⌝ }
     requires { ⌜ owners (now area) ≡ true ⌝ }
@@ -227,8 +224,7 @@ fn put_media(out: &mut [u8], at: usize, text: &[u8], area: &[u8], k: usize, p: u
     let c = put_maybe_line(out, b, b'i', text, area, p + 18);
     let d = put_mine_of(out, c, text, area, Table::Connections, CONNECTIONS, 14, k);
     let e = put_mine_of(out, d, text, area, Table::Bandwidths, BANDWIDTHS, 14, k);
-    let f = put_key(out, e, text, area, p + 24);
-    put_mine_of(out, f, text, area, Table::Attributes, ATTRIBUTES, 12, k)
+    put_mine_of(out, e, text, area, Table::Attributes, ATTRIBUTES, 12, k)
 }
 
 pub fn put_medias(out: &mut [u8], at: usize, text: &[u8], area: &[u8]) -> usize

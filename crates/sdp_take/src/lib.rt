@@ -48,12 +48,10 @@ fn shape_of(role: Role) -> Shape
         Role::Time => Shape::Row(Row::Time),
         Role::Repeat => Shape::Repeat,
         Role::Zone => Shape::Zone,
-        Role::Key => Shape::Once(Once::Key),
         Role::Attribute => Shape::Row(Row::Attribute),
         Role::Media => Shape::Row(Row::Media),
         Role::MediaTitle => Shape::Once(Once::Text(Text::Title)),
         Role::MediaConnection => Shape::Row(Row::MediaConnection),
-        Role::MediaKey => Shape::Once(Once::MediaKey),
         Role::Nothing => Shape::Nothing,
     }
 }

@@ -33,5 +33,3 @@ onceRole once.Origin = role.Origin
 onceRole once.Name = role.Name
 onceRole (once.Text x) = textRole x
 onceRole once.Connection = role.Connection
-onceRole once.Key = role.Key
-onceRole once.MediaKey = role.MediaKey

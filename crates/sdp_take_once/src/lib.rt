@@ -8,13 +8,9 @@ ghost use Rattle.sdp_step.specs.Hold.{Reads};
 ghost use Rattle.sdp_take_once.specs.Onces.{textRole, textNumber, textField, onceRole};
 use sdp_area::Text;
 use sdp_area::has_connection;
-use sdp_area::has_key;
-use sdp_area::has_media_key;
 use sdp_area::has_origin;
 use sdp_area::has_text;
 use sdp_area::set_connection;
-use sdp_area::set_key;
-use sdp_area::set_media_key;
 use sdp_area::set_name;
 use sdp_area::set_origin;
 use sdp_area::set_text;
@@ -22,8 +18,6 @@ use sdp_fields::Connection;
 use sdp_fields::ConnectionRead;
 use sdp_fields::Origin;
 use sdp_fields::OriginRead;
-use sdp_fields::Pair;
-use sdp_fields::PairRead;
 use sdp_judge::WholeRead;
 use sdp_judge::whole;
 use sdp_roles::Role;
@@ -164,62 +158,12 @@ fn take_connection(area: &mut [u8], v: &[u8], at: usize, marks: Marks) -> Taken
     }
 }
 
-// A k line before the first m.
-fn take_key(area: &mut [u8], v: &[u8], at: usize, marks: Marks) -> Taken
-    requires { ⌜ (size ≤ length (now area)) × (at + length (now v) ≤ longestText) ⌝ }
-    ensures { λ r. ⌜ Reads Role.Key at (now (v .entry)) marks r (now (area .entry)) (now (area .exit)) ⌝ }
-{
-    if has_key(area) {
-        return Taken::Refused {
-            number: 19,
-            field: 0,
-        };
-    }
-    match Pair::parse(v, 25, 26) {
-        PairRead::Refused(w) => refused(w),
-        PairRead::Got(k) => {
-            let method = k.name;
-            let method = span_of(at, method);
-            let text = k.value;
-            let text = maybe_of(at, text);
-            set_key(area, method, text);
-            Taken::Kept(marks)
-        }
-    }
-}
-
-// A k line of a media.
-fn take_media_key(area: &mut [u8], v: &[u8], at: usize, marks: Marks) -> Taken
-    requires { ⌜ (size ≤ length (now area)) × (at + length (now v) ≤ longestText) ⌝ }
-    ensures { λ r. ⌜ Reads Role.MediaKey at (now (v .entry)) marks r (now (area .entry)) (now (area .exit)) ⌝ }
-{
-    if has_media_key(area) {
-        return Taken::Refused {
-            number: 19,
-            field: 0,
-        };
-    }
-    match Pair::parse(v, 25, 26) {
-        PairRead::Refused(w) => refused(w),
-        PairRead::Got(k) => {
-            let method = k.name;
-            let method = span_of(at, method);
-            let text = k.value;
-            let text = maybe_of(at, text);
-            set_media_key(area, method, text);
-            Taken::Kept(marks)
-        }
-    }
-}
-
 // What a session or a media has at most once.
 pub enum Once {
     Origin,
     Name,
     Text(Text),
     Connection,
-    Key,
-    MediaKey,
 }
 
 // Its line.
@@ -232,7 +176,5 @@ pub fn take_once(area: &mut [u8], v: &[u8], at: usize, marks: Marks, what: Once)
         Once::Name => take_name(area, v, at, marks),
         Once::Text(which) => take_text(area, v, at, marks, which),
         Once::Connection => take_connection(area, v, at, marks),
-        Once::Key => take_key(area, v, at, marks),
-        Once::MediaKey => take_media_key(area, v, at, marks),
     }
 }

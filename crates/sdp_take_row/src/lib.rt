@@ -15,12 +15,12 @@ use sdp_area::push_connection;
 use sdp_area::push_contact;
 use sdp_area::push_media;
 use sdp_area::push_time;
+use sdp_fields::Attribute;
+use sdp_fields::AttributeRead;
 use sdp_fields::Bandwidth;
 use sdp_fields::BandwidthRead;
 use sdp_fields::Connection;
 use sdp_fields::ConnectionRead;
-use sdp_fields::Pair;
-use sdp_fields::PairRead;
 use sdp_fields::Time;
 use sdp_fields::TimeRead;
 use sdp_judge::WholeRead;
@@ -128,10 +128,10 @@ fn take_attribute(area: &mut [u8], v: &[u8], at: usize, marks: Marks) -> Taken
     requires { ⌜ (size ≤ length (now area)) × (at + length (now v) ≤ longestText) ⌝ }
     ensures { λ r. ⌜ Reads Role.Attribute at (now (v .entry)) marks r (now (area .entry)) (now (area .exit)) ⌝ }
 {
-    match Pair::parse(v, 23, 24) {
-        PairRead::Refused(w) => refused(w),
-        PairRead::Got(k) => {
-            let name = k.name;
+    match Attribute::parse(v) {
+        AttributeRead::Refused(w) => refused(w),
+        AttributeRead::Got(k) => {
+            let name = k.attribute;
             let name = span_of(at, name);
             let value = k.value;
             let value = maybe_of(at, value);

@@ -81,7 +81,7 @@ module _ (a : List ℕ) where
     unfoldable pub fineConnection : ℕ → Bool
     fineConnection p = fineString p && (fineString (p + 4) && fineString (p + 8))
 
-    -- a name, and a value that may be absent: a k line
+    -- a name, and a value that may be absent: a key, "judged as before" (document 02, P4), and below an a line
     unfoldable pub finePair : ℕ → Bool
     finePair p = fineString p && fineIf fineString (p + 4)
 

@@ -11,7 +11,7 @@ returns-2 : tie.Need-returns-2
 returns-2 c = rw (c .before .enum-told2 .given .1) (c .marked2 .ensures)
 
 returns-3 : tie.Need-returns-3
-returns-3 c = rw (c .before .enum-told3 .given .1) (c .marked-last .ensures)
+returns-3 c = rw (c .before .enum-told3 .given .1) (c .has-title .ensures)
 
 pub has-text-spec : {M : Type 1} → statement M
 has-text-spec =

@@ -3,7 +3,7 @@
 use mathlib.Core.Path.{ap, _∙_}
 use borrow.Author.Needs.{needs}
 use Rattle.sdp_cells.specs.Bytes.{over}
-use Rattle.sdp_area.specs.Latest.{overLast}
+use Rattle.sdp_area.specs.Latest.{overTitle}
 use Rattle.sdp_area.proofs.WordLaws.{_and_, word-is, span-is}
 use Rattle.sdp_area.proofs.set_text.Statement.{statement}
 use Rattle.sdp_area.proofs.set_text.Tie as tie
@@ -21,7 +21,7 @@ returns-2 c =
 returns-3 : tie.Need-returns-3
 returns-3 c =
     let row = word-is 1 and span-is (c .before .before .before .before .before .before .before .before .args .x) in
-    rw (c .before .before .before .before .before .enum-told3 .given .1) (c .before .before .put-last .ensures ∙ ap (overLast _ _) (row .is))
+    rw (c .before .before .before .before .before .enum-told3 .given .1) (c .before .before .put-title .ensures ∙ ap (overTitle _) (row .is))
 
 pub set-text-spec : {M : Type 1} → statement M
 set-text-spec =

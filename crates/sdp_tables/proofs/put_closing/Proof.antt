@@ -11,14 +11,13 @@ use Rattle.sdp_tables.proofs.put_closing.Tie as tie
 
 returns : tie.Need-returns
 unfolding closingLines decode
-returns c = c .before .before .before .before .before .before .before .before .before .before .put-zone-line .ensures then c .before .before .before .before .before .before .put-key .ensures then said (each-rows _ attributeOf 12 _ _ _ _) (c .before .before .put-mine-of .ensures)
+returns c = c .before .before .before .before .before .before .put-zone-line .ensures then said (each-rows _ attributeOf 12 _ _ _ _) (c .before .before .put-mine-of .ensures)
 
 pub put-closing-spec : {M : Type 1} → statement M
 put-closing-spec =
     tie.close
     (tie.spec
     (λ c κs. search needs)
-    (λ c κs. search needs)
-    (λ c κs. ((omega arith, omega arith), attributes-rise _ (c .before .before .before .before .before .before .before .before .before .before .before .before .pre)))
+    (λ c κs. ((omega arith, omega arith), attributes-rise _ (c .before .before .before .before .before .before .before .before .pre)))
     (λ c. search needs)
     returns)

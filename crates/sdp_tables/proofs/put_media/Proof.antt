@@ -11,7 +11,7 @@ use Rattle.sdp_tables.proofs.put_media.Tie as tie
 
 returns : tie.Need-returns
 unfolding mediaLines decode
-returns c = c .before .before .before .before .before .before .before .before .before .before .before .before .before .before .before .before .before .before .before .before .before .before .put-media-line .ensures then c .before .before .before .before .before .before .before .before .before .before .before .before .before .before .before .before .before .before .put-maybe-line .ensures then said (each-rows _ mediaConnectionOf 14 _ _ _ _) (c .before .before .before .before .before .before .before .before .before .before .before .before .before .before .put-mine-of .ensures) then said (each-rows _ bandwidthOf 14 _ _ _ _) (c .before .before .before .before .before .before .before .before .before .before .put-mine-of2 .ensures) then c .before .before .before .before .before .before .put-key .ensures then said (each-rows _ attributeOf 12 _ _ _ _) (c .before .before .put-mine-of3 .ensures)
+returns c = c .before .before .before .before .before .before .before .before .before .before .before .before .before .before .before .before .before .before .put-media-line .ensures then c .before .before .before .before .before .before .before .before .before .before .before .before .before .before .put-maybe-line .ensures then said (each-rows _ mediaConnectionOf 14 _ _ _ _) (c .before .before .before .before .before .before .before .before .before .before .put-mine-of .ensures) then said (each-rows _ bandwidthOf 14 _ _ _ _) (c .before .before .before .before .before .before .put-mine-of2 .ensures) then said (each-rows _ attributeOf 12 _ _ _ _) (c .before .before .put-mine-of3 .ensures)
 
 pub put-media-spec : {M : Type 1} → statement M
 put-media-spec =
@@ -22,8 +22,6 @@ put-media-spec =
     (λ c κs. search needs)
     (λ c κs. ((omega arith, omega arith), connections-rise _ (c .before .before .before .before .before .before .before .before .before .before .before .before .pre .1)))
     (λ c κs. ((omega arith, omega arith), bandwidths-rise _ (c .before .before .before .before .before .before .before .before .before .before .before .before .before .before .before .before .pre .1)))
-    (λ c. search needs)
-    (λ c κs. search needs)
-    (λ c κs. ((omega arith, omega arith), attributes-rise _ (c .before .before .before .before .before .before .before .before .before .before .before .before .before .before .before .before .before .before .before .before .before .before .before .before .pre .1)))
+    (λ c κs. ((omega arith, omega arith), attributes-rise _ (c .before .before .before .before .before .before .before .before .before .before .before .before .before .before .before .before .before .before .before .before .pre .1)))
     (λ c. search needs)
     returns)

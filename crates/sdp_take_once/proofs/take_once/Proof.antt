@@ -15,20 +15,10 @@ returns-3 c ρ t h = rw (c .before .before .before .before .before .what .given 
 returns-4 : tie.Need-returns-4
 returns-4 c ρ t h = rw (c .before .before .before .before .enum-told3 .given .1) (c .before .before .take-connection .ensures ρ t h)
 
-returns-5 : tie.Need-returns-5
-returns-5 c ρ t h = rw (c .before .before .before .before .enum-told4 .given .1) (c .before .before .take-key .ensures ρ t h)
-
-returns-6 : tie.Need-returns-6
-returns-6 c ρ t h = rw (c .before .before .before .before .enum-told5 .given .1) (c .before .before .take-media-key .ensures ρ t h)
-
 pub take-once-spec : {M : Type 1} → statement M
 take-once-spec =
     tie.close
     (tie.spec
-    (λ c. search needs)
-    (λ c κs. search needs)
-    (λ c. search needs)
-    (λ c κs. search needs)
     (λ c. search needs)
     (λ c κs. search needs)
     (λ c. search needs)
@@ -44,8 +34,4 @@ take-once-spec =
     (λ c. search needs)
     returns-3
     (λ c. search needs)
-    returns-4
-    (λ c. search needs)
-    returns-5
-    (λ c. search needs)
-    returns-6)
+    returns-4)
