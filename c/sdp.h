@@ -63,7 +63,7 @@ enum sdp_refusal {
     SDP_SECOND_CONNECTION = 16,    /* c of the session */
     SDP_SECOND_ZONES = 17,         /* z */
     SDP_SECOND_MEDIA_TITLE = 18,   /* i of one media */
-    SDP_SECOND_KEY = 19,           /* k of the session or of one media */
+    SDP_SECOND_KEY = 19,           /* never any more: k lines are ignored. Nor are the fields 25 and 26 given */
     SDP_REPEAT_WITHOUT_TIME = 20,  /* an r line with no t line before it */
     SDP_TABLE_FULL = 21,           /* gives line, and the table as field: 1 emails .. 10 medias, as in "The area" */
     SDP_OUTPUT_TOO_SHORT = 22,     /* gives as len the bytes that an output needs */
@@ -116,13 +116,15 @@ struct sdp_starts {
 
 /* Reads a text into the area, which may hold anything before, and may be longer than SDP_AREA_SIZE. On 0 its first
  * SDP_AREA_SIZE bytes hold the session. After 1 and 2 the area is unchanged, after 3 to 21 these bytes are zero. The
- * strings of the session are places in the text: keep the text, unchanged, as long as you use the area. */
+ * strings of the session are places in the text: keep the text, unchanged, as long as you use the area. Lines whose letter
+ * has no use are ignored, whatever follows the =; k lines too, which RFC 8866 calls obsolete: they leave no key. */
 struct sdp_answer sdp_read(const uint8_t *text, size_t text_len, uint8_t *area, size_t area_len);
 
 /* Writes the session of an area, given the text that it was read from. On 0 the first len bytes of out are the written
  * text, each line ended by CR LF, with no zero byte behind. After a refusal (2, 1, 23, 22, judged in this order) out is
  * unchanged. With out_len 0 it answers 22 and the length that is needed. An area that sdp_read filled is never refused
- * with 23, given the same text. */
+ * with 23, given the same text. A key is never written. One that an earlier release left in the area is judged as all else
+ * there: 23 where its marks are neither 0 nor 1, or its strings don't stand in the text or are not UTF-8. */
 struct sdp_answer sdp_write(const uint8_t *text, size_t text_len, const uint8_t *area, size_t area_len,
                             uint8_t *out, size_t out_len);
 
@@ -140,7 +142,7 @@ struct sdp_starts sdp_starts(const uint8_t *text, size_t text_len, const uint8_t
 size_t sdp_area_size(void);
 
 /* Whether the letters of the text's lines run in the order of the RFCs, with the z line after all t and r lines, where
- * RFC 4566 has it. Values are not judged, and sdp_read takes other orders too. */
+ * RFC 4566 has it. A k line has its place in it. Values are not judged, and sdp_read takes other orders too. */
 struct sdp_order sdp_letter_order(const uint8_t *text, size_t text_len);
 
 /* What stands at a place of the text, where the line of that number is due. Begin with place 0 and line 1; after the
@@ -175,7 +177,7 @@ enum {
     SDP_DESCRIPTION = 36, /* mark, string */
     SDP_URI = 42,         /* mark, string */
     SDP_CONNECTION = 48,  /* of the session: mark, nettype, addrtype, address */
-    SDP_KEY = 62,         /* of the session: mark, method, text mark, text */
+    SDP_KEY = 62,         /* of the session: mark, method, text mark, text. All zero, but in areas of earlier releases */
 
     SDP_EMAILS = 74,
     SDP_EMAILS_ROW = 4, /* string */
@@ -197,7 +199,7 @@ enum {
     SDP_ATTRIBUTES_ROW = 12, /* owner: 0 the session, else the media; name; value mark; value */
     SDP_MEDIAS = 13404,
     SDP_MEDIAS_ROW = 36 /* media; port 2 bytes; num-ports mark; num-ports 2 bytes; proto; fmt; title mark; title;
-                           key mark; key method; key text mark; key text */
+                           key mark; key method; key text mark; key text: zero, as SDP_KEY */
 };
 
 /* Where a field stands, counted from its part's start, and in a table from its row's. */

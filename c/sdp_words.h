@@ -41,7 +41,7 @@ static const struct {
     {16, "there is a second c line of the session"},
     {17, "there is a second z line"},
     {18, "there is a second i line in this media"},
-    {19, "there is a second k line"},
+    {19, "there is a second k line"}, /* by an earlier archive: k lines are ignored now */
     {20, "there is an r line with no t line before it"},
     {21, "there are more than {rows} {table}"},
     {22, "the output is too short: {len} bytes are needed"},
@@ -82,7 +82,7 @@ static const char *const sdp_fields[][2] = {
     {"a zone's offset", SDP_SIGNED},
     {"the attribute's name", ""},
     {"the attribute's value", ""},
-    {"the key's method", ""},
+    {"the key's method", ""}, /* this one and the next by an earlier archive */
     {"the key", ""},
     {"the media's name", ""},
     {"the port", SDP_PORT},

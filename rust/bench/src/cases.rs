@@ -1,5 +1,6 @@
-//! The texts: those of the folder `texts`, a few of them, and texts of doubling size.
+//! The texts: those of the folder `texts`, without their k lines, a few of them, and texts of doubling size.
 use crate::sides::{Ours, Side, Theirs};
+use oracle::keys;
 use std::path::Path;
 
 /// Some texts of each sort, those on which ours fares worst with them.
@@ -23,9 +24,11 @@ pub struct Case {
 }
 
 impl Case {
-    /// Both sides must do the same with a text, or comparing what it costs says nothing. None for a text that is
-    /// refused by a limit that the crate doesn't have: refusals 1 and 21.
+    /// Both sides must do the same with a text, or comparing what it costs says nothing. So k lines are taken out first,
+    /// which the crate reads and writes and ours ignores. None for a text that is refused by a limit that the crate doesn't
+    /// have: refusals 1 and 21.
     fn new(name: String, text: Vec<u8>) -> Result<Option<Case>, String> {
+        let text = keys::without(&text).text;
         let (mut ours, mut theirs) = (Ours::default(), Theirs::default());
         if matches!(ours.answer(&text).number, 1 | 21) {
             return Ok(None);

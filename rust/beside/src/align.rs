@@ -22,6 +22,8 @@ pub enum Dropped {
     InSession,
     /// Nor from it on.
     InMedia,
+    /// A k line, which has no use any more.
+    Key,
     /// A v line after the first.
     LaterVersion,
     /// A line with a use of which nothing is left to write: z without a pair.
@@ -52,8 +54,11 @@ fn kinds(lines: &[&[u8]]) -> Vec<Result<Kind, Dropped>> {
             let first = !std::mem::replace(&mut version, true);
             return if first { Ok((0, letter)) } else { Err(Dropped::LaterVersion) };
         }
+        if letter == b'k' {
+            return Err(Dropped::Key);
+        }
         media += usize::from(letter == b'm');
-        let useful: &[u8] = if media > 0 { b"micbka" } else { b"osiuepcbtrzka" };
+        let useful: &[u8] = if media > 0 { b"micba" } else { b"osiuepcbtrza" };
         if useful.contains(&letter) {
             Ok((media, letter))
         } else {

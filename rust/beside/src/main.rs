@@ -14,7 +14,7 @@ Shows a session description and its canonical form side by side, line by line. W
 from standard input. The lines are numbered on both sides; between them stands a mark:
   =  the line is written as it stands
   ~  changed: numbers, times and spaces are written in one way
-  -  dropped: an empty line, or a letter that has no use there
+  -  dropped: an empty line, or a letter that has no use there or no use any more
   +  added: what every session has and this text doesn't
   >  moved from here, and written where < stands
   !  the line for which the text is refused; the refusal is below, in the words of docs/REFUSALS.md

@@ -59,6 +59,7 @@ fn why_dropped(why: Dropped) -> &'static str {
         Dropped::LaterVersion => "(only the first v has a use)",
         Dropped::InSession => "(no use for this letter)",
         Dropped::InMedia => "(no use for this letter after m)",
+        Dropped::Key => "(k is obsolete: RFC 8866, section 5.12)",
         Dropped::Nothing => "(no zones in it)",
     }
 }

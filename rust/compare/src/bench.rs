@@ -1,5 +1,5 @@
-//! One text through a reader and through the crate. The reader is a parameter, so that the comparison can be tested
-//! with readers that are known to be wrong.
+//! One text through a reader and, without its k lines, through the crate. The reader is a parameter, so that the
+//! comparison can be tested with readers that are known to be wrong.
 use crate::area::{self, SIZE};
 use crate::{placed, theirs, Answer};
 use generate::shrink;
@@ -126,7 +126,8 @@ impl Tally {
 
 impl std::fmt::Display for Tally {
     fn fmt(&self, f: &mut std::fmt::Formatter) -> std::fmt::Result {
-        const KINDS: [(u64, &str); 21] = [
+        // 19, a second k line, never occurs
+        const KINDS: [(u64, &str); 20] = [
             (0, "accepted"),
             (1, "text too long"),
             (3, "NUL or CR"),
@@ -145,7 +146,6 @@ impl std::fmt::Display for Tally {
             (16, "second c"),
             (17, "second z"),
             (18, "second media title"),
-            (19, "second key"),
             (20, "repeat without time"),
             (21, "table full"),
         ];

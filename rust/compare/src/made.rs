@@ -131,6 +131,37 @@ pub fn area(random: &mut Random, text: &[u8]) -> Vec<u8> {
     area
 }
 
+/// The area of an accepted text as an earlier release left it, which read k lines: the first one of the session and of each
+/// media is its key. It refused a second one, and one that is not UTF-8; these give no key here. `area` is what is read of
+/// the text today.
+pub fn keyed(text: &[u8], area: &[u8]) -> Vec<u8> {
+    let mut keyed = area.to_vec();
+    let (mut start, mut begun, mut medias) = (0, false, 0);
+    for whole in text.split_inclusive(|byte| *byte == b'\n') {
+        let line = whole.strip_suffix(b"\n").map_or(whole, |line| line.strip_suffix(b"\r").unwrap_or(line));
+        let mark = match medias {
+            0 => at("key", 0, "mark"),
+            _ => at("medias", medias - 1, "key mark"),
+        };
+        match line.first() {
+            Some(b'm') => medias += 1,
+            Some(b'k') if begun && two(&keyed, mark) == 0 && std::str::from_utf8(line).is_ok() => {
+                let (place, value) = (start + 2, &line[2..]);
+                let method = value.iter().position(|byte| *byte == b':').unwrap_or(value.len());
+                let mut cells = vec![1, place, method];
+                if method < value.len() {
+                    cells.extend([1, place + method + 1, value.len() - method - 1]);
+                }
+                cells.into_iter().zip((mark..).step_by(2)).for_each(|(cell, at)| put_two(&mut keyed, at, cell));
+            }
+            _ => {}
+        }
+        begun |= !line.is_empty();
+        start += whole.len();
+    }
+    keyed
+}
+
 /// The kinds of damage.
 pub const DAMAGES: [&str; 9] = [
     "count", "place", "length", "owner", "fallen owner", "mark", "judged cell", "cell not judged", "bytes",

@@ -1,6 +1,6 @@
 //! Where the strings of an area must stand. Equal bytes alone would pass anywhere in the text, so each string is held
 //! to the line it was read from, and to its borders there.
-use crate::area::{Connection, Key, Seen, Span};
+use crate::area::{Connection, Seen, Span};
 use oracle::leaf;
 
 fn same<T: PartialEq + std::fmt::Debug>(what: &str, line: u64, ours: T, due: T) -> Result<(), String> {
@@ -38,11 +38,6 @@ fn connection(text: &[u8], line: u64, value: Span, read: &Connection<Span>) -> R
     fields(text, "connection", line, value, &[read.nettype, read.addrtype, read.address])
 }
 
-fn key(line: u64, value: Span, key: Option<&Key<Span>>) -> Result<(), String> {
-    let key = key.ok_or(format!("line {line}: no key"))?;
-    halves("key", line, value, key.method, key.text)
-}
-
 /// Walks the lines of an accepted text beside the records.
 pub fn check(seen: &Seen<Span>, text: &[u8]) -> Result<(), String> {
     let (mut emails, mut phones) = (seen.emails.iter(), seen.phones.iter());
@@ -51,7 +46,7 @@ pub fn check(seen: &Seen<Span>, text: &[u8]) -> Result<(), String> {
     let (mut times, mut repeats) = (0, seen.repeats.iter());
     let mut latest = None;
     let mut owner = 0;
-    let (mut single, mut titles, mut keys) = (Vec::new(), 0, 0);
+    let (mut single, mut titles) = (Vec::new(), 0);
     let lines = leaf::cuts(text).into_iter().filter(|cut| cut.kind == 2).skip(1);
     for cut in lines {
         let (line, letter) = (cut.line, cut.letter as u8);
@@ -73,7 +68,6 @@ pub fn check(seen: &Seen<Span>, text: &[u8]) -> Result<(), String> {
             (false, b'e') => same("email", line, emails.next(), Some(&value))?,
             (false, b'p') => same("phone", line, phones.next(), Some(&value))?,
             (false, b'c') => connection(text, line, value, seen.connection.as_ref().ok_or(none("connection"))?)?,
-            (false, b'k') => key(line, value, seen.key.as_ref())?,
             (false, b't') => times += 1,
             (false, b'r') => same("repeat's owner", line, repeats.next().map(|row| row.owner), Some(times))?,
             (_, b'b') => {
@@ -101,10 +95,6 @@ pub fn check(seen: &Seen<Span>, text: &[u8]) -> Result<(), String> {
                 same("connection's owner", line, row.owner, owner)?;
                 connection(text, line, value, &row.connection)?;
             }
-            (true, b'k') => {
-                keys += 1;
-                key(line, value, latest.and_then(|row| row.key.as_ref()))?;
-            }
             _ => {}
         }
         if owner == 0 {
@@ -121,11 +111,11 @@ pub fn check(seen: &Seen<Span>, text: &[u8]) -> Result<(), String> {
     same("description's presence", 0, seen.description.is_some(), had(b'i'))?;
     same("uri's presence", 0, seen.uri.is_some(), had(b'u'))?;
     same("connection's presence", 0, seen.connection.is_some(), had(b'c'))?;
-    same("key's presence", 0, seen.key.is_some(), had(b'k'))?;
+    same("key's presence", 0, seen.key.is_some(), false)?; // a k line gives none
     count("rows without a line", emails.len() + phones.len() + connections.len(), 0)?;
     count("rows without a line", bandwidths.len() + attributes.len(), 0)?;
     count("rows without a line", medias.len() + repeats.len(), 0)?;
     count("times", seen.times.len(), times as usize)?;
     count("media titles", seen.medias.iter().filter(|row| row.title.is_some()).count(), titles)?;
-    count("media keys", seen.medias.iter().filter(|row| row.key.is_some()).count(), keys)
+    count("media keys", seen.medias.iter().filter(|row| row.key.is_some()).count(), 0)
 }

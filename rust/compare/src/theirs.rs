@@ -29,7 +29,8 @@ fn connection(connection: &sdp_types::Connection) -> Connection<Vec<u8>> {
     }
 }
 
-/// Repeats, offsets and what medias have are nested in the crate; in an area they name their owner.
+/// Repeats, offsets and what medias have are nested in the crate; in an area they name their owner. Keys are taken over
+/// where the session has them.
 pub fn of(session: &Session) -> Seen<Vec<u8>> {
     let origin = &session.origin;
     let mut seen = Seen {
@@ -135,7 +136,7 @@ pub fn comparable(mut ours: Seen<Vec<u8>>) -> Seen<Vec<u8>> {
     ours
 }
 
-/// The crate's session with these strings, numbers and owners, for the crate's writer: the other way round than `of`.
+/// The crate's session with these strings, numbers, owners and keys, for the crate's writer: the other way round than `of`.
 /// Nettype and addrtype keep their spelling. An error is a string that is not UTF-8: Rust has none such.
 pub fn session(seen: &Seen<Vec<u8>>) -> Result<Session, String> {
     let string = |bytes: &Vec<u8>| String::from_utf8(bytes.clone()).map_err(|error| error.to_string());

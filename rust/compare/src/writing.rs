@@ -1,6 +1,6 @@
-//! One area through a writer, and through the judge and the crate's writer. The writer is a parameter, so that the
-//! comparison can be tested with writers that are known to be wrong.
-use crate::area::{self, PARTS, SIZE};
+//! One area through a writer, and through the judge and the crate's writer, which gets the session without its keys. The
+//! writer is a parameter, so that the comparison can be tested with writers that are known to be wrong.
+use crate::area::{self, Part, PARTS, SIZE};
 use crate::judge::{self, Fault};
 use crate::{theirs, Answer};
 use oracle::{fold, leaf, written};
@@ -34,35 +34,41 @@ fn refusal(number: u64, len: usize) -> Answer {
 /// for each number, and a unit and a sign where it may have them.
 #[rustfmt::skip]
 const BESIDE: [usize; 16] = [
-    30, 0, 0, 0, 6, 5, // origin to key; name, description and uri are in FIXED
+    30, 0, 0, 0, 6, 0, // origin to key; name, description and uri are in FIXED
     4, 4, 6, 25, // emails, phones, connections, bandwidths
     45, 47, 22, 44, // times, repeats, offsets, zones
-    5, 57, // attributes, medias with title and key
+    5, 52, // attributes, medias with title
 ];
 
 /// v, s, i, u, `t=0 0` and the z line, without what they hold.
 const FIXED: usize = 28;
 
 /// From an output of so many bytes on, one pass writes; before a shorter one is written, another pass counts. Every string
-/// counts whole, absent or not. By docs/AREA.md, and not by our code; its definition is crates/sdp_room/specs/Room.antt.
+/// counts whole, absent or not, but for those of keys, which are never written. By docs/AREA.md, and not by our code; its
+/// definition is crates/sdp_room/specs/Room.antt.
 pub fn one_pass_from(area: &[u8]) -> usize {
     let mut sum = FIXED;
     for (part, beside) in PARTS.iter().zip(BESIDE) {
         let (rows, first) = if part.rows == 0 { (1, part.at) } else { (judge::two(area, part.at), part.at + 2) };
         for row in 0..rows {
             let at = first + row * part.width;
-            let strings = part.fields.iter().filter(|(_, width, _)| *width == 4);
+            let strings = part.fields.iter().filter(|(_, width, name)| *width == 4 && !is_key(part, name));
             sum += beside + strings.map(|(offset, ..)| judge::two(area, at + offset + 2)).sum::<usize>();
         }
     }
     sum
 }
 
+/// Whether a field belongs to a key: it is judged, and not written.
+pub fn is_key(part: &Part, field: &str) -> bool {
+    part.name == "key" || field.starts_with("key ")
+}
+
 /// Noise in absent strings may ask for outputs of megabytes, which would be slow.
 const LONG_OUTPUT: usize = 100_000;
 
-/// What the crate's writer writes for an area that is good, by way of the decoder. An error is a rule of docs/AREA.md
-/// that is broken, or a string that Rust can't hold.
+/// What the crate's writer writes for an area that is good, by way of the decoder, without its keys. An error is a rule of
+/// docs/AREA.md that is broken, or a string that Rust can't hold, a key's too.
 pub fn by_the_crate(text: &[u8], area: &[u8]) -> Result<Vec<u8>, String> {
     let seen = area::decode(&judge::cleaned(area))?;
     theirs::session(&seen.strings(text)?).map(|session| written(&session))
@@ -176,7 +182,7 @@ pub fn kept_lines(text: &[u8]) -> usize {
     let letters = leaf::cuts(text).into_iter().filter(|cut| cut.kind == 2).map(|cut| cut.letter as u8);
     let kept = letters.enumerate().filter(|(at, letter)| {
         medias |= *letter == b'm' && *at > 0;
-        let use_of: &[u8] = if medias { b"micbka" } else { b"osiuepcbtrzka" };
+        let use_of: &[u8] = if medias { b"micba" } else { b"osiuepcbtrza" };
         *at == 0 || use_of.contains(letter)
     });
     kept.count()

@@ -2,6 +2,7 @@
 mod page;
 mod plain;
 use compare::area::{decode, Part, PARTS, SIZE};
+use compare::made::keyed;
 use compare::Answer;
 use page::{file, number, table};
 use plain::Plain;
@@ -123,13 +124,13 @@ fn the_definition_has_the_decoder_s_tables() {
     }
 }
 
-/// A session with something in every part, and also absent fields.
+/// A session with something in every part, and also absent fields. Its keys are those of an area that was kept.
 fn rich() -> (Vec<u8>, Vec<u8>) {
     let text = b"v=0\no=u 1 2 IN IP4 h\ns=n\ni=d\nu=u\ne=e\ne=f\np=p\nc=IN IP4 h\nb=AS:1\nt=1 2\nr=1 2 3 4\nt=3 4\n\
         r=5 6 7\nz=1 -2\nk=m:t\na=x\na=y:z\nm=a 1 p f\ni=t\nc=A B C\nb=CT:5\nk=q\na=w:\nm=b 2/3 p f\nc=D E F\nk=m:t\na=v\n";
     let mut area = vec![0xa5; SIZE];
     assert_eq!(Plain { slip: "" }.read(text, &mut area), Answer::default());
-    (text.to_vec(), area)
+    (text.to_vec(), keyed(text, &area))
 }
 
 /// No byte of the area is passed over: a change is a broken rule or another session.
@@ -176,10 +177,13 @@ fn broken_rules_are_found() {
         at("origin", 0, 0),
         at("origin", 0, 2),
         at("uri", 0, 0),
+        at("key", 0, 0),
         at("key", 0, 6),
         at("attributes", 1, 6),
         at("medias", 0, 18),
         at("medias", 1, 6),
+        at("medias", 1, 24),
+        at("medias", 1, 30),
     ] {
         assert!(two(place, 1).is_ok());
         assert!(two(place, 2).unwrap_err().contains("mark is 2"));

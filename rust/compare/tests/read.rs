@@ -108,6 +108,96 @@ fn samples() {
     assert_eq!(seen(&[b"v=0"]).origin, None);
 }
 
+/// Document 02, P4: a k line has no use, and is counted and tested for its form as any other.
+#[test]
+fn k_lines() {
+    let m: &[u8] = b"m=a 1 p f";
+    let ones: [(&[&[u8]], (u64, u64, u64)); 20] = [
+        (&[b"k="], ACCEPTED),
+        (&[b"k=clear:x", b"k=clear:x"], ACCEPTED),
+        (&[b"k=\xff", b"k=:\xff", b"k=\xed\xa0\x80"], ACCEPTED),
+        (&[m, b"k=x", b"k=", m, b"k=\xff", b"k=x:y:z"], ACCEPTED),
+        (&[b"k=x\r", b"k=x"], ACCEPTED), // CR LF
+        (&[b"k=x", b"k=x\r"], (3, 3, 0)),
+        (&[b"k=x\r."], (3, 2, 0)),
+        (&[b"k=\0"], (3, 2, 0)),
+        (&[b"k\0"], (3, 2, 0)),
+        (&[m, b"k=", b"k=\r\r", b"k=x"], (3, 4, 0)),
+        (&[b"k"], (4, 2, 0)),
+        (&[b"k:x"], (4, 2, 0)),
+        (&[m, b"k=x", b"k x"], (4, 4, 0)),
+        (&[b"kk=x"], (5, 2, 0)),
+        (&[b"k =x"], (5, 2, 0)),
+        (&[b"k=\xff", b"t=x"], (9, 3, 15)),
+        (&[b"z=", b"k=", b"z="], (17, 4, 0)),
+        (&[m, b"i=", b"k=", b"k=", b"i="], (18, 6, 0)),
+        (&[b"k=", b"r=1 1"], (20, 3, 0)),
+        (&[m, b"k=", b"a=\xff"], (8, 4, 23)),
+    ];
+    for (lines, due) in ones {
+        assert_eq!(answer(lines), due, "{}", sample(lines).escape_ascii());
+    }
+    // the first line that isn't empty must be the version's
+    let mut bench = bench();
+    for text in [&b"k=x"[..], b"k=\nv=0", b"\r\n\nk=\xff\nv=0\n", b"k=x\nk=y\nv=0"] {
+        assert_eq!(bench.same(text), Answer { number: 6, ..Answer::default() });
+    }
+    assert_eq!(bench.same(b"k\nv=0"), Answer { number: 4, line: 1, ..Answer::default() });
+    assert_eq!(bench.same(b"\nv=\nk=x").place, 3);
+    // many of them, and one more record than a table has
+    let mut lines: Vec<&[u8]> = vec![b"v=0"];
+    lines.resize(1 + 5_000, b"k=x:y");
+    assert_eq!(answer(&lines), ACCEPTED);
+    lines.resize(lines.len() + 17, b"e=");
+    assert_eq!(answer(&lines), (21, 1 + 5_000 + 17, 1));
+}
+
+/// Demand 3 for k: such lines put in behind the first line that isn't empty change nothing but the line of a refusal.
+#[test]
+fn k_lines_put_in() {
+    let mut random = Random::of_test("k lines put in");
+    let (mut accepted, mut refused, mut lines) = (0, 0, 0);
+    let mut bench = bench();
+    let due = count(6_000);
+    for round in 0..due {
+        let text = if round % 2 == 0 { sessions::text(&mut random) } else { texts::text(&mut random) };
+        let whole: Vec<&[u8]> = text.split_inclusive(|byte| *byte == b'\n').collect();
+        let Some(first) = whole.iter().position(|line| !matches!(line, [b'\n'] | [b'\r', b'\n'])) else { continue };
+        let (mut with, mut above) = (Vec::new(), vec![0]);
+        for (at, line) in whole.iter().enumerate() {
+            with.extend(*line);
+            let mut put = 0;
+            // none is put after a last line that has no LF
+            while at >= first && line.ends_with(b"\n") && random.once_in(3) {
+                with.extend(sessions::key_line(&mut random));
+                with.extend(random.pick(&[&b"\n"[..], b"\r\n"]));
+                put += 1;
+            }
+            above.push(above[at] + put);
+        }
+        if with.len() > LONGEST {
+            continue;
+        }
+        let (before, mut area) = (bench.same(&text), bench.area().to_vec());
+        let after = bench.same(&with);
+        let line = if before.line == 0 { 0 } else { before.line + above[before.line as usize - 1] };
+        assert_eq!(after, Answer { line, ..before }, "{}", with.escape_ascii());
+        lines += above[whole.len()];
+        if before.number > 0 {
+            refused += 1;
+            continue;
+        }
+        accepted += 1;
+        let strings = |text: &[u8], area: &[u8]| decode(area).unwrap().strings(text).unwrap();
+        assert_eq!(strings(&with, bench.area()), strings(&text, &area), "{}", with.escape_ascii());
+        area.fill(0xa5);
+        assert_eq!(read(&with, &mut area), Answer::default());
+        assert_eq!(area, bench.area());
+    }
+    println!("k lines: {lines} put in, {accepted} texts accepted and {refused} refused");
+    assert!(accepted * 5 > due && refused * 5 > due && lines > due);
+}
+
 #[test]
 fn sample_512_attributes() {
     let mut lines: Vec<&[u8]> = vec![b"v=0"];
@@ -284,7 +374,7 @@ fn each_pair_of_number_and_field() {
     assert_eq!(others.next(), None, "no other pair can occur");
 }
 
-/// Every short value of every letter in use, in the session and in a media.
+/// Every short value of every letter in use, and of v, k and x, in the session and in a media.
 #[test]
 fn every_short_value() {
     let mut bench = bench();
@@ -460,9 +550,10 @@ fn generated() {
         }
     }
     println!("read: {texts} generated texts compared\n{tally}");
+    assert_eq!(tally.of(19), 0, "a second k line is ignored");
     assert!(tally.of(0) * 5 > texts && tally.of(0) * 5 < texts * 4, "both sides are reached well");
     if texts >= 100_000 {
-        for number in (3..=21).chain([0, 1]) {
+        for number in (3..=21).filter(|number| *number != 19).chain([0, 1]) {
             assert!(tally.of(number) >= 36, "few answers {number}");
         }
         for pair in PAIRS {

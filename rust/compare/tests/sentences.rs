@@ -83,6 +83,21 @@ fn refusals() {
     println!("sentences: {} refusals", due.len());
 }
 
+/// What P4 took away keeps its number and its sentence, since an answer may have been kept; the page says so.
+#[test]
+fn retired() {
+    let paper = file("../shared/docs/02-change-requests.md");
+    let request = paper.lines().find(|line| line.starts_with("**P4.")).expect("a request");
+    assert!(request.ends_with("Refusals: 19 never occurs any more; fields 25 and 26 stay reserved."), "{request}");
+    let when = &rows("Refusals")[&19][1];
+    assert!(when.starts_with("never"), "docs/REFUSALS.md has 19 for: {when}");
+    for field in [25, 26] {
+        let line = &rows("Fields")[&field][1];
+        assert!(line.contains("reserved"), "docs/REFUSALS.md has the field {field} of the line: {line}");
+        assert!(PAIRS.iter().all(|pair| pair.1 != field));
+    }
+}
+
 /// `1-6 o in order, 7 o trailing; 8-10 c, ..`: each number with the words behind it.
 #[test]
 fn fields() {

@@ -1,4 +1,5 @@
 //! The view of the crate `sdp` beside sdp-types: made into a session of that crate, it is the one that the crate reads.
+use compare::made::keyed;
 use generate::random::{count, from_env};
 use generate::sessions::{self, LONGEST, TABLES};
 use generate::{shrink, Random};
@@ -185,6 +186,32 @@ fn generated() {
     for seen in [minus, offsets, medias, values] {
         assert!(seen as u64 * 20 > due, "much of everything is seen");
     }
+}
+
+/// Areas with the keys of their texts, as an earlier release left them. The crate still reads those keys.
+#[test]
+fn kept_areas() {
+    let mut random = Random::of_test("kept areas in the view");
+    let mut area = Area::new();
+    let (mut compared, mut keys) = (0, 0);
+    while compared < count(2_000) {
+        let lines = sessions::good(&mut random);
+        let text = sessions::ended(&mut random, &lines);
+        let Ok(due) = sdp_types::Session::parse(&text) else { continue }; // it refuses a second key, and one that is not UTF-8
+        let of_text = usize::from(due.key.is_some()) + due.medias.iter().filter(|media| media.key.is_some()).count();
+        let Ok(today) = sdp::read(&text, &mut area) else { continue };
+        if of_text == 0 {
+            continue;
+        }
+        let written = today.to_vec();
+        let kept = Area::from_bytes(keyed(&text, area.as_bytes()).try_into().expect("as long as before"));
+        let view = sdp::kept(&text, &kept).unwrap_or_else(|error| panic!("{error}: {}", text.escape_ascii()));
+        assert_eq!(session(view), due, "{}", text.escape_ascii());
+        assert_eq!(view.to_vec(), written);
+        keys += of_text;
+        compared += 1;
+    }
+    println!("view: {compared} areas with {keys} keys");
 }
 
 /// Each table full.

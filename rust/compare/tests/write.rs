@@ -7,7 +7,7 @@ use compare::area::{
 use compare::judge::{cells, faults, judge, two, Fault, Kind, FAULTS};
 use compare::made::{self, at, put_eight, put_two, DAMAGES};
 use compare::whole::Whole;
-use compare::writing::{kept_lines, one_pass_from, Outcome, Writing};
+use compare::writing::{is_key, kept_lines, one_pass_from, Outcome, Writing};
 use compare::{read, theirs, write, Answer};
 use generate::fields::BROKEN;
 use generate::random::count;
@@ -131,7 +131,7 @@ fn the_bound_is_tight() {
     both.same(b"v=0\r\ns=\r\n");
     both.same(b"\n\nv=0\nx=\xff\nt=+1 01\nz=\n");
     assert_eq!(both.counts.read_back, 4);
-    assert_eq!(kept_lines(b"\nv=0\nv=0\nx=\ns=\n\nm= 1  \ns=\ni=\nm= 1  \na="), 6);
+    assert_eq!(kept_lines(b"\nv=0\nv=0\nx=\nk=\ns=\n\nm= 1  \ns=\ni=\nk=\nm= 1  \na="), 6);
 }
 
 /// Every text in the folder `texts`, with the nettypes and addrtypes as they stand.
@@ -293,12 +293,15 @@ fn areas_of_noise() {
     assert!(classes.good > 0 && classes.bad > classes.good);
 }
 
-/// A session with something in every part, twice where it is a table, and a text for it with other bytes behind.
+/// A session with something in every part, twice where it is a table, and a text for it with other bytes behind. Its keys
+/// are those of an area that was kept.
 fn rich() -> (Vec<u8>, Vec<u8>) {
     let text = b"v=0\no=u 1 2 IN IP4 h\ns=n\ni=d\nu=u\ne=e\ne=f\np=p\np=q\nc=IN IP4 h\nb=AS:1\nb=X:2\nt=1 2\n\
         r=1 2 3 4\nt=3 4\nr=5 6 7\nz=1 -2 3 4\nk=m:t\na=x\na=y:z\nm=a 1/2 p f\ni=t\nc=A B C\nb=CT:5\nk=q:r\na=w:\n\
         m=b 2/3 p f\ni=g\nc=D E F\nb=Y:6\nk=m:t\na=v:s\n";
-    let area = area_of(text).unwrap();
+    let area = made::keyed(text, &area_of(text).unwrap());
+    let seen = decode(&area).unwrap();
+    assert!(seen.key.is_some() && seen.medias.iter().all(|media| media.key.is_some()));
     (text.to_vec(), area)
 }
 
@@ -424,7 +427,7 @@ const HARD: [&str; 12] = [
     "a\rb", "a\nb=c\n", "\0a\0", "\u{e9}\r\u{10ffff}", "\t \u{7f}", "a\r\nm=x 1 y z\r\n",
 ];
 
-/// Strings with NUL, CR and LF in every place that a string can have.
+/// Strings with NUL, CR and LF in every place that a string can have, in keys too, which are not written.
 #[test]
 fn hard_strings() {
     let mut classes = Classes::default();
@@ -822,7 +825,12 @@ fn outputs_beside_a_long_string() {
         put_two(&mut long, cell.at, place);
         put_two(&mut long, cell.at + 2, 5_000);
         let (needed, one_pass) = (whole(&text, &long).len(), one_pass_from(&long));
-        assert!(needed > 5_000 && needed < one_pass && one_pass / 2 < needed);
+        if is_key(cell.part, cell.name) {
+            // neither written nor counted
+            assert_eq!((needed, one_pass), (whole(&text, &area).len(), one_pass_from(&area)));
+        } else {
+            assert!(needed > 5_000 && needed < one_pass && one_pass / 2 < needed);
+        }
         let rooms = [0, 1, one_pass / 2, needed - 1, needed, one_pass - 1, one_pass, one_pass + 1];
         tried += into_outputs(&text, &long, rooms.into_iter());
     }
@@ -847,6 +855,26 @@ fn the_sample() {
     let due = "v=0\r\no=- 0 0 IN IP4 0.0.0.0\r\ns=Desk 4\r\nt=60 0\r\nr=7d 1h 0 90\r\nz=60 -1h 61 0\r\na=recvonly\r\n\
         m=audio 5004/2 RTP/AVP 96\r\na=note:\r\n";
     assert_eq!(whole(text, &area_of(text).unwrap()), due);
+}
+
+/// Keys with every mark and any good strings: what is written is what is written without them.
+#[test]
+fn keys_are_not_written() {
+    let mut random = Random::of_test("keys are not written");
+    let (mut compared, mut keys) = (0, 0);
+    for _ in 0..count(1_500) {
+        let text = made::text(&mut random);
+        let area = made::area(&mut random, &text);
+        let mut without = area.clone();
+        for cell in cells(&area).iter().filter(|cell| is_key(cell.part, cell.name)) {
+            keys += u64::from(cell.judged && cell.kind == Kind::Mark && two(&area, cell.at) == 1);
+            without[cell.at..cell.at + cell.width].fill(0);
+        }
+        assert_eq!(whole(&text, &area), whole(&text, &without));
+        compared += 1;
+    }
+    println!("write: {compared} areas with and without their keys, {keys} marks of keys");
+    assert!(keys > compared / 2);
 }
 
 // ---- the tools of these tests

@@ -2,7 +2,7 @@
 //! empty lines, noise.
 use crate::sessions::LONGEST;
 
-/// The letters that have a use, and one that has none.
+/// The letters of the RFC, k among them, which has no use any more, and one that never had.
 const LETTERS: &str = "vosiuepcbtrzkamx";
 const HEAD: &str = "v=0\no=- 0 0 IN IP4 0\ns=-\n";
 const TIME: &str = "t=0 0\n";

@@ -171,6 +171,20 @@ fn good_line(random: &mut Random, letter: u8) -> Vec<u8> {
 
 // ---- good texts
 
+/// A k line, which has no use anywhere: a value that was good once, or any bytes.
+pub fn key_line(random: &mut Random) -> Vec<u8> {
+    match random.below(4) {
+        0 => line(b'k', b""),
+        1 => {
+            let mut value: Vec<u8> = (0..random.below(12)).map(|_| random.byte()).collect();
+            value.retain(|byte| !matches!(byte, 0 | b'\r' | b'\n'));
+            line(b'k', &value)
+        }
+        2 => line(b'k', &broken(random, b"")),
+        _ => good_line(random, b'k'),
+    }
+}
+
 /// A line that has no use where it stands: an unknown letter with any bytes, or one of `useless` with any value.
 fn ignored(random: &mut Random, useless: &[u8]) -> Vec<u8> {
     let letter = match random.below(3) {
@@ -196,16 +210,17 @@ fn several(random: &mut Random) -> usize {
 }
 
 /// The lines of a text that is accepted, the tables being far from full: v first, r only where a t came before, media
-/// lines after an m; often in RFC 8866's order and often not.
+/// lines after an m; often in RFC 8866's order and often not. A k line may stand anywhere behind the first, and more than
+/// once.
 pub fn good(random: &mut Random) -> Vec<Vec<u8>> {
     let mut session = Vec::new();
     for letter in *b"osiuepcbtzka" {
         let most = match letter {
-            b'e' | b'p' | b'b' | b't' | b'a' => several(random),
+            b'e' | b'p' | b'b' | b't' | b'k' | b'a' => several(random),
             _ => random.below(2),
         };
         for _ in 0..most {
-            session.push(good_line(random, letter));
+            session.push(if letter == b'k' { key_line(random) } else { good_line(random, letter) });
             if letter == b't' {
                 for _ in 0..several(random).min(4) {
                     session.push(good_line(random, b'r'));
@@ -229,11 +244,11 @@ pub fn good(random: &mut Random) -> Vec<Vec<u8>> {
         let mut media = Vec::new();
         for letter in *b"icbka" {
             let most = match letter {
-                b'i' | b'k' => random.below(2),
+                b'i' => random.below(2),
                 _ => several(random),
             };
             for _ in 0..most {
-                media.push(good_line(random, letter));
+                media.push(if letter == b'k' { key_line(random) } else { good_line(random, letter) });
             }
         }
         if random.once_in(3) {
@@ -245,7 +260,7 @@ pub fn good(random: &mut Random) -> Vec<Vec<u8>> {
     for _ in 0..several(random) {
         let at = random.between(1, lines.len());
         let in_media = lines[..at].iter().any(|line| line[0] == b'm');
-        let useless: &[u8] = if in_media { b"vosueptrz" } else { b"v" };
+        let useless: &[u8] = if in_media { b"vosueptrzk" } else { b"vk" };
         lines.insert(at, ignored(random, useless));
     }
     lines
@@ -284,9 +299,9 @@ pub fn ended(random: &mut Random, lines: &[Vec<u8>]) -> Vec<u8> {
 
 // ---- texts that aim at a refusal
 
-/// The 65 pairs of the refusal numbers 8 to 11 and fields that can occur.
+/// The 63 pairs of the refusal numbers 8 to 11 and fields that can occur.
 #[rustfmt::skip] // a row for each letter
-pub const PAIRS: [(u64, u64); 65] = [
+pub const PAIRS: [(u64, u64); 63] = [
     (8, 1), (10, 1), (8, 2), (10, 2), (8, 3), (9, 3), (10, 3), (9, 4), (10, 4), (9, 5), (10, 5), (8, 6),
     (10, 6), (11, 7),
     (9, 8), (10, 8), (9, 9), (10, 9), (8, 10), (10, 10), (11, 11),
@@ -294,7 +309,7 @@ pub const PAIRS: [(u64, u64); 65] = [
     (8, 15), (9, 15), (10, 15), (8, 16), (9, 16), (10, 16), (11, 17),
     (8, 18), (9, 18), (10, 18), (8, 19), (9, 19), (10, 19), (8, 20), (9, 20),
     (8, 21), (9, 21), (8, 22), (9, 22), (10, 22),
-    (8, 23), (8, 24), (8, 25), (8, 26),
+    (8, 23), (8, 24),
     (8, 27), (9, 28), (10, 28), (8, 29), (9, 30), (8, 31), (10, 31), (8, 32), (10, 32), (8, 33),
     (8, 34), (8, 35), (8, 36), (8, 37), (8, 38),
 ];
@@ -410,15 +425,11 @@ pub fn aimed(random: &mut Random, number: u64, field: u64) -> (u8, Vec<u8>) {
             let more = random.pick(&[&b":"[..], b":x", b":\xff", b"::"]);
             (b'b', [&free(random, 8, b":")[..], b":", &self::number(random, u64::MAX), more].concat())
         }
-        (8, 23 | 25) => {
-            let letter = if field == 23 { b'a' } else { b'k' };
+        (8, 23) => {
             let more = random.pick(&[&b""[..], b":", b":x", b":\xff"]);
-            (letter, [&broken(random, b":")[..], more].concat())
+            (b'a', [&broken(random, b":")[..], more].concat())
         }
-        (8, 24 | 26) => {
-            let letter = if field == 24 { b'a' } else { b'k' };
-            (letter, [&free(random, 8, b":")[..], b":", &broken(random, b"")].concat())
-        }
+        (8, 24) => (b'a', [&free(random, 8, b":")[..], b":", &broken(random, b"")].concat()),
         (8..=10, 27..=32) => (b'm', aimed_media(random, number, field)),
         (8, 33) | (8, 35) => whole(random, b'i'),
         (8, 34) => whole(random, b's'),
@@ -489,7 +500,7 @@ pub fn aimed_text(random: &mut Random, number: u64, field: u64) -> Vec<u8> {
     let in_session = b"osiueptrz".contains(&letter) && field != 33;
     let in_media = field == 33;
     // one of the letters that may stand once must not stand there before
-    lines.retain(|line| line[0] != letter || !b"osiuczk".contains(&letter));
+    lines.retain(|line| line[0] != letter || !b"osiucz".contains(&letter));
     if letter == b'r' {
         let at = random.between(1, medias_begin(&lines));
         lines.insert(at, good_line(random, b't'));
@@ -515,7 +526,8 @@ pub fn aimed_text(random: &mut Random, number: u64, field: u64) -> Vec<u8> {
     ended(random, &lines)
 }
 
-/// Lines that are good by themselves and stand where they must not: a second one, a repeat before any time, no version.
+/// Lines that are good by themselves and stand where they must not: a second one (which a k line may be), a repeat before
+/// any time, no version.
 fn misplaced(random: &mut Random) -> Vec<u8> {
     let mut lines = good(random);
     let begin = medias_begin(&lines);
@@ -526,10 +538,16 @@ fn misplaced(random: &mut Random) -> Vec<u8> {
         1 => {
             lines.remove(0);
         }
-        2 => lines.insert(0, random.pick(&[&b"x=1"[..], b"s=x", b"m=a 1 p f", b"=", b"nothing", b"\0", b"vv=0"]).to_vec()),
+        2 => {
+            let first = [&b"x=1"[..], b"s=x", b"m=a 1 p f", b"k=", b"k=\xff", b"=", b"nothing", b"\0", b"vv=0"];
+            lines.insert(0, random.pick(&first).to_vec());
+        }
         3 => {
             let at = random.between(1, lines.len());
-            lines.insert(at, random.pick(&[&b"="[..], b"nothing", b"aa=", b"\0", b"a=\0", b"a=\r.", b" a=", b"\r"]).to_vec());
+            let forms = [&b"="[..], b"nothing", b"aa=", b"\0", b"a=\0", b"a=\r.", b" a=", b"\r"];
+            let of_k = [&b"k"[..], b"k:x", b"kk=x", b" k=", b"k =x", b"k=\0", b"k=x\r.", b"k=\xff\r"];
+            let forms = if random.once_in(2) { forms } else { of_k };
+            lines.insert(at, random.pick(&forms).to_vec());
         }
         4..=5 => {
             lines.retain(|line| line[0] != b't' && line[0] != b'r');
@@ -722,7 +740,7 @@ pub fn lengthened(random: &mut Random, mut text: Vec<u8>, due: usize) -> Vec<u8>
     let more = match random.below(4) {
         0 => vec![b'\n'; missing],
         1 => vec![b' '; missing],
-        2 => b"x=\n".iter().copied().cycle().take(missing).collect(),
+        2 => [random.letter(b"xk"), b'=', b'\n'].into_iter().cycle().take(missing).collect(),
         _ => vec![random.letter(b"0x:/ "); missing],
     };
     text.splice(at..at, more);

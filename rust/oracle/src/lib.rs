@@ -1,6 +1,7 @@
-//! What the project's answers are compared with: the running crate, its refusals in document 01's numbers, and the
-//! two rules that document 01 adds on top of it. Nothing here calls the project's own code.
+//! What the project's answers are compared with: the running crate without k lines and keys, its refusals in document 01's
+//! numbers, and the two rules that document 01 adds on top of it. Nothing here calls the project's own code.
 pub mod fold;
+pub mod keys;
 pub mod leaf;
 pub mod limits;
 pub mod order;
@@ -12,14 +13,14 @@ pub use refusal::Refusal;
 pub use sdp_types;
 pub use sdp_types::Session;
 
-/// Reads as document 01 says: the crate with the limits on top.
+/// Reads as documents 01 and 02 say: the crate on the text without its k lines, with the limits on top.
 pub fn read(text: &[u8]) -> Result<Session, Refusal> {
     limits::read(text)
 }
 
-/// The written form, by the crate's writer.
+/// The written form, by the crate's writer, of the session without its keys.
 pub fn written(session: &Session) -> Vec<u8> {
     let mut output = Vec::new();
-    session.write(&mut output).expect("a vector takes all that is written");
+    keys::without_keys(session).write(&mut output).expect("a vector takes all that is written");
     output
 }

@@ -1,4 +1,5 @@
 //! Document 01's own rules on top of the crate: 1, a text that is too long, and 21, a table that is full.
+use crate::keys;
 use crate::refusal::{parse, Refusal};
 use sdp_types::Session;
 
@@ -47,8 +48,7 @@ fn full_after(text: &[u8], ends: &[usize], lines: usize) -> Option<u64> {
     }
 }
 
-/// Reads as document 01 says. Lines are handled strictly one after another, so the earliest refused line wins: 21 is
-/// for a line that the crate accepts, and after which a table has too many records.
+/// Reads as documents 01 and 02 say. The length is that of the whole text, the line of a refusal too.
 pub fn read(text: &[u8]) -> Result<Session, Refusal> {
     if text.len() > TEXT {
         return Err(Refusal {
@@ -56,6 +56,13 @@ pub fn read(text: &[u8]) -> Result<Session, Refusal> {
             ..Refusal::default()
         });
     }
+    let left = keys::without(text);
+    within_tables(&left.text).map_err(|refusal| left.in_whole(refusal))
+}
+
+/// Lines are handled strictly one after another, so the earliest refused line wins: 21 is for a line that the crate
+/// accepts, and after which a table has too many records.
+fn within_tables(text: &[u8]) -> Result<Session, Refusal> {
     let answer = parse(text);
     let ends: Vec<usize> = text
         .split_inclusive(|byte| *byte == b'\n')

@@ -28,7 +28,7 @@ impl Refusal {
     }
 }
 
-/// Document 01, "Fields": the crate's name for each of the 38.
+/// Document 01, "Fields": the crate's name for each of the 38. The two of a k line are reserved: the crate alone names them.
 pub const FIELDS: [&str; 38] = [
     "Origin username",
     "Origin sess-id",
@@ -118,7 +118,7 @@ pub fn of(error: &ParserError, text: &[u8]) -> Refusal {
         ParserError::MultipleConnections(line) => Refusal::at_line(16, *line),
         ParserError::MultipleTimeZones(line) => Refusal::at_line(17, *line),
         ParserError::MultipleMediaTitles(line) => Refusal::at_line(18, *line),
-        ParserError::MultipleKeys(line) => Refusal::at_line(19, *line),
+        ParserError::MultipleKeys(line) => Refusal::at_line(19, *line), // by the crate alone
         ParserError::RepeatWithoutTime(line) => Refusal::at_line(20, *line),
         ParserError::MultipleVersions(_)
         | ParserError::UnexpectedLine(..)
@@ -137,7 +137,7 @@ pub fn form(why: &str) -> u64 {
     }
 }
 
-/// What the crate alone says of a text, in document 01's numbers.
+/// What the crate alone says of a text, k lines and all, in document 01's numbers.
 pub fn parse(text: &[u8]) -> Result<Session, Refusal> {
     Session::parse(text).map_err(|error| of(&error, text))
 }

@@ -1,5 +1,5 @@
 //! The folder of texts at the repository's root: each NAME.sdp has NAME.expected beside it, which is what the program
-//! `canon` must print for it. These files are made here, from the crate alone.
+//! `canon` must print for it. These files are made here, from the crate alone, which gets the texts without their k lines.
 use crate::Refusal;
 use std::path::{Path, PathBuf};
 use std::{fs, io};

@@ -1,5 +1,5 @@
-//! The fixed list of stored answers: inputs and what std, the crate and, for the letter order, `regex` say to them. The
-//! program crates/vectors reads the list and must print the same.
+//! The fixed list of stored answers: inputs and what std, the crate without k lines and, for the letter order, `regex` say to
+//! them. The program crates/vectors reads the list and must print the same.
 //!
 //! An input line is `K=HEX`, an answer line `K` and decimal numbers:
 //! - `u` end of the longest UTF-8 beginning; `t` 1 for a token, else 0;
@@ -431,8 +431,16 @@ fn whole_texts(list: &mut List) {
     // the crate folds the casing of IN and IP4 and writes it folded
     list.add("r", b"v=0\no= u  1 2 in Ip4 h \ns=\xf4\x8f\xbf\xbf");
     // once more what may stand once
-    for line in ["o=- 0 0 I J h", "s=", "i=", "u=", "c=I J h", "z=", "k="] {
+    for line in ["o=- 0 0 I J h", "s=", "i=", "u=", "c=I J h", "z="] {
         list.add("rw", format!("v=0\n{line}\n{}=", &line[..1]).as_bytes());
+    }
+    // a k line has no use: any value, any number of them; its form is tested, and its line is counted
+    for text in [
+        &b"v=0\nk=\nk=m:t\r\nk=\xff\nm= 1  \nk=:\nk=\xff:\xff"[..],
+        b"k=\nv=0", b"\nk=:\n", b"v=0\nk=\nk=\xff\r\n\nt=x", b"v=0\nk=\nz=\nk=\nz=", b"v=0\nk=m\n=x",
+        b"v=0\nk\n", b"v=0\nk:m", b"v=0\nkk=m", b"v=0\nk=\0", b"v=0\nk=\r", b"v=0\nk=\r\r\n", b"v=0\nk=m\nv=0\nk=\xffx\rx\n",
+    ] {
+        list.add("rw", text);
     }
     // in the last media that there is room for, a second title is seen
     list.add("r", ["v=0\n", &"m= 0  \n".repeat(32), "i=\ni=\n"].concat().as_bytes());

@@ -5,7 +5,7 @@ use common::{accepted, join, refusal, refused};
 use generate::{random::count, texts, Random};
 use oracle::limits::TEXT;
 use oracle::refusal::parse;
-use oracle::{read, written};
+use oracle::{keys, read, written, Refusal};
 
 #[test]
 fn the_token_test_comes_before_utf8() {
@@ -62,6 +62,29 @@ fn a_unit_is_split_off_before_the_utf8_test() {
     assert_eq!(refused(&[b"r=1\xc3\xa9 1"]), (9, 3, 18));
 }
 
+/// What the crate does with k lines, and documents 01 and 02 no more.
+#[test]
+fn the_crate_reads_keys() {
+    let text = b"v=0\nk=clear:x\nm=a 1 p f\nk=\nm=a 1 p f\nk=:\n";
+    let session = parse(text).unwrap();
+    let key = |key: &Option<oracle::sdp_types::Key>| key.clone().map(|key| (key.method, key.encryption_key));
+    assert_eq!(key(&session.key), Some(("clear".into(), Some("x".into()))));
+    let of_medias: Vec<_> = session.medias.iter().map(|media| key(&media.key)).collect();
+    assert_eq!(of_medias, [Some((String::new(), None)), Some((String::new(), Some(String::new())))]);
+    let mut output = Vec::new();
+    session.write(&mut output).unwrap();
+    assert_eq!(output.split(|byte| *byte == b'\n').filter(|line| line.starts_with(b"k=")).count(), 3);
+    // it refuses a second one, and one that is not UTF-8
+    assert_eq!(parse(b"v=0\nk=\nk=\xff"), Err(Refusal::at_line(19, 3)));
+    assert_eq!(parse(b"v=0\nm=a 1 p f\nk=\nk="), Err(Refusal::at_line(19, 4)));
+    assert_eq!(parse(b"v=0\nk=\xff"), Err(Refusal::at_field(8, 2, 25)));
+    assert_eq!(parse(b"v=0\nk=x:\xff"), Err(Refusal::at_field(8, 2, 26)));
+
+    assert_eq!(read(text).unwrap(), keys::without_keys(&session));
+    assert_eq!(written(&session), written(&read(text).unwrap()));
+    assert!(!written(&session).windows(3).any(|part| part == b"\nk="));
+}
+
 #[test]
 fn only_the_first_version_line_counts() {
     accepted(&[b"v=0", b"v=0", b"v=9"]);
@@ -116,9 +139,9 @@ fn kept_lines(text: &[u8]) -> usize {
     for (_, key, _) in &lines[1..] {
         in_media |= *key == b'm';
         kept += usize::from(if in_media {
-            b"micbka".contains(key)
+            b"micba".contains(key)
         } else {
-            b"osiuepcbtrzka".contains(key)
+            b"osiuepcbtrza".contains(key)
         });
     }
     kept
@@ -127,8 +150,8 @@ fn kept_lines(text: &[u8]) -> usize {
 #[test]
 fn the_longest_written_form() {
     // every kept line gains one byte; a missing o and s are written, and the last line has no LF
-    let media: [&[u8]; 5] = [b"m=a 1 p f", b"i=", b"k=", b"c=N A h", b"c=N A h"];
-    let mut lines: Vec<&[u8]> = vec![b"v=0", b"i=", b"u=", b"c=N A h", b"z=1 1", b"k="];
+    let media: [&[u8]; 4] = [b"m=a 1 p f", b"i=", b"c=N A h", b"c=N A h"];
+    let mut lines: Vec<&[u8]> = vec![b"v=0", b"i=", b"u=", b"c=N A h", b"z=1 1"];
     for (line, most) in [
         (&b"e="[..], 16),
         (b"p=", 16),
@@ -149,9 +172,9 @@ fn the_longest_written_form() {
     let text = join(&lines);
     assert_eq!(text.len(), TEXT);
     let output = written(&read(&text).unwrap());
-    assert_eq!(output.len(), 33_667);
+    assert_eq!(output.len(), 33_634);
     assert_eq!(read(&output).unwrap_err().number, 1);
-    assert_eq!(kept_lines(&text), 1 + 5 + 16 + 16 + 64 + 32 + 64 + 512 + 5 * 32);
+    assert_eq!(kept_lines(&text), 1 + 4 + 16 + 16 + 64 + 32 + 64 + 512 + 4 * 32);
 }
 
 #[test]

@@ -4,7 +4,7 @@ use common::{accepted, join, refused};
 use generate::{random::count, texts, Random};
 use oracle::limits::{counts, full, TABLES, TEXT};
 use oracle::refusal::{line_start, parse};
-use oracle::{read, Refusal};
+use oracle::{keys, read, Refusal};
 
 #[test]
 fn the_generator_has_the_same_limits() {
@@ -123,7 +123,8 @@ fn session_and_medias_count_together() {
     accepted(&lines);
 }
 
-/// The same rule said plainly: the first beginning of whole lines that the crate refuses or that doesn't fit.
+/// The same rule said plainly: the first beginning of whole lines that the crate, without its k lines, refuses or that
+/// doesn't fit. The line is that at which the beginning ends.
 fn line_by_line(text: &[u8]) -> Result<oracle::Session, Refusal> {
     let lines = text.split_inclusive(|byte| *byte == b'\n').count();
     for line in 1..=lines {
@@ -132,7 +133,7 @@ fn line_by_line(text: &[u8]) -> Result<oracle::Session, Refusal> {
         } else {
             line_start(text, line + 1)
         };
-        match parse(&text[..end]) {
+        match parse(&keys::without(&text[..end]).text) {
             Ok(session) => {
                 if let Some(table) = full(&session) {
                     return Err(Refusal {
@@ -146,10 +147,13 @@ fn line_by_line(text: &[u8]) -> Result<oracle::Session, Refusal> {
             }
             // a beginning of empty lines has no version yet
             Err(Refusal { number: 6, .. }) if text[..end].iter().all(|byte| matches!(byte, b'\r' | b'\n')) => {}
-            Err(refusal) => return Err(refusal),
+            Err(refusal) => {
+                let line = if refusal.number == 6 { 0 } else { line as u64 };
+                return Err(Refusal { line, ..refusal });
+            }
         }
     }
-    parse(text)
+    parse(&keys::without(text).text)
 }
 
 #[test]
@@ -187,7 +191,7 @@ fn halving_gives_what_going_line_by_line_gives() {
         }
         for _ in 0..random.below(3) {
             let at = random.between(1, lines.len());
-            let bad = random.pick(&["", "x=\u{e9}", "nothing", "t=x", "m=a 1 p f", "i="]);
+            let bad = random.pick(&["", "x=\u{e9}", "k=\u{e9}", "k=", "nothing", "t=x", "m=a 1 p f", "i="]);
             lines.insert(at, bad.as_bytes().to_vec());
         }
         let text = join(&lines.iter().map(|line| &line[..]).collect::<Vec<_>>());

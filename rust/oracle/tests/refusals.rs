@@ -33,15 +33,13 @@ fn every_number() {
     assert_eq!(refused(&[b"t=a 0"]), (9, 2, 15));
     assert_eq!(refused(&[b"t="]), (10, 2, 15));
     assert_eq!(refused(&[b"t=0 0 0"]), (11, 2, 17));
-    let second: [(u64, &[u8], &[u8]); 8] = [
+    let second: [(u64, &[u8], &[u8]); 6] = [
         (12, b"o=- 0 0 IN IP4 h", b"o="),
         (13, b"s=", b"s=\xff"),
         (14, b"i=", b"i=\xff"),
         (15, b"u=", b"u=\xff"),
         (16, b"c=IN IP4 h", b"c="),
         (17, b"z=", b"z=x"),
-        (19, b"k=", b"k=\xff"),
-        (19, b"k=x", b"k=x"),
     ];
     for (number, first, second) in second {
         accepted(&[first]);
@@ -52,10 +50,11 @@ fn every_number() {
         refused(&[b"m=a 1 p f", b"i=", b"m=a 1 p f", b"i=", b"i=\xff"]),
         (18, 6, 0)
     );
-    assert_eq!(
-        refused(&[b"m=a 1 p f", b"k=", b"m=a 1 p f", b"k=", b"k=\xff"]),
-        (19, 6, 0)
-    );
+    // 19 never occurs: a second k line is ignored as the first one is
+    for second in [b"k=".as_slice(), b"k=\xff"] {
+        accepted(&[b"k=x", second]);
+        accepted(&[b"m=a 1 p f", b"k=", b"m=a 1 p f", b"k=", second]);
+    }
     assert_eq!(refused(&[b"a=", b"r=x"]), (20, 3, 0));
     let mut lines: Vec<&[u8]> = vec![b"v=0"];
     lines.resize(18, b"e=");
@@ -126,12 +125,21 @@ fn every_field() {
         } else {
             sample(&[line])
         };
-        assert_eq!(refusal(&text).field, number, "{}", String::from_utf8_lossy(line));
+        // those of a k line are reserved: the crate alone names them
+        if RESERVED.contains(&number) {
+            assert_eq!(parse(&text).unwrap_err().field, number);
+            accepted(&[line]);
+        } else {
+            assert_eq!(refusal(&text).field, number, "{}", String::from_utf8_lossy(line));
+        }
         assert_eq!(field(FIELDS[at]), number);
     }
 }
 
-/// Which of 8 (encoding), 9 (format), 10 (missing) and 11 (trailing) each field can have: 65 pairs.
+/// The fields of a k line.
+const RESERVED: [u64; 2] = [25, 26];
+
+/// Which of 8 (encoding), 9 (format), 10 (missing) and 11 (trailing) each field can have by the crate alone: 65 pairs.
 fn possible() -> BTreeSet<(u64, u64)> {
     let by_field: [&[u64]; 38] = [
         &[8, 10],
@@ -198,7 +206,7 @@ fn pairs_of_number_and_field() {
         (b'e', &["x"], ""),
         (b'p', &["x"], ""),
     ];
-    let mut seen = BTreeSet::new();
+    let (mut seen, mut by_the_crate) = (BTreeSet::new(), BTreeSet::new());
     for (letter, good, between) in lines {
         for at in 0..=good.len() {
             for bad in [&b"\xff"[..], b"(", b"1/x", b"1/\xff"] {
@@ -210,21 +218,26 @@ fn pairs_of_number_and_field() {
                     let line = [&[letter, b'='], &parts.join(between.as_bytes())[..]].concat();
                     // once in the session and once in a media
                     for text in [sample(&[&line]), sample(&[b"m=a 1 p f", &line])] {
-                        if let Err(Refusal {
-                            number: number @ 8..=11,
-                            field,
-                            ..
-                        }) = oracle::read(&text)
-                        {
-                            seen.insert((number, field));
+                        for (answer, pairs) in [(oracle::read(&text), &mut seen), (parse(&text), &mut by_the_crate)] {
+                            if let Err(Refusal {
+                                number: number @ 8..=11,
+                                field,
+                                ..
+                            }) = answer
+                            {
+                                pairs.insert((number, field));
+                            }
                         }
                     }
                 }
             }
         }
     }
-    assert_eq!(seen, possible());
-    assert_eq!(seen.len(), 65);
+    assert_eq!(by_the_crate, possible());
+    assert_eq!(by_the_crate.len(), 65);
+    by_the_crate.retain(|(_, field)| !RESERVED.contains(field));
+    assert_eq!(seen, by_the_crate);
+    assert_eq!(seen.len(), 63);
     // the generator aims at these
     assert_eq!(seen, generate::sessions::PAIRS.into_iter().collect());
 }
@@ -234,11 +247,15 @@ fn random_texts_stay_within_the_pairs() {
     let mut random = Random::of_test("pairs");
     let possible = possible();
     let (mut compared, mut accepted) = (0, 0);
-    let mut numbers = BTreeSet::new();
+    let (mut numbers, mut without_keys) = (BTreeSet::new(), BTreeSet::new());
     for _ in 0..count(200_000) {
         let mut text = texts::text(&mut random);
         if random.once_in(3) {
             fields::damage(&mut random, &mut text);
+        }
+        if let Err(refusal) = oracle::read(&text) {
+            without_keys.insert(refusal.number);
+            assert!(refusal.number == 21 || !RESERVED.contains(&refusal.field), "{refusal:?}");
         }
         match parse(&text) {
             Ok(_) => accepted += 1,
@@ -254,9 +271,11 @@ fn random_texts_stay_within_the_pairs() {
         compared += 1;
     }
     println!("pairs: {compared} random texts read, {accepted} accepted, numbers seen {numbers:?}");
+    println!("pairs: without k lines {without_keys:?}");
     // the generator reaches both sides well
     assert!(accepted * 5 > compared && accepted * 5 < compared * 4);
     if compared >= 100_000 {
         assert_eq!(numbers, (3..=20).collect());
+        assert_eq!(without_keys, (3..=20).filter(|number| *number != 19).collect());
     }
 }

@@ -17,7 +17,12 @@ impl Area {
         Area([0; Area::SIZE])
     }
 
-    /// The bytes, for a caller who walks them by docs/AREA.md.
+    /// An area of bytes that were kept. [`kept`](crate::kept) judges them.
+    pub const fn from_bytes(bytes: [u8; Area::SIZE]) -> Self {
+        Area(bytes)
+    }
+
+    /// The bytes, for a caller who walks them by docs/AREA.md, or keeps them.
     pub fn as_bytes(&self) -> &[u8; Area::SIZE] {
         &self.0
     }

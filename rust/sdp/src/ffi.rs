@@ -149,7 +149,8 @@ pub fn cut(text: &[u8], place: usize, line: usize) -> Piece {
     unsafe { raw::sdp_cut(text.as_ptr(), text.len(), place, line) }
 }
 
-/// Reads a text into an area that is lent. docs/AREA.md says what it holds afterwards.
+/// Reads a text into an area that is lent. docs/AREA.md says what it holds afterwards; the cells of keys are zero, since
+/// k lines are ignored.
 #[inline] // so that only a program that reads needs the archive to have it
 pub fn read(text: &[u8], area: &mut [u8]) -> Answer {
     unsafe { raw::sdp_read(text.as_ptr(), text.len(), area.as_mut_ptr(), area.len()) }
@@ -161,7 +162,8 @@ pub fn area_size() -> usize {
     unsafe { raw::sdp_area_size() }
 }
 
-/// Writes the session that the area holds, with its strings in the text, to the output that is lent.
+/// Writes the session that the area holds, with its strings in the text, to the output that is lent. Keys that an earlier
+/// release left in the area are judged, and not written.
 #[inline]
 pub fn write(text: &[u8], area: &[u8], out: &mut [u8]) -> Answer {
     unsafe {

@@ -6,13 +6,15 @@
 //! |---|---|
 //! | `Session::parse(&data)?` | [`read`]`(&data, &mut area)?`, or [`SessionBuf::parse`]`(data)?` to keep it |
 //! | `session.times`, `media.attributes`, .. | `session.times()`, `media.attributes()`, ..: read as they are walked |
-//! | `session.session_name`, `session.key`, .. | `session.session_name()`, `session.key()`, .. |
+//! | `session.session_name`, `session.uri`, .. | `session.session_name()`, `session.uri()`, .. |
+//! | `session.key`, `media.key` | [`Session::key`], [`Media::key`]: `None` of what is read, since k lines are ignored |
 //! | `time.start_time`, `media.port`, `zone.offset`, .. | the same |
 //! | `String` | `&str` that stands in the text |
 //! | `NetType`, `AddrType` | `&str`, as it was written: `in` stays `in` |
 //! | `session.origin` where no o line was | [`Session::origin`]: the same; [`Session::origin_line`] gives `None` |
 //! | `session.write(&mut output)?` | [`Session::write`] into a slice, [`Session::to_vec`], or `to_string()` |
 //! | `ParserError` | [`Error`]: a number, a line, a field, and a sentence |
+//! | nothing | [`kept`]: the session of an area that was kept |
 //! | nothing | [`Session::starts`]: the instants at which the session starts within a window |
 //!
 //! # Memory
@@ -146,11 +148,39 @@ pub const ROOM: usize = 43_727;
 ///
 /// # Errors
 ///
-/// The refusals 1 and 3 to 21 of docs/REFUSALS.md: the first line that is refused decides.
+/// The refusals 1, 3 to 18, 20 and 21 of docs/REFUSALS.md: the first line that is refused decides.
 #[inline] // so that only a program that reads needs the archive to have it
 pub fn read<'a>(text: &'a [u8], area: &'a mut Area) -> Result<Session<'a>, Error> {
     area.read(text)?;
     Ok(Session::new(text, area))
+}
+
+/// The session of an area that was kept, with the text that was read into it: by this release or an earlier one, in Rust
+/// ([`Area::as_bytes`]) or in C. The bytes are judged first, so they may be any.
+///
+/// An area of a release that still read k lines has their keys ([`Session::key`], [`Media::key`]). They are not written.
+///
+/// ```
+/// let text = b"v=0\ns=one\n";
+/// let mut area = sdp::Area::new();
+/// sdp::read(text, &mut area)?;
+/// let bytes = *area.as_bytes(); // put away, and later:
+/// let area = sdp::Area::from_bytes(bytes);
+/// assert_eq!(sdp::kept(text, &area)?.session_name(), "one");
+/// assert_eq!(sdp::kept(b"v=0", &area).unwrap_err().number(), 23); // it is another text's
+/// # Ok::<(), sdp::Error>(())
+/// ```
+///
+/// # Errors
+///
+/// Refusal 1 for a text of more than [`LONGEST`] bytes, 23 for bytes that hold no session for this text.
+#[inline]
+pub fn kept<'a>(text: &'a [u8], area: &'a Area) -> Result<Session<'a>, Error> {
+    // a written form is never empty: of a good area the answer is 22
+    match Error::check(ffi::write(text, area.as_bytes(), &mut [])) {
+        Err(error) if error.number() != 22 => Err(error),
+        _ => Ok(Session::new(text, area)),
+    }
 }
 
 /// Whether the letters of the text's lines run in the order of the RFCs, with the z line after all t and r lines, where

@@ -55,8 +55,8 @@ impl<'a> Cells<'a> {
     /// The place in the text, then the length.
     fn string(self, at: usize) -> &'a str {
         let (place, len) = (usize::from(self.two(at)), usize::from(self.two(at + 2)));
-        let bytes = self.text.get(place..place + len).expect("the reader's strings stand in the text");
-        std::str::from_utf8(bytes).expect("the reader's strings are UTF-8")
+        let bytes = self.text.get(place..place + len).expect("strings of a good area stand in the text");
+        std::str::from_utf8(bytes).expect("strings of a good area are UTF-8")
     }
 
     /// What a mark says is there: the cells behind it, taken.
@@ -185,7 +185,8 @@ pub struct TimeZone {
     pub offset: i64,
 }
 
-/// Encryption key of the session or of a media: a k line.
+/// Encryption key of the session or of a media, from a k line. RFC 8866 calls these obsolete: a line that is read today
+/// gives no key, and none is written. Only an area that was kept from an earlier release has one.
 #[derive(Debug, Clone, Copy, PartialEq, Eq)]
 pub struct Key<'a> {
     /// Key method.
@@ -220,7 +221,8 @@ pub struct Media<'a> {
     pub fmt: &'a str,
     /// Title of the media: its i line.
     pub media_title: Option<&'a str>,
-    /// Encryption key of the media.
+    /// Encryption key of the media: `None` in every session that is read today, whatever k lines its text has. Only an area
+    /// that was kept from an earlier release has one, and it is never written.
     pub key: Option<Key<'a>>,
 }
 
@@ -281,7 +283,7 @@ pub struct Session<'a> {
 }
 
 impl<'a> Session<'a> {
-    /// Only for an area that this text was read into.
+    /// Only for an area that this text was read into, or that was judged with it.
     #[inline]
     pub(crate) fn new(text: &'a [u8], area: &'a Area) -> Self {
         Session { text, area }
@@ -410,7 +412,8 @@ impl<'a> Session<'a> {
         })
     }
 
-    /// Encryption key of the session: its k line.
+    /// Encryption key of the session: `None` in every session that is read today, whatever k lines its text has. Only an
+    /// area that was kept from an earlier release has one, and it is never written.
     pub fn key(&self) -> Option<Key<'a>> {
         self.cells(KEY).marked(0, Cells::key)
     }
@@ -440,9 +443,10 @@ impl<'a> Session<'a> {
 
     attributes_by_name!();
 
-    /// Writes the session into the slice, as the crate's `Session::write` does, and gives the written part of it.
+    /// Writes the session into the slice, as the crate's `Session::write` does without its keys, and gives the written part
+    /// of it.
     ///
-    /// [`ROOM`] bytes are always enough. What stands behind the written part stays as it was; after an error all of it.
+    /// [`ROOM`] bytes are enough for all that was read; an area made by hand may need more. What stands behind the written part stays as it was; after an error all of it.
     ///
     /// # Errors
     ///
@@ -485,7 +489,10 @@ impl<'a> Session<'a> {
     /// The written form in a vector of its own.
     pub fn to_vec(&self) -> Vec<u8> {
         let mut out = vec![0; ROOM];
-        let len = self.write(&mut out).expect("what was read is written, and has room").len();
+        let len = self.write(&mut out).map(|written| written.len()).unwrap_or_else(|error| {
+            out.resize(error.len() as usize, 0); // the strings of an area made by hand may overlap
+            self.write(&mut out).expect("a good session is written, and has room").len()
+        });
         out.truncate(len);
         out.shrink_to_fit();
         out

@@ -41,7 +41,7 @@ pub const SENTENCES: [(u64, &str); 25] = [
     (16, "there is a second c line of the session"),
     (17, "there is a second z line"),
     (18, "there is a second i line in this media"),
-    (19, "there is a second k line"),
+    (19, "there is a second k line"), // by an earlier archive: k lines are ignored now
     (20, "there is an r line with no t line before it"),
     (21, "there are more than {rows} {table}"),
     (22, "the output is too short: {len} bytes are needed"),
@@ -86,7 +86,7 @@ pub const FIELDS: [Field; 38] = [
     field("a zone's offset", SIGNED),
     field("the attribute's name", ""),
     field("the attribute's value", ""),
-    field("the key's method", ""),
+    field("the key's method", ""), // this one and the next by an earlier archive
     field("the key", ""),
     field("the media's name", ""),
     field("the port", PORT),

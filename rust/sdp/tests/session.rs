@@ -5,7 +5,7 @@ use sdp::{
     MOST_STARTS, ROOM,
 };
 
-/// Something in every place, and absent things too.
+/// Something in every place, and absent things too; k lines, which have no use.
 const RICH: &[u8] = b"v=0\no=jdoe 42 7 in IP4 host.example\ns=Desk 4\ni=The desk\nu=http://desk.example\n\
     e=a@b\ne=c@d\np=+1 2\nc=IN ip4 224.0.0.1/15\nb=CT:384\nb=X-y:5\n\
     t=1 2\nr=7d 1h 0 25h\nr=1 2\nt=3 0\nt=4 5\nr=60 30 1m\nz=60 -1h 61 0 62 +30m\n\
@@ -43,7 +43,7 @@ fn everything_is_there() {
     assert_eq!(session.connection(), Some(connection("IN", "ip4", "224.0.0.1/15")));
     let bandwidth = |bwtype, bandwidth| Bandwidth { bwtype, bandwidth };
     assert_eq!(session.bandwidths().collect::<Vec<_>>(), [bandwidth("CT", 384), bandwidth("X-y", 5)]);
-    assert_eq!(session.key(), Some(Key { method: "clear", encryption_key: Some("secret") }));
+    assert_eq!(session.key(), None);
     let attribute = |attribute, value| Attribute { attribute, value };
     let attributes = [attribute("recvonly", None), attribute("note", Some("")), attribute("Tool", Some("desk:4"))];
     assert_eq!(session.attributes().collect::<Vec<_>>(), attributes);
@@ -64,8 +64,7 @@ fn everything_is_there() {
         [("audio", 5004, Some(2), "RTP/AVP", "96 97"), ("video", 0, None, "p", ""), ("text", 65_535, None, "x", "y")]
     );
     let titles: Vec<_> = medias.iter().map(|media| (media.media_title, media.key)).collect();
-    let prompt = Key { method: "prompt", encryption_key: None };
-    assert_eq!(titles, [(Some("Stage"), Some(prompt)), (None, None), (None, None)]);
+    assert_eq!(titles, [(Some("Stage"), None), (None, None), (None, None)]);
     let connections: Vec<Vec<_>> = medias.iter().map(|media| media.connections().collect()).collect();
     assert_eq!(
         connections,
@@ -106,13 +105,85 @@ fn nothing_is_there() {
 /// Absent and empty differ.
 #[test]
 fn empty_is_not_absent() {
-    let kept = read(b"v=0\ni=\nu=\nk=\na=x:\na=x\na=\nm=a 1 p f\ni=\nk=:\n");
+    let kept = read(b"v=0\ni=\nu=\na=x:\na=x\na=\nm=a 1 p f\ni=\n");
     let session = kept.session();
     assert_eq!((session.session_description(), session.uri()), (Some(""), Some("")));
-    assert_eq!(session.key(), Some(Key { method: "", encryption_key: None }));
     assert_eq!(session.attributes().map(|row| row.value).collect::<Vec<_>>(), [Some(""), None, None]);
     let media = session.medias().next().unwrap();
-    assert_eq!((media.media_title, media.key), (Some(""), Some(Key { method: "", encryption_key: Some("") })));
+    assert_eq!(media.media_title, Some(""));
+}
+
+/// A k line gives no key, whatever it holds, and is never written. Its form is tested, and its line is counted.
+#[test]
+fn k_lines_have_no_use() {
+    let without = read(b"v=0\ns=x\nm=a 1 p f\na=y\n");
+    let with = read(b"v=0\nk=clear:x\ns=x\nk=\nk=\xff\nm=a 1 p f\nk=:\na=y\nk=prompt\nk=\xff");
+    assert_eq!(with, without);
+    let session = with.session();
+    assert_eq!((session.key(), session.medias().next().unwrap().key), (None, None));
+    assert_eq!(session.to_vec(), without.session().to_vec());
+    let numbers = |error: Error| (error.number(), error.line(), error.field());
+    assert_eq!(numbers(refused(b"v=0\nk=\nk=\xff\nt=x\n")), (9, 4, 15));
+    assert_eq!(numbers(refused(b"v=0\nk\n")), (4, 2, 0));
+    assert_eq!(numbers(refused(b"v=0\nk=x\ry\n")), (3, 2, 0));
+    assert_eq!(numbers(refused(b"k=x\nv=0\n")), (6, 0, 0));
+}
+
+/// The area that the release before left of `texts/kinds/NAME.sdp`, and the text.
+fn of_the_release_before(name: &str) -> (Vec<u8>, Area) {
+    let texts = std::path::Path::new(env!("CARGO_MANIFEST_DIR")).join("../../texts");
+    let file = |path: String| std::fs::read(texts.join(&path)).unwrap_or_else(|error| panic!("{path}: {error}"));
+    let bytes = file(format!("kept/{name}.area")).try_into().expect("an area has 14,558 bytes");
+    (file(format!("kinds/{name}.sdp")), Area::from_bytes(bytes))
+}
+
+/// Its keys are seen, and not written.
+#[test]
+fn a_kept_area() {
+    let (text, area) = of_the_release_before("keys");
+    let session = sdp::kept(&text, &area).unwrap();
+    let key = |method, encryption_key| Some(Key { method, encryption_key });
+    assert_eq!(session.key(), key("uri", Some("https://keys.example.com/session/3?a=b:c")));
+    let of_medias: Vec<_> = session.medias().map(|media| media.key).collect();
+    let due = [
+        key("clear", Some("pass word: with colons")),
+        key("base64", Some("cGFzcw==")),
+        key("prompt", None),
+        key("clear", Some("")),
+    ];
+    assert_eq!(of_medias, due);
+    let today = read(&text);
+    assert_eq!(session.session_name(), today.session().session_name());
+    assert_eq!(session.to_vec(), today.session().to_vec());
+    assert!(session != today.session() && today.session().key().is_none());
+
+    // a mark that is neither, a place beyond the text, another text, one that is too long
+    let broken = |at: usize, value: [u8; 2]| {
+        let mut bytes = *area.as_bytes();
+        bytes[at..at + 2].copy_from_slice(&value);
+        sdp::kept(&text, &Area::from_bytes(bytes)).map(|_| ()).unwrap_err().number()
+    };
+    assert_eq!([broken(62, [2, 0]), broken(64, [0xff, 0x7f]), broken(13_406 + 24, [2, 0])], [23; 3]);
+    assert_eq!(sdp::kept(b"v=0\n", &area).unwrap_err().number(), 23);
+    assert_eq!(sdp::kept(&[b'v'; LONGEST + 1], &area).unwrap_err().number(), 1);
+    assert!(sdp::kept(b"", &Area::new()).is_ok()); // that of v=0 alone
+}
+
+/// 512 attributes whose names are one long string each: more than any text that is read is written with.
+#[test]
+fn an_area_made_by_hand() {
+    let text = [b'a'; 30_000];
+    let mut bytes = *Area::new().as_bytes();
+    bytes[7_258..7_260].copy_from_slice(&512_u16.to_le_bytes());
+    for row in bytes[7_260..13_404].chunks_exact_mut(12) {
+        row[4..6].copy_from_slice(&30_000_u16.to_le_bytes());
+    }
+    let area = Area::from_bytes(bytes);
+    let session = sdp::kept(&text, &area).unwrap();
+    let empty = sdp::kept(&text, &Area::new()).unwrap().to_vec().len();
+    assert_eq!(session.to_vec().len(), empty + 512 * (30_000 + 4));
+    assert_eq!(session.to_string().into_bytes(), session.to_vec());
+    assert_eq!(session.write(&mut [0; ROOM]).unwrap_err().number(), 22);
 }
 
 /// Minus one hour is minus one hour, and so to the ends of 64 bits.
@@ -163,8 +234,8 @@ fn written() {
     let due = "v=0\r\no=jdoe 42 7 in IP4 host.example\r\ns=Desk 4\r\ni=The desk\r\nu=http://desk.example\r\n\
         e=a@b\r\ne=c@d\r\np=+1 2\r\nc=IN ip4 224.0.0.1/15\r\nb=CT:384\r\nb=X-y:5\r\n\
         t=1 2\r\nr=7d 1h 0 25h\r\nr=1 2\r\nt=3 0\r\nt=4 5\r\n\
-        r=1m 30 1m\r\nz=60 -1h 61 0 62 30m\r\nk=clear:secret\r\na=recvonly\r\na=note:\r\na=Tool:desk:4\r\n\
-        m=audio 5004/2 RTP/AVP 96 97\r\ni=Stage\r\nc=IN IP4 a\r\nc=IN IP4 b\r\nb=AS:1\r\nk=prompt\r\n\
+        r=1m 30 1m\r\nz=60 -1h 61 0 62 30m\r\na=recvonly\r\na=note:\r\na=Tool:desk:4\r\n\
+        m=audio 5004/2 RTP/AVP 96 97\r\ni=Stage\r\nc=IN IP4 a\r\nc=IN IP4 b\r\nb=AS:1\r\n\
         a=rtpmap:96 L16\r\na=RTPMAP:97 L24\r\nm=video 0 p \r\nm=text 65535 x y\r\nc=TN E164 c\r\nb=AS:2\r\na=x\r\n";
     let kept = read(RICH);
     let session = kept.session();
@@ -240,7 +311,7 @@ fn equality() {
         let without: String = others.map(|(_, line)| format!("{line}\n")).collect();
         // an m line's own lines go to the media before it, or are second ones
         if let Ok(other) = SessionBuf::parse(without) {
-            assert_ne!(other, due, "without {line}");
+            assert_eq!(other == due, line.starts_with("k="), "without {line}");
             changed += 1;
         }
     }

@@ -1,4 +1,4 @@
-//! A plain reader in Rust, after document 01, with one slip in it if wanted: with it the comparison itself is tested.
+//! A plain reader in Rust, after documents 01 and 02, with one slip in it if wanted: with it the comparison itself is tested.
 //! Nothing is compared with this reader.
 #![allow(dead_code)] // each test file takes what it needs
 pub mod starts;
@@ -10,7 +10,7 @@ use compare::area::{
 use compare::Answer;
 
 /// What each slip does wrong. The comparison must find every one.
-pub const SLIPS: [&str; 53] = [
+pub const SLIPS: [&str; 61] = [
     "a text of 32,769 bytes is read",
     "a text of 32,768 bytes is refused",
     "a text that is too long clears the area",
@@ -64,6 +64,14 @@ pub const SLIPS: [&str; 53] = [
     "tables are full one record early",
     "the session's connection is in the table",
     "an equal string elsewhere",
+    "a k line is judged",
+    "a k line of a media is judged",
+    "a second k line is refused",
+    "a key is kept",
+    "a media's key is kept",
+    "a k line of bad form is ignored",
+    "a k line may stand before the version",
+    "k lines are not counted",
 ];
 
 pub struct Plain {
@@ -107,7 +115,7 @@ impl Plain {
             named: false,
             zoned: false,
             titled: false,
-            keyed: false,
+            keys: 0,
         };
         let answer = reader.all().err().unwrap_or_default();
         let mut bytes = encode(&reader.seen);
@@ -139,7 +147,8 @@ struct Reader<'a> {
     named: bool,
     zoned: bool,
     titled: bool,
-    keyed: bool,
+    /// k lines since the latest m line.
+    keys: usize,
 }
 
 impl<'a> Reader<'a> {
@@ -176,6 +185,10 @@ impl<'a> Reader<'a> {
             if unknown && self.slips("ignored lines are not tested") {
                 continue;
             }
+            let is_k = whole[0] == b'k';
+            if version && is_k && self.slips("a k line of bad form is ignored") {
+                continue;
+            }
             let nul = if self.slips("NUL passes") { b'\r' } else { 0 };
             if whole.contains(&nul) || whole.contains(&b'\r') {
                 return Err(refusal(3, line, 0));
@@ -188,7 +201,9 @@ impl<'a> Reader<'a> {
             let letter = whole[0];
             if !version {
                 if letter != b'v' {
-                    if self.slips("an unknown line may stand before the version") && letter == b'x' {
+                    if self.slips("an unknown line may stand before the version") && letter == b'x'
+                        || self.slips("a k line may stand before the version") && is_k
+                    {
                         continue;
                     }
                     return Err(refusal(6, 0, 0));
@@ -204,6 +219,7 @@ impl<'a> Reader<'a> {
                 }
                 self.line(line, letter, value)?;
                 self.full(line)?;
+                line -= u64::from(is_k && self.slips("k lines are not counted"));
             }
         }
         if !version {
@@ -529,18 +545,22 @@ impl<'a> Reader<'a> {
                 }
                 self.zoned = !words.is_empty() || !self.slips("an empty z admits a second");
             }
+            // no use: what is done here are slips
             (_, b'k') => {
-                let there = if in_media { self.keyed } else { self.seen.key.is_some() };
-                if there {
+                if self.keys > 0 && self.slips("a second k line is refused") {
                     return second(19);
                 }
-                let (method, text) = self.halves(value, line, 25)?;
-                let key = Some(Key { method, text });
-                match self.seen.medias.last_mut() {
-                    Some(media) => media.key = key,
-                    None => self.seen.key = key,
+                self.keys += 1;
+                let read = self.halves(value, line, 25);
+                if self.slips(if in_media { "a k line of a media is judged" } else { "a k line is judged" }) {
+                    read?;
                 }
-                self.keyed = in_media;
+                let key = read.ok().map(|(method, text)| Key { method, text });
+                match self.seen.medias.last_mut() {
+                    Some(media) if self.plain.slips("a media's key is kept") => media.key = key,
+                    None if self.plain.slips("a key is kept") => self.seen.key = key,
+                    _ => {}
+                }
             }
             (_, b'a') => {
                 let (name, value) = self.halves(value, line, 23)?;
@@ -618,7 +638,7 @@ impl<'a> Reader<'a> {
             key: None,
         });
         self.titled &= self.slips("a title may stand once in all medias");
-        self.keyed = false;
+        self.keys = 0;
         Ok(())
     }
 }

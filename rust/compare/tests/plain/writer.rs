@@ -1,11 +1,11 @@
-//! A plain writer in Rust, after document 01, with one slip in it if wanted. Nothing is compared with this writer.
+//! A plain writer in Rust, after documents 01 and 02, with one slip in it if wanted. Nothing is compared with this writer.
 use compare::area::SIZE;
 use compare::judge::part;
 use compare::made::at;
 use compare::Answer;
 
 /// What each slip does wrong. The comparison must find every one.
-pub const SLIPS: [&str; 58] = [
+pub const SLIPS: [&str; 63] = [
     "every session is refused",
     "nothing is refused for its output",
     "an exact output is too short",
@@ -37,14 +37,14 @@ pub const SLIPS: [&str; 58] = [
     "-2^63 loses one",
     "zones have no unit",
     "an empty attribute value is absent",
-    "an empty key text is absent",
     "no ports are absent",
     "a port has eight bits",
     "all repeats belong to the first time",
     "offsets belong to the repeat of their number",
     "a media's bandwidths before its connections",
-    "a media's key after its attributes",
-    "the session's key after its attributes",
+    "a key is written",
+    "a media's key is written",
+    "an empty k line for a key",
     "phones before emails",
     "a count may be one over",
     "a full table is refused",
@@ -64,6 +64,11 @@ pub const SLIPS: [&str; 58] = [
     "only the lower byte of a mark is judged",
     "absent strings are judged",
     "rows past the count are judged",
+    "a session with a key is refused",
+    "a media with a key is refused",
+    "the session's key is not judged",
+    "a media's key is not judged",
+    "a key's text is not judged",
 ];
 
 pub struct PlainWriter {
@@ -237,8 +242,13 @@ impl<'a> Pen<'a> {
         self.mark(at) && (!judged || self.string(at + 2))
     }
 
-    fn key(&self, at: usize) -> bool {
-        self.mark(at) && (!self.present(at) || self.string(at + 2) && self.maybe(at + 6))
+    /// Judged, and not written.
+    fn key(&self, at: usize, refused: &str, unjudged: &str) -> bool {
+        if self.present(at) && self.slips(refused) {
+            return false;
+        }
+        let text = self.slips("a key's text is not judged") || self.maybe(at + 6);
+        self.slips(unjudged) || self.mark(at) && (!self.present(at) || self.string(at + 2) && text)
     }
 
     fn strings(&self, at: usize, count: usize) -> bool {
@@ -255,7 +265,7 @@ impl<'a> Pen<'a> {
             && self.maybe(part("uri").at)
             && self.mark(connection)
             && (!self.present(connection) || self.strings(connection + 2, 3))
-            && self.key(part("key").at)
+            && self.key(part("key").at, "a session with a key is refused", "the session's key is not judged")
     }
 
     fn tables(&self) -> bool {
@@ -270,8 +280,8 @@ impl<'a> Pen<'a> {
             && each("bandwidths", &|row| self.string(row + 2))
             && each("attributes", &|row| self.string(row + 2) && self.maybe(row + 6))
             && each("medias", &|row| {
-                let ports = self.mark(row + 6);
-                ports && self.string(row) && self.strings(row + 10, 2) && self.maybe(row + 18) && self.key(row + 24)
+                let key = self.key(row + 24, "a media with a key is refused", "a media's key is not judged");
+                self.mark(row + 6) && self.string(row) && self.strings(row + 10, 2) && self.maybe(row + 18) && key
             })
     }
 
@@ -325,15 +335,19 @@ impl<'a> Pen<'a> {
         self.end();
     }
 
-    fn key_line(&mut self, at: usize) {
-        if !self.present(at) {
+    /// By a slip alone: a key is never written.
+    fn key_line(&mut self, slip: &str, at: usize) {
+        let written = self.slips(slip);
+        if !self.present(at) || !written && !self.slips("an empty k line for a key") {
             return;
         }
         self.put("k=");
-        self.free(at + 2);
-        if self.present(at + 6) && !(self.slips("an empty key text is absent") && self.two(at + 10) == 0) {
-            self.put(":");
-            self.free(at + 8);
+        if written {
+            self.free(at + 2);
+            if self.present(at + 6) {
+                self.put(":");
+                self.free(at + 8);
+            }
         }
         self.end();
     }
@@ -492,14 +506,8 @@ impl<'a> Pen<'a> {
         if !swapped {
             self.bandwidths(media + 1);
         }
-        let late = self.slips("a media's key after its attributes");
-        if !late {
-            self.key_line(row + 24);
-        }
+        self.key_line("a media's key is written", row + 24);
         self.attributes(media + 1);
-        if late {
-            self.key_line(row + 24);
-        }
     }
 
     fn session(&mut self) {
@@ -532,14 +540,8 @@ impl<'a> Pen<'a> {
         self.bandwidths(0);
         self.times();
         self.zones();
-        let late = self.slips("the session's key after its attributes");
-        if !late {
-            self.key_line(part("key").at);
-        }
+        self.key_line("a key is written", part("key").at);
         self.attributes(0);
-        if late {
-            self.key_line(part("key").at);
-        }
         for media in 0..self.rows("medias") {
             self.media(media);
         }
