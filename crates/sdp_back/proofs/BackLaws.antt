@@ -24,8 +24,8 @@ use Rattle.sdp_same.proofs.SoundLaws.{read-sound}
 use Rattle.sdp_same.proofs.SameLaws.{read-is, read-fits, write-is, read-then-write}
 use Rattle.sdp_same.proofs.WrittenLaws.{written-said}
 use Rattle.sdp_back.specs.Again.{again}
-use Rattle.sdp_back.specs.Back.{SaidAgain, ReadBack}
-use Rattle.sdp_back.specs.Keys.{withoutKeys, KeptFrom, KeysLeftOut, KeptBack}
+use Rattle.sdp_back.specs.Back.{SaysAgain, ReadBack}
+use Rattle.sdp_back.specs.Keys.{withoutKeys, KeptFrom, KeptBack}
 use Rattle.sdp_back.proofs.PlainLaws.{read-plain}
 use Rattle.sdp_back.proofs.WholeLaws.{Ordered, written-back}
 use Rattle.sdp_back.proofs.KeyLaws.{kept-written}
@@ -96,37 +96,30 @@ wrote-fill w o = go (ltb (length o) (length w))
     go true n = absurd (let z : _≡_ {A = ℕ} 22 0 = n in omega arith)
     go false n = take-at w (drop (length w) o) (length w) refl
 
+-- what is written of what t says, read again
+module _ (t : List ℕ) (s : Session Span) (e : lines spanAt t ≡ accepted s) (o b : List ℕ) where
+  says-again : (r : writer.Outcome) → r ≡ fill (written (bytesOf t) s) o → r .answer .number ≡ 0 → length (wrote r) ≤ 32768 → size ≤ length b → SaysAgain (said (bytesOf t) s) (wrote r) b
+  says-again r f n l m =
+      let w : wrote r ≡ written (bytesOf t) s = ap wrote f ∙ wrote-fill (written (bytesOf t) s) o (rw f at n) in
+      let q : lines bytesAt (wrote r) ≡ accepted (again (said (bytesOf t) s)) = ap (lines bytesAt) w ∙ back t s e in
+      at-places (SaysAgain (said (bytesOf t) s) (wrote r) b) (wrote r) _ q (λ x p y. record { session = x; says = p; read = read-is (wrote r) b l m _ p; same = y })
+
 -- "a session that the reader accepted, written with room and read back within the limit, is the same session"
 pub read-back : (t a o b : List ℕ) → ReadBack t a o b
 read-back t a o b h k l m =
     let r = read-then-write t a o h in
-    let e : wrote (writeText t (readText t a .area) o) ≡ written (bytesOf t) (r .session) = ap wrote (r .outcome) ∙ wrote-fill (written (bytesOf t) (r .session)) o (rw (r .outcome) at k) in
     let f = read-fits t a h in
-    let w : List ℕ = wrote (writeText t (readText t a .area) o) in
-    let q : lines bytesAt w ≡ accepted (again (said (bytesOf t) (r .session))) = ap (lines bytesAt) e ∙ back t (r .session) (r .read) in
-    at-places (SaidAgain t a w b) w _ q (λ second x y. record {
-      first = r .session;
-      second = second;
+    record {
+      session = r .session;
       says = r .read;
-      saysAgain = x;
       read = read-is t a (f .0) (f .1) _ (r .read);
-      readAgain = read-is w b l m _ x;
-      same = y;
-    })
+      again = says-again t (r .session) (r .read) o b _ (r .outcome) k l m;
+    }
 
 -- document 02, P4: "written without their keys, and demand 3's reading back leaves those keys out"
 pub kept-back : (t a : List ℕ) (k : KeptFrom t a) (c o b : List ℕ) → KeptBack t a k c o b
-kept-back t a k c o b short full = (kept-written t a k short o ∙ sym today, left-out)
-  where
-    s : Session Span
-    s = withoutKeys (k .session)
-
-    today : writeText t (readText t c .area) o ≡ fill (written (bytesOf t) s) o
-    today = ap (λ r. writeText t (r .area) o) (read-is t c short full (accepted s) (k .today)) ∙ write-is t short s (read-sound t s (k .today)) (drop size c) o
-
-    left-out : writeText t a o .answer .number ≡ 0 → length (wrote (writeText t a o)) ≤ 32768 → size ≤ length b → KeysLeftOut t (k .session) (wrote (writeText t a o)) b
-    left-out n l m =
-        let w : List ℕ = wrote (writeText t a o) in
-        let e : w ≡ written (bytesOf t) s = ap wrote (kept-written t a k short o) ∙ wrote-fill (written (bytesOf t) s) o (rw (kept-written t a k short o) at n) in
-        let q : lines bytesAt w ≡ accepted (again (said (bytesOf t) s)) = ap (lines bytesAt) e ∙ back t s (k .today) in
-        at-places (KeysLeftOut t (k .session) w b) w _ q (λ second x y. record { second = second; saysAgain = x; readAgain = read-is w b l m _ x; same = y })
+kept-back t a k c o b short full =
+    let s : Session Span = withoutKeys (k .session) in
+    let w = kept-written t a k short o in
+    let today : writeText t (readText t c .area) o ≡ fill (written (bytesOf t) s) o = ap (λ r. writeText t (r .area) o) (read-is t c short full (accepted s) (k .today)) ∙ write-is t short s (read-sound t s (k .today)) (drop size c) o in
+    (w ∙ sym today, says-again t s (k .today) o b _ w)

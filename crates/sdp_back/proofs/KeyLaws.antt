@@ -1,5 +1,5 @@
 -- Keys: no reader keeps one, and an area that has some is written without them. Assumes nothing.
-use mathlib.Core.Path.{_≡_, refl, sym, ap, _∙_}
+use mathlib.Core.Path.{_≡_, refl, sym, ap, ap₂, _∙_}
 use mathlib.Core.List.{List, [], _∷_, _++_, map}
 use mathlib.Core.Option.{Option, none, some, Option·map}
 use Prim.Native.Nat.{ℕ, _+_, _≤_}
@@ -25,6 +25,10 @@ use Rattle.sdp_same.proofs.SameLaws.{write-is}
 use Rattle.sdp_back.specs.Keys.{unkeyed, withoutKeys, KeysIn, KeptFrom}
 use Rattle.sdp_back.proofs.PlainLaws.{MediaPlain, read-plain}
 
+-- a media that has none
+pub unkeyed-same : {S : Type 0} (m : Media S) → m .key ≡ none → unkeyed m ≡ m
+unkeyed-same m e = λ i. record { media = m .media; port = m .port; numPorts = m .numPorts; proto = m .proto; fmt = m .fmt; mediaTitle = m .mediaTitle; key = sym e i }
+
 -- ---- what is read has none
 keyless : {X Y : Type 0} (f : X → Y) (o : Option X) → Option·map f o ≡ none → o ≡ none
 keyless f none e = refl
@@ -33,9 +37,7 @@ keyless f (some x) e = absurd (let z : _≡_ {A = ℕ} 0 1 = cc in omega arith)
 module _ (f : Span → List ℕ) where
   medias-keyless : (ms : List (Media Span)) → Each MediaPlain (map (saidMedia f) ms) → map unkeyed ms ≡ ms
   medias-keyless [] h = refl
-  medias-keyless (m ∷ ms) h =
-      let e = keyless (saidKey f) (m .key) (h .0 .key) in
-      λ i. record { media = m .media; port = m .port; numPorts = m .numPorts; proto = m .proto; fmt = m .fmt; mediaTitle = m .mediaTitle; key = sym e i } ∷ medias-keyless ms (h .1) i
+  medias-keyless (m ∷ ms) h = ap₂ _∷_ (unkeyed-same m (keyless (saidKey f) (m .key) (h .0 .key))) (medias-keyless ms (h .1))
 
 pub read-keyless : (t : List ℕ) (s : Session Span) → lines spanAt t ≡ accepted s → withoutKeys s ≡ s
 read-keyless t s e =
@@ -54,7 +56,7 @@ module _ {S : Type 0} (str : S → List ℕ) (s : Session S) where
   medias-unkeyed [] k = refl
   medias-unkeyed (m ∷ ms) k = ap (λ (l : List ℕ). mediaLines str (s .tables) k m ++ l) (medias-unkeyed ms (k + 1))
 
-  written-keyless : written str (withoutKeys s) ≡ written str s
+  pub written-keyless : written str (withoutKeys s) ≡ written str s
   unfolding form.written form.headLines form.contactLines form.closingLines form.mediaLines
   written-keyless = ap (λ (l : List ℕ). headLines str (s .head) ++ (contactLines str s ++ (closingLines str s ++ l))) (medias-unkeyed (s .tables .medias) 1)
 

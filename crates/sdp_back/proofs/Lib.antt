@@ -6,10 +6,10 @@ pub mod AddressLaws
 pub mod PieceLaws
 pub mod TimeLaws
 pub mod PlainLaws
+pub mod KeyLaws
 pub mod LeadLaws
 pub mod LineLaws
 pub mod OffsetLaws
 pub mod WholeLaws
-pub mod KeyLaws
 pub mod BackLaws
 pub mod KeySamples

@@ -26,10 +26,12 @@ use Rattle.sdp_same.specs.Fits.{IfGiven, Each, FitTime, FitRepeat, FitOffset, F
 use Rattle.sdp_same.specs.Sound.{Rising}
 use Rattle.sdp_same.specs.Said.{bytesAt}
 use Rattle.sdp_back.specs.Again.{placeholder, originAgain, nameAgain, timesAgain, again}
+use Rattle.sdp_back.specs.Keys.{unkeyed}
 use Rattle.sdp_back.proofs.ByteLaws.{every}
 use Rattle.sdp_back.proofs.AddressLaws.{OriginBack, ConnectionBack, placeholder-back}
 use Rattle.sdp_back.proofs.PieceLaws.{BandwidthBack, AttributeBack, mediaAlone}
 use Rattle.sdp_back.proofs.PlainLaws.{TextBack, MediaPlain, Plain}
+use Rattle.sdp_back.proofs.KeyLaws.{unkeyed-same}
 use Rattle.sdp_back.proofs.LeadLaws.{Leads, stay, _then_, begin-leads, optional-leads, rows-lead, below, below-none, below-all, owned-lead}
 use Rattle.sdp_back.proofs.LineLaws.{origin-leads, name-leads, description-leads, uri-leads, connection-leads, email-leads, phone-leads, time-leads, repeat-leads, zones-lead, bandwidth-leads, attribute-leads, media-leads, media-connection-leads, title-leads}
 use Rattle.sdp_back.proofs.OffsetLaws.{ownerOf, values, repeat-text, values-small, values-next, values-fit}
@@ -206,10 +208,9 @@ module _ (s : Session (List ℕ)) (plain : Plain s) (ordered : Ordered s) where
       let n : ℕ = length ms + 1 in
       let e : (x : Media (List ℕ)) → length (ms ++ (x ∷ [])) ≡ n = λ x. length-append ms (x ∷ []) in
       let there : (x : Media (List ℕ)) → 0 < length (ms ++ (x ∷ [])) = λ x. (let q = e x in omega arith) in
-      let m₁ : Media (List ℕ) = mediaWith m (m .mediaTitle) in
-      let same : m₁ ≡ m = λ i. record { media = m .media; port = m .port; numPorts = m .numPorts; proto = m .proto; fmt = m .fmt; mediaTitle = m .mediaTitle; key = sym (p .key) i } in
+      let m₁ : Media (List ℕ) = unkeyed m in
       rw (e m)
-      (subst (λ x. Leads (mediasState ms) (mediaLines id T n m) (full (conns (n + 1)) (bands (n + 1)) (attrs (n + 1)) (ms ++ (x ∷ [])))) same
+      (subst (λ x. Leads (mediasState ms) (mediaLines id T n m) (full (conns (n + 1)) (bands (n + 1)) (attrs (n + 1)) (ms ++ (x ∷ [])))) (unkeyed-same m (p .key))
       (media-leads (mediasState ms) m (p .line) l
       then optional-leads TextBack _ (λ t. full (conns n) (bands n) (attrs n) (ms ++ (mediaWith m t ∷ []))) (λ x b. title-leads _ (there _) ms (mediaAlone m) refl x b refl) (m .mediaTitle) (p .title)
       then owned-lead (λ (c : MediaConnection (List ℕ)). c .owner) (λ c. ConnectionBack (c .connection)) 64 n (λ k c. connectionLine id (c .connection)) (λ cs. full cs (bands n) (attrs n) (ms ++ (m₁ ∷ []))) (λ cs c b o l. media-connection-leads _ (there _) c b (o ∙ sym (e m₁)) l) (T .connections) _ 1 (ordered .ownedConnections) (plain .tables .connections) (ordered .within .connections)

@@ -15,15 +15,19 @@ use Rattle.sdp_write.specs.Write.{wrote, writeText}
 use Rattle.sdp_same.specs.Said.{said}
 use Rattle.sdp_back.specs.Again.{again}
 
--- t was read into the area a, and w into the area b: both are accepted, and string by string w says again what t said
+-- w is accepted where it is read into the area b, and string by string it says s again
+pub record SaysAgain (s : Session (List ℕ)) (w b : List ℕ) : Type 0 where
+  pub session : Session Span
+  pub says : lines spanAt w ≡ accepted session
+  pub read : readText w b ≡ outcomeOf b (accepted session)
+  pub same : said (bytesOf w) session ≡ again s
+
+-- t was read into the area a, and is accepted; w, read into the area b, says again what t said
 pub record SaidAgain (t a w b : List ℕ) : Type 0 where
-  pub first : Session Span
-  pub second : Session Span
-  pub says : lines spanAt t ≡ accepted first
-  pub saysAgain : lines spanAt w ≡ accepted second
-  pub read : readText t a ≡ outcomeOf a (accepted first)
-  pub readAgain : readText w b ≡ outcomeOf b (accepted second)
-  pub same : said (bytesOf w) second ≡ again (said (bytesOf t) first)
+  pub session : Session Span
+  pub says : lines spanAt t ≡ accepted session
+  pub read : readText t a ≡ outcomeOf a (accepted session)
+  pub again : SaysAgain (said (bytesOf t) session) w b
 
 -- t read into the area a, the area written to the output o with room, and what was written read into the area b within the limit
 abbrev pub ReadBack : List ℕ → List ℕ → List ℕ → List ℕ → Type 0

@@ -11,12 +11,12 @@ use Rattle.sdp_lines.specs.declared.Span.{Span}
 use Rattle.sdp_area.specs.Session.{Media, Session}
 use Rattle.sdp_area.specs.Area.{encode, size}
 use Rattle.sdp_strings.specs.Strings.{spanAt}
-use Rattle.sdp_read.specs.Run.{accepted, outcomeOf, lines, readText}
+use Rattle.sdp_read.specs.Run.{accepted, lines, readText}
 use Rattle.sdp_write.specs.Write.{wrote, writeText}
 use Rattle.sdp_same.specs.Fits.{IfGiven, Each, FitKey}
 use Rattle.sdp_same.specs.Said.{said}
 use Rattle.sdp_same.specs.Sound.{FineIn}
-use Rattle.sdp_back.specs.Again.{again}
+use Rattle.sdp_back.specs.Back.{SaysAgain}
 
 -- a media without its key
 abbrev pub unkeyed : {S : Type 0} → Media S → Media S
@@ -68,18 +68,14 @@ pub record KeptFrom (t a : List ℕ) : Type 0 where
   pub keys : KeysIn t session
   pub today : lines spanAt t ≡ accepted (withoutKeys session)
 
--- what was written of it, w, is accepted where it is read into the area b, and says string by string the session without its keys again
-pub record KeysLeftOut (t : List ℕ) (s : Session Span) (w b : List ℕ) : Type 0 where
-  pub second : Session Span
-  pub saysAgain : lines spanAt w ≡ accepted second
-  pub readAgain : readText w b ≡ outcomeOf b (accepted second)
-  pub same : said (bytesOf w) second ≡ again (said (bytesOf t) (withoutKeys s))
-
 -- t is within the limit, a was kept of it, and c is any area of full size: a is written to the output o as the area that t is read into today
--- is; with room, and read into the area b within the limit, that leaves the keys out
+-- is; with room, and read into the area b within the limit, that says again the session without its keys
 abbrev pub KeptBack : (t a : List ℕ) → KeptFrom t a → List ℕ → List ℕ → List ℕ → Type 0
 KeptBack t a k c o b =
     length t ≤ longestText
     → size ≤ length c
     → (writeText t a o ≡ writeText t (readText t c .area) o)
-    × (writeText t a o .answer .number ≡ 0 → length (wrote (writeText t a o)) ≤ longestText → size ≤ length b → KeysLeftOut t (k .session) (wrote (writeText t a o)) b)
+    × (writeText t a o .answer .number ≡ 0
+    → length (wrote (writeText t a o)) ≤ longestText
+    → size ≤ length b
+    → SaysAgain (said (bytesOf t) (withoutKeys (k .session))) (wrote (writeText t a o)) b)
