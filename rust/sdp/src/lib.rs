@@ -28,9 +28,9 @@
 //!
 //! # Strings
 //!
-//! The reader refuses a text in which a field that it keeps is not UTF-8, so every string of a session is a `&str`.
-//! This is proved of the archive (`well-formed` in docs/AREA.md). The conversion is checked all the same. Nothing here
-//! panics as long as the archive keeps what is proved of it.
+//! The reader refuses a text in which a field that it keeps is not UTF-8, and [`kept`] an area with such a string, so every
+//! string of a session is a `&str`. This is proved of the archive (`well-formed` in docs/AREA.md). The conversion is
+//! checked all the same. Nothing here panics as long as the archive keeps what is proved of it.
 //!
 //! # Example
 //!
