@@ -35,7 +35,7 @@ use Rattle.sdp_row.specs.Written.{spaced, text, usernameText, originValue}
 use Rattle.sdp_bound.specs.Kept.{id}
 use Rattle.sdp_same.specs.Fits.{Each}
 use Rattle.sdp_back.specs.Again.{placeholder}
-use Rattle.sdp_back.proofs.ByteLaws.{every, bare, clean-bare}
+use Rattle.sdp_put.proofs.ByteLaws.{every, bare, clean-bare}
 use Rattle.sdp_back.proofs.NumberLaws.{number-back}
 use Rattle.sdp_back.proofs.WordLaws.{Word, are-words, tails, joined-bare, words-back, digits-word}
 use Rattle.sdp_back.proofs.FieldLaws.{Backs, left, mapRead, onSeen, unseen, first, textIn, tokenIn, see-text, see-token, see-number, see-end, see-word, see-then, Gives, gives-got, gives-then, gives-test, gives-number, gives-unseen, gives-word}

@@ -1,12 +1,9 @@
 -- What was read, written and read again is the same session. Assumes nothing.
 use mathlib.Core.Path.{_≡_, refl, sym, ap, _∙_}
-use mathlib.Core.Bool.{Bool, true, false, cond}
 use mathlib.Core.List.{List, [], _∷_, _++_, map}
 use Prim.Native.Nat.{ℕ, _≤_}
 use native.Mathlib.Omega.{arith}
 use lib.ListN.{length, drop, length-map}
-use lib.Seq.{take-at}
-use lib.Dec.{ltb}
 use Rattle.sdp_lines.specs.Strings.{bytesOf}
 use Rattle.sdp_lines.specs.declared.Span.{Span}
 use Rattle.sdp_area.specs.Session.{MediaConnection, Bandwidth, Attribute, Session}
@@ -16,6 +13,7 @@ use Rattle.sdp_read.specs.Run.{Verdict, accepted, refused, lines, readText}
 use Rattle.sdp_row.specs.Written.{written}
 use Rattle.sdp_write.specs.Write as writer
 use Rattle.sdp_write.specs.Write.{wrote, fill, writeText}
+use Rattle.sdp_write.proofs.WriteLaws.{wrote-fill}
 use Rattle.sdp_bound.specs.Kept.{id}
 use Rattle.sdp_same.specs.Said.{saidMediaConnection, saidBandwidth, saidAttribute, saidMedia, said, bytesAt}
 use Rattle.sdp_same.specs.Sound.{FineIn, Rising, Sound}
@@ -89,13 +87,6 @@ text-back t s e =
     rw (← z) (ap (lines bytesAt) (sym (written-said (bytesOf t) r)) ∙ back t r q))
 
 -- ---- over the promises of read and write
-wrote-fill : (w o : List ℕ) → fill w o .answer .number ≡ 0 → wrote (fill w o) ≡ w
-wrote-fill w o = go (ltb (length o) (length w))
-  where
-    go : (b : Bool) → (let r : writer.Outcome = cond b (record { answer = writer.answer 22 (length w); out = o }) (record { answer = writer.answer 0 (length w); out = w ++ drop (length w) o }) in r .answer .number ≡ 0 → wrote r ≡ w)
-    go true n = absurd (let z : _≡_ {A = ℕ} 22 0 = n in omega arith)
-    go false n = take-at w (drop (length w) o) (length w) refl
-
 -- what is written of what t says, read again
 module _ (t : List ℕ) (s : Session Span) (e : lines spanAt t ≡ accepted s) (o b : List ℕ) where
   says-again : (r : writer.Outcome) → r ≡ fill (written (bytesOf t) s) o → r .answer .number ≡ 0 → length (wrote r) ≤ 32768 → size ≤ length b → SaysAgain (said (bytesOf t) s) (wrote r) b

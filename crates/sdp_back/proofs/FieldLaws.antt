@@ -34,7 +34,7 @@ use Rattle.sdp_media_line.specs.declared.Port.{Port}
 use Rattle.sdp_split.proofs.WordLaws.{word-none, word-next}
 use Rattle.sdp_step.specs.Step.{maybeIn}
 use Rattle.sdp_same.specs.Fits.{Each}
-use Rattle.sdp_back.proofs.ByteLaws.{bare}
+use Rattle.sdp_put.proofs.ByteLaws.{bare}
 use Rattle.sdp_back.proofs.WordLaws.{Word, behind, cut}
 
 -- what was read, as f says it

@@ -1,4 +1,3 @@
-pub mod ByteLaws
 pub mod NumberLaws
 pub mod WordLaws
 pub mod FieldLaws

@@ -23,15 +23,16 @@ use Rattle.sdp_step.specs.Step as steps
 use Rattle.sdp_step.specs.Step.{Reading, goes, once, row, zoneIn, zonesTaken, stepRole}
 use Rattle.sdp_row.specs.Written as form
 use Rattle.sdp_row.specs.Written.{line, stringLine, originValue, connectionLine, bandwidthLine, attributeLine, mediaLine, timeValue}
+use Rattle.sdp_row.proofs.FormLaws.{letter}
 use Rattle.sdp_bound.specs.Kept.{id}
 use Rattle.sdp_same.specs.Fits.{Each, FitTime, FitZone}
-use Rattle.sdp_back.proofs.ByteLaws.{bare}
+use Rattle.sdp_put.proofs.ByteLaws.{bare}
 use Rattle.sdp_back.proofs.FieldLaws.{Backs, mapRead}
 use Rattle.sdp_back.proofs.AddressLaws.{ConnectionBack, OriginBack}
 use Rattle.sdp_back.proofs.PieceLaws.{BandwidthBack, AttributeBack, MediaBack, mediaAlone}
 use Rattle.sdp_back.proofs.TimeLaws.{time-line-back, repeatValue, repeat-line-back, zonesValue, zones-line-back}
 use Rattle.sdp_back.proofs.PlainLaws.{TextBack}
-use Rattle.sdp_back.proofs.LeadLaws.{letter, Leads, line-leads}
+use Rattle.sdp_back.proofs.LeadLaws.{Leads, line-leads}
 
 -- ---- the shapes of a step
 module _ {A X : Type 0} (read : List ℕ → Read A) (mk : List ℕ → A → X) (v : List ℕ) (x : X) (b : Backs read mk v x) where

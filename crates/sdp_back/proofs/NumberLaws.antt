@@ -20,10 +20,10 @@ use Rattle.sdp_judge.specs.Offset as signed-offset
 use Rattle.sdp_judge.specs.Offset.{offsetOf}
 use Rattle.sdp_judge.specs.Read.{got}
 use Rattle.sdp_put.specs.Digits.{digits, timeText}
-use Rattle.sdp_put.proofs.DigitLaws.{digits-one, digits-more, time-zero, time-day, time-hour, time-minute, time-plain, offset-minus, offset-plain}
+use Rattle.sdp_put.proofs.DigitLaws.{digits-one, digits-more, digits-pass, time-form, time-pass, offset-minus, offset-plain}
 use Rattle.sdp_row.specs.Written.{signedText}
 use Rattle.sdp_bound.proofs.NumberLaws.{digits-some}
-use Rattle.sdp_back.proofs.ByteLaws.{every, every-append, last-byte, but-last}
+use Rattle.sdp_put.proofs.ByteLaws.{every, last-byte, but-last}
 
 -- ---- digits
 value-append : (v : ℕ) (a b : List ℕ) → value v (a ++ b) ≡ value (value v a) b
@@ -67,18 +67,6 @@ digits-in (suc n) v h = go (ltb v 10) refl (λ g. digits-in n (v / 10) (omega ar
 
 digits-are : (v : ℕ) → Digits v (digits v)
 digits-are v = digits-in (suc v) v (omega arith)
-
--- a test that digits pass
-module _ (p : ℕ → Bool) (h : (b : ℕ) → 0x30 ≤ b → b ≤ 0x39 → p b ≡ true) where
-  all-pass : (s : List ℕ) → allDigits s ≡ true → every p s ≡ true
-  unfolding number.allDigits every
-  all-pass [] e = refl
-  all-pass (b ∷ s) e =
-      let d = and-left (digit b) (allDigits s) e in
-      rw (h b (leb-true 0x30 b (and-left _ _ d)) (leb-true b 0x39 (and-right (leb 0x30 b) _ d))) (all-pass s (and-right (digit b) (allDigits s) e))
-
-  pub digits-pass : (v : ℕ) → every p (digits v) ≡ true
-  digits-pass v = all-pass (digits v) (digits-are v .all)
 
 -- digits begin with no plus sign, and bytes below 80 hexadecimal are UTF-8
 no-plus : (s : List ℕ) → allDigits s ≡ true → dropPlus s ≡ s
@@ -126,18 +114,6 @@ unit-back v k x u z e l h =
     ∙ ap (scaled k) (number-back 64 (v / k) l)
     ∙ rw (e, lt-ltb v (2 ^ 64) h)
 
--- what holds of a time's text, where it holds of plain digits and of digits with a unit of k seconds that divides the time
-module _ (P : List ℕ → Type 0) (v : ℕ) where
-  time-form : P (digits v) → (v % 86400 ≡ 0 → P (digits (v / 86400) ++ (0x64 ∷ []))) → (v % 3600 ≡ 0 → P (digits (v / 3600) ++ (0x68 ∷ []))) → (v % 60 ≡ 0 → P (digits (v / 60) ++ (0x6d ∷ []))) → P (timeText v)
-  time-form p d h m = go (eqb v 0) (eqb (v % 86400) 0) (eqb (v % 3600) 0) (eqb (v % 60) 0) refl refl refl refl
-    where
-      go : (a b c e : Bool) → eqb v 0 ≡ a → eqb (v % 86400) 0 ≡ b → eqb (v % 3600) 0 ≡ c → eqb (v % 60) 0 ≡ e → P (timeText v)
-      go true b c e q r s t = rw (time-zero v (eqb-true v 0 q)) p
-      go false true c e q r s t = rw (time-day v (eqb-false v 0 q) (eqb-true _ 0 r)) (d (eqb-true _ 0 r))
-      go false false true e q r s t = rw (time-hour v (eqb-false v 0 q) (eqb-false _ 0 r) (eqb-true _ 0 s)) (h (eqb-true _ 0 s))
-      go false false false true q r s t = rw (time-minute v (eqb-false v 0 q) (eqb-false _ 0 r) (eqb-false _ 0 s) (eqb-true _ 0 t)) (m (eqb-true _ 0 t))
-      go false false false false q r s t = rw (time-plain v (eqb-false v 0 q) (eqb-false _ 0 r) (eqb-false _ 0 s) (eqb-false _ 0 t)) p
-
 pub time-back : (v : ℕ) → v < 2 ^ 64 → typedTime (timeText v) ≡ Value v
 time-back v h =
     time-form (λ s. typedTime s ≡ Value v) v (plain-back v h)
@@ -151,15 +127,6 @@ time-some v =
   where
     more : (n x : ℕ) → 0 < length (digits n ++ (x ∷ []))
     more n x = omega (arith, length-append (digits n) (x ∷ []))
-
--- a test that digits and the units pass
-pub time-pass : (p : ℕ → Bool) → ((b : ℕ) → 0x30 ≤ b → b ≤ 0x39 → p b ≡ true) → p 0x64 ≡ true → p 0x68 ≡ true → p 0x6d ≡ true → (v : ℕ) → every p (timeText v) ≡ true
-unfolding every
-time-pass p h d k m v =
-    time-form (λ s. every p s ≡ true) v (digits-pass p h v) (λ e. more (v / 86400) 0x64 d) (λ e. more (v / 3600) 0x68 k) (λ e. more (v / 60) 0x6d m)
-  where
-    more : (n x : ℕ) → p x ≡ true → every p (digits n ++ (x ∷ [])) ≡ true
-    more n x q = every-append p (digits n) (x ∷ []) (digits-pass p h n) (rw q)
 
 -- ---- offsets: the 64 bits of a signed number
 -- a time begins with no minus sign

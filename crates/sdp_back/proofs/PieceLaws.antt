@@ -32,9 +32,10 @@ use Rattle.sdp_put.specs.Digits.{digits}
 use Rattle.sdp_row.specs.Written.{spaced, text, optional}
 use Rattle.sdp_bound.specs.Kept.{id}
 use Rattle.sdp_same.specs.Fits.{IfGiven}
-use Rattle.sdp_back.proofs.ByteLaws.{every, every-append, every-take, every-drop, lacks, before-lacks, bare, clean-bare}
+use Rattle.sdp_put.proofs.ByteLaws.{every, every-append, every-take, every-drop, lacks, before-lacks, bare, clean-bare}
+use Rattle.sdp_put.proofs.DigitLaws.{digits-bare}
 use Rattle.sdp_back.proofs.NumberLaws.{number-back, ascii-utf8, digits-ascii}
-use Rattle.sdp_back.proofs.WordLaws.{behind, cut, sepText, cut-back, cut-none, digits-lack, digits-bare}
+use Rattle.sdp_back.proofs.WordLaws.{behind, cut, sepText, cut-back, cut-none, digits-lack}
 use Rattle.sdp_back.proofs.FieldLaws.{Backs, mapRead, onSeen, unseen, textIn, choiceIn, see-text, see-number, see-port, see-end, see-first, see-after, see-rest, see-choice, alone, Gives, gives-got, gives-then, gives-test, gives-number, gives-unseen}
 
 -- the front of a cut, and what is behind it

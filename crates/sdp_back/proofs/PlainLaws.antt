@@ -33,7 +33,7 @@ use Rattle.sdp_same.specs.Fits.{IfGiven, Each}
 use Rattle.sdp_same.specs.Said.{bytesAt}
 use Rattle.sdp_same.proofs.RowLaws.{each-append, each-last}
 use Rattle.sdp_bound.proofs.StepLaws.{Going, on, off, past-cond, past-once, past-row}
-use Rattle.sdp_back.proofs.ByteLaws.{every, every-take, every-drop, lacks, bare}
+use Rattle.sdp_put.proofs.ByteLaws.{every, every-take, every-drop, lacks, bare}
 use Rattle.sdp_back.proofs.FieldLaws.{Backs}
 use Rattle.sdp_back.proofs.AddressLaws.{whole-back, ConnectionBack, connection-back, OriginBack, origin-back}
 use Rattle.sdp_back.proofs.PieceLaws.{BandwidthBack, bandwidth-back, AttributeBack, attribute-back, MediaBack, media-back}

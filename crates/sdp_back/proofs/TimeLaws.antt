@@ -24,7 +24,7 @@ use Rattle.sdp_decode.specs.Rows.{each}
 use Rattle.sdp_row.specs.Written as form
 use Rattle.sdp_row.specs.Written.{spaced, timeValue, signedText, zoneText}
 use Rattle.sdp_same.specs.Fits.{Each, FitTime, FitZone}
-use Rattle.sdp_back.proofs.ByteLaws.{every, bare}
+use Rattle.sdp_put.proofs.ByteLaws.{every, bare}
 use Rattle.sdp_back.proofs.NumberLaws.{number-back, time-back, offset-back}
 use Rattle.sdp_back.proofs.WordLaws.{Word, tails, joined-bare, words-back, digits-word, time-word}
 use Rattle.sdp_back.proofs.FieldLaws.{Backs, left, mapRead, onSeen, unseen, first, see-number, see-time, see-end, see-word, see-then}

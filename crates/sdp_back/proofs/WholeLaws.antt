@@ -27,7 +27,7 @@ use Rattle.sdp_same.specs.Sound.{Rising}
 use Rattle.sdp_same.specs.Said.{bytesAt}
 use Rattle.sdp_back.specs.Again.{placeholder, originAgain, nameAgain, timesAgain, again}
 use Rattle.sdp_back.specs.Keys.{unkeyed}
-use Rattle.sdp_back.proofs.ByteLaws.{every}
+use Rattle.sdp_put.proofs.ByteLaws.{every}
 use Rattle.sdp_back.proofs.AddressLaws.{OriginBack, ConnectionBack, placeholder-back}
 use Rattle.sdp_back.proofs.PieceLaws.{BandwidthBack, AttributeBack, mediaAlone}
 use Rattle.sdp_back.proofs.PlainLaws.{TextBack, MediaPlain, Plain}

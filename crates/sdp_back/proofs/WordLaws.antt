@@ -18,11 +18,12 @@ use Rattle.sdp_split.specs.declared.Field.the-variants.{Got}
 use Rattle.sdp_split.proofs.WordLaws.{word-next}
 use Rattle.sdp_put.specs.Strings.{dropped}
 use Rattle.sdp_put.specs.Digits.{digits, timeText}
+use Rattle.sdp_put.proofs.DigitLaws.{digits-pass, time-pass, digits-bare, time-bare}
 use Rattle.sdp_row.specs.Written.{spaced}
 use Rattle.sdp_same.specs.Fits.{Each}
-use Rattle.sdp_back.proofs.ByteLaws.{every, every-append, every-take, lacks, before-lacks, bare}
+use Rattle.sdp_put.proofs.ByteLaws.{every, every-append, every-take, lacks, before-lacks, bare}
 use Rattle.sdp_bound.proofs.NumberLaws.{digits-some}
-use Rattle.sdp_back.proofs.NumberLaws.{digits-pass, time-some, time-pass}
+use Rattle.sdp_back.proofs.NumberLaws.{time-some}
 
 index-append : (c : ℕ) (a r : List ℕ) → lacks c a ≡ true → indexOf c (a ++ r) ≡ length a + indexOf c r
 unfolding runs.indexOf every
@@ -92,15 +93,9 @@ pub joined-bare : (x : List ℕ) (xs : List (List ℕ)) → Word x → Each Word
 joined-bare x xs w h = every-append (λ b. not (dropped b)) x (tails xs) (w .bare) (tails-bare xs h)
 
 -- ---- numbers and times are words
-digit-bare : (b : ℕ) → 0x30 ≤ b → b ≤ 0x39 → not (dropped b) ≡ true
-digit-bare b l g = rw (ne-eqb b 0 (λ e. omega arith), ne-eqb b 13 (λ e. omega arith), ne-eqb b 10 (λ e. omega arith))
-
 -- a byte that is no digit
 pub digits-lack : (c v : ℕ) → (0x30 ≤ c → c ≤ 0x39 → ⊥) → lacks c (digits v) ≡ true
 digits-lack c v h = digits-pass (λ b. not (eqb b c)) (λ b l g. rw (ne-eqb b c (λ e. h (omega arith) (omega arith)))) v
-
-pub digits-bare : (v : ℕ) → bare (digits v) ≡ true
-digits-bare v = digits-pass (λ b. not (dropped b)) digit-bare v
 
 pub digits-word : (v : ℕ) → Word (digits v)
 digits-word v = record { some = digits-some v; whole = digits-lack 0x20 v (λ l g. omega arith); bare = digits-bare v }
@@ -109,7 +104,7 @@ pub time-word : (v : ℕ) → Word (timeText v)
 time-word v = record {
   some = time-some v;
   whole = time-pass (λ b. not (eqb b 0x20)) (λ b l g. rw (ne-eqb b 0x20 (λ e. omega arith))) refl refl refl v;
-  bare = time-pass (λ b. not (dropped b)) digit-bare refl refl refl v;
+  bare = time-bare v;
 }
 
 -- ---- a value cut at its first separator

@@ -1,12 +1,14 @@
 -- Laws of digits. Assumes nothing.
 use mathlib.Core.Path.{_≡_, refl, sym, ap, _∙_}
-use mathlib.Core.Bool.{Bool, true, false, cond}
+use mathlib.Core.Bool.{Bool, true, false, cond, not}
 use mathlib.Core.List.{List, [], _∷_, _++_, append-assoc}
 use Prim.Native.Nat.{ℕ, zero, suc, _+_, _-_, _/_, _%_, _≤_, _<_}
 use native.Mathlib.Omega.{arith}
-use lib.Dec.{ltb}
-use borrow.Author.Tests.{lt-ltb, le-ltb, eq-eqb, ne-eqb, ltb-false}
+use lib.Dec.{ltb, eqb}
+use borrow.Author.Tests.{lt-ltb, le-ltb, ltb-true, ltb-false, eq-eqb, ne-eqb, eqb-true, eqb-false}
 use Rattle.sdp_put.specs.Digits.{digitsIn, digits, fourDigits, timeText, offsetText}
+use Rattle.sdp_put.specs.Strings.{dropped}
+use Rattle.sdp_put.proofs.ByteLaws.{every, every-append, bare}
 
 -- more steps than the number change nothing
 steps : (n m v : ℕ) → v ≤ n → v ≤ m → digitsIn n v ≡ digitsIn m v
@@ -121,3 +123,47 @@ offset-minus n t e = rw e
 pub offset-plain : (n : Bool) (t : ℕ) → n ≡ false → offsetText n t ≡ timeText t
 unfolding offsetText
 offset-plain n t e = rw e
+
+-- what holds of a time's text, where it holds of plain digits and of digits with a unit of k seconds that divides the time
+module _ (P : List ℕ → Type 0) (v : ℕ) where
+  pub time-form : P (digits v) → (v % 86400 ≡ 0 → P (digits (v / 86400) ++ (0x64 ∷ []))) → (v % 3600 ≡ 0 → P (digits (v / 3600) ++ (0x68 ∷ []))) → (v % 60 ≡ 0 → P (digits (v / 60) ++ (0x6d ∷ []))) → P (timeText v)
+  time-form p d h m = go (eqb v 0) (eqb (v % 86400) 0) (eqb (v % 3600) 0) (eqb (v % 60) 0) refl refl refl refl
+    where
+      go : (a b c e : Bool) → eqb v 0 ≡ a → eqb (v % 86400) 0 ≡ b → eqb (v % 3600) 0 ≡ c → eqb (v % 60) 0 ≡ e → P (timeText v)
+      go true b c e q r s t = rw (time-zero v (eqb-true v 0 q)) p
+      go false true c e q r s t = rw (time-day v (eqb-false v 0 q) (eqb-true _ 0 r)) (d (eqb-true _ 0 r))
+      go false false true e q r s t = rw (time-hour v (eqb-false v 0 q) (eqb-false _ 0 r) (eqb-true _ 0 s)) (h (eqb-true _ 0 s))
+      go false false false true q r s t = rw (time-minute v (eqb-false v 0 q) (eqb-false _ 0 r) (eqb-false _ 0 s) (eqb-true _ 0 t)) (m (eqb-true _ 0 t))
+      go false false false false q r s t = rw (time-plain v (eqb-false v 0 q) (eqb-false _ 0 r) (eqb-false _ 0 s) (eqb-false _ 0 t)) p
+
+-- ---- tests that digits pass, and digits and units
+module _ (p : ℕ → Bool) (h : (b : ℕ) → 0x30 ≤ b → b ≤ 0x39 → p b ≡ true) where
+  digits-in-pass : (n v : ℕ) → every p (digitsIn n v) ≡ true
+  unfolding digitsIn every
+  digits-in-pass zero v = rw (h (0x30 + v % 10) (omega arith) (omega arith))
+  digits-in-pass (suc n) v = go (ltb v 10) refl (digits-in-pass n (v / 10))
+    where
+      go : (b : Bool) → ltb v 10 ≡ b → every p (digitsIn n (v / 10)) ≡ true → every p (cond b ((0x30 + v) ∷ []) (digitsIn n (v / 10) ++ ((0x30 + v % 10) ∷ []))) ≡ true
+      go true e i = rw (h (0x30 + v) (omega arith) (omega (arith, ltb-true v 10 e)))
+      go false e i = every-append p (digitsIn n (v / 10)) _ i (rw (h (0x30 + v % 10) (omega arith) (omega arith)))
+
+  pub digits-pass : (v : ℕ) → every p (digits v) ≡ true
+  unfolding digits
+  digits-pass v = digits-in-pass v v
+
+pub time-pass : (p : ℕ → Bool) → ((b : ℕ) → 0x30 ≤ b → b ≤ 0x39 → p b ≡ true) → p 0x64 ≡ true → p 0x68 ≡ true → p 0x6d ≡ true → (v : ℕ) → every p (timeText v) ≡ true
+unfolding every
+time-pass p h d k m v =
+    time-form (λ s. every p s ≡ true) v (digits-pass p h v) (λ e. more (v / 86400) 0x64 d) (λ e. more (v / 3600) 0x68 k) (λ e. more (v / 60) 0x6d m)
+  where
+    more : (n x : ℕ) → p x ≡ true → every p (digits n ++ (x ∷ [])) ≡ true
+    more n x q = every-append p (digits n) (x ∷ []) (digits-pass p h n) (rw q)
+
+digit-bare : (b : ℕ) → 0x30 ≤ b → b ≤ 0x39 → not (dropped b) ≡ true
+digit-bare b l g = rw (ne-eqb b 0 (λ e. omega arith), ne-eqb b 13 (λ e. omega arith), ne-eqb b 10 (λ e. omega arith))
+
+pub digits-bare : (v : ℕ) → bare (digits v) ≡ true
+digits-bare v = digits-pass (λ b. not (dropped b)) digit-bare v
+
+pub time-bare : (v : ℕ) → bare (timeText v) ≡ true
+time-bare v = time-pass (λ b. not (dropped b)) digit-bare refl refl refl v

@@ -1,3 +1,4 @@
 pub mod OutLaws
+pub mod ByteLaws
 pub mod DigitLaws
 pub mod StringLaws

@@ -1,11 +1,13 @@
 -- The whole: the answers by cases, and what the two passes leave. Assumes nothing.
-use mathlib.Core.Path.{_≡_, sym, ap, _∙_}
-use mathlib.Core.Bool.{true, _&&_}
+use mathlib.Core.Path.{_≡_, refl, sym, ap, _∙_}
+use mathlib.Core.Bool.{Bool, true, false, cond, _&&_}
 use mathlib.Core.List.{List, _++_}
 use Prim.Native.Nat.{ℕ, _+_, _≤_, _<_, _^_}
 use native.Mathlib.Omega.{arith}
 use lib.ListN.{length, drop}
-use borrow.Author.Tests.{lt-ltb, le-ltb, ne-eqb}
+use lib.Seq.{take-at}
+use lib.Dec.{ltb, eqb}
+use borrow.Author.Tests.{lt-ltb, le-ltb, ne-eqb, eqb-false}
 use Rattle.sdp_lines.specs.declared.Answer.{Answer}
 use Rattle.sdp_put.specs.Out.{put, Put}
 use Rattle.sdp_put.proofs.OutLaws.{put-out, put-room}
@@ -14,7 +16,7 @@ use Rattle.sdp_valid.specs.Judge as judge
 use Rattle.sdp_valid.specs.Judge.{owners, smallCounts, largeCounts, fineHead, fineTables}
 use Rattle.sdp_unfit.specs.Unfit.{unfit}
 use Rattle.sdp_unfit.proofs.UnfitLaws.{fit-formed}
-use Rattle.sdp_write.specs.Write.{Outcome, answer, textOf, writeText}
+use Rattle.sdp_write.specs.Write.{Outcome, answer, textOf, wrote, fill, writeText}
 
 -- what an answer and an output must be, by a case of the outcome
 pub settled : (r : Answer) (o′ : List ℕ) (x y : Outcome) → y ≡ x → r ≡ x .answer → o′ ≡ x .out → (r ≡ y .answer) × (o′ ≡ y .out)
@@ -34,6 +36,22 @@ module _ (t a o : List ℕ) where
     pub all-written : n ≤ length o → writeText t a o ≡ record { answer = answer 0 n; out = textOf t a ++ drop n o }
     unfolding writeText
     all-written h = rw (f, ← e, le-ltb (length o) n h)
+
+-- ---- what was written, where the answer is 0
+pub wrote-fill : (w o : List ℕ) → fill w o .answer .number ≡ 0 → wrote (fill w o) ≡ w
+wrote-fill w o = go (ltb (length o) (length w))
+  where
+    go : (b : Bool) → (let r : Outcome = cond b (record { answer = answer 22 (length w); out = o }) (record { answer = answer 0 (length w); out = w ++ drop (length w) o }) in r .answer .number ≡ 0 → wrote r ≡ w)
+    go true n = absurd (let z : _≡_ {A = ℕ} 22 0 = n in omega arith)
+    go false n = take-at w (drop (length w) o) (length w) refl
+
+pub wrote-text : (t a o : List ℕ) → writeText t a o .answer .number ≡ 0 → wrote (writeText t a o) ≡ textOf t a
+unfolding writeText
+wrote-text t a o = go (eqb (unfit t a) 0) refl
+  where
+    go : (b : Bool) → eqb (unfit t a) 0 ≡ b → (let r : Outcome = cond b (fill (textOf t a) o) (record { answer = answer (unfit t a) 0; out = o }) in r .answer .number ≡ 0 → wrote r ≡ textOf t a)
+    go true e n = wrote-fill (textOf t a) o n
+    go false e n = absurd (eqb-false (unfit t a) 0 e n)
 
 -- the owners of a session that fits
 pub well-owned : (a t : List ℕ) → unfit t a ≡ 0 → owners a ≡ true

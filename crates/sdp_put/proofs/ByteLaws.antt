@@ -71,3 +71,12 @@ pub clean-bare : (s : List ℕ) → bare s ≡ true → clean s ≡ s
 unfolding every strings.clean strings.kept
 clean-bare [] h = refl
 clean-bare (b ∷ s) h = rw (not-true (dropped b) (and-left (not (dropped b)) _ h)) (ap (λ (l : List ℕ). b ∷ l) (clean-bare s (and-right (not (dropped b)) _ h)))
+
+pub cleaned : (s : List ℕ) → bare (clean s) ≡ true
+unfolding every strings.clean strings.kept
+cleaned [] = refl
+cleaned (b ∷ s) = go (dropped b) refl (cleaned s)
+  where
+    go : (t : Bool) → dropped b ≡ t → bare (clean s) ≡ true → bare (cond t [] (b ∷ []) ++ clean s) ≡ true
+    go true e h = h
+    go false e h = rw e h
