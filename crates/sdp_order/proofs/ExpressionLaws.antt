@@ -13,7 +13,7 @@ abbrev pub Same : Expr → Expr → Type 0
 Same x y = (ls : List ℕ) → matches x ls ≡ matches y ls
 
 -- ---- truth values
-neither : (a b : Bool) → a || b ≡ false → (a ≡ false) × (b ≡ false)
+pub neither : (a b : Bool) → a || b ≡ false → (a ≡ false) × (b ≡ false)
 neither true b h = absurd (true≢false h)
 neither false b h = (refl, h)
 
@@ -142,9 +142,10 @@ module _ (l : ℕ) where
   unfolding after maybeEmpty
   after-one y ls = then-same (after l (letter l)) empty y y after-letter (λ k. refl) ls ∙ empty-then y ls
 
-  pub after-maybe : Same (after l (letter l ⁇)) empty
+  -- what may be absent is there
+  pub after-maybe : (x x′ : Expr) → Same (after l x) x′ → Same (after l (x ⁇)) x′
   unfolding after
-  after-maybe ls = matches-or (after l (letter l)) nothing ls ∙ rw (after-letter ls, matches-nothing ls) (or-false (matches empty ls))
+  after-maybe x x′ f ls = matches-or (after l x) nothing ls ∙ rw (f ls, matches-nothing ls) (or-false (matches x′ ls))
 
   pub after-many : (x x′ : Expr) → Same (after l x) x′ → Same (after l (x *)) (x′ · x *)
   unfolding after

@@ -6,7 +6,7 @@ use mathlib.Core.Path.{_≡_, sym, _∙_}
 use mathlib.Core.Bool.{false}
 use mathlib.Core.List.{List}
 use Rattle.sdp_lines.specs.declared.Cursor.{Cursor}
-use Rattle.sdp_order.specs.Expression.{Expr, empty, letter, _·_, _*, _⁇, maybeEmpty, after}
+use Rattle.sdp_order.specs.Expression.{Expr, empty, letter, _·_, _*, _⁇, _+, maybeEmpty, after}
 use Rattle.sdp_order.specs.From.{runFrom, begins, Finds, Passes, Leads, Halts}
 use Rattle.sdp_order.specs.declared.Found.{Found}
 use Rattle.sdp_order.specs.declared.Found.the-variants.{Past, Not}
@@ -37,33 +37,32 @@ module _ (s : List ℕ) (c : Cursor) (l : ℕ) where
   must-come y (Past d) h = h .1 (letter l · y) ∙ run-same s d _ _ (after-one l y)
   must-come y Not h = h (letter l) y (λ k e. e)
 
+  -- it came, and y is what may follow it where x is due
+  pub came : (x y : Expr) → Same (after l x) y → (d : Cursor) → Finds s l c (Past d) → Passes s x y c d
+  came x y f d h = record { onward = omega (arith, h .0 .moved); rest = h .1 x ∙ run-same s d _ _ f }
+
   module _ (y : Expr) (b : begins l y ≡ false) where
     -- one line may come
     pub maybe-came : (d : Cursor) → Finds s l c (Past d) → Passes s (letter l ⁇ · y) y c d
-    maybe-came d h = record {
-      onward = omega (arith, h .0 .moved);
-      rest = h .1 (letter l ⁇ · y) ∙ run-same s d _ _ (λ ls. after-then l (letter l ⁇) empty y (after-maybe l) b ls ∙ empty-then y ls);
-    }
+    maybe-came = came _ _ (λ ls. after-then l (letter l ⁇) empty y (after-maybe l (letter l) empty (after-letter l)) b ls ∙ empty-then y ls)
 
     -- any number of lines may come
     pub many-came : (d : Cursor) → Finds s l c (Past d) → Passes s (letter l * · y) (letter l * · y) c d
-    many-came d h = record {
-      onward = omega (arith, h .0 .moved);
-      rest = h .1 (letter l * · y) ∙ run-same s d _ _ (after-then l (letter l *) (letter l *) y (λ ls. after-many l (letter l) empty (after-letter l) ls ∙ empty-then (letter l *) ls) b);
-    }
+    many-came = came _ _ (after-then l (letter l *) (letter l *) y (λ ls. after-many l (letter l) empty (after-letter l) ls ∙ empty-then (letter l *) ls) b)
 
     -- any number of runs of lines that begin with this letter
     pub run-came : (x : Expr) (d : Cursor) → Finds s l c (Past d) → Passes s ((letter l · x) * · y) (x · ((letter l · x) * · y)) c d
-    run-came x d h = record {
-      onward = omega (arith, h .0 .moved);
-      rest = h .1 ((letter l · x) * · y) ∙ run-same s d _ _ (λ ls. after-then l ((letter l · x) *) (x · (letter l · x) *) y (after-many l (letter l · x) x (after-one l x)) b ls ∙ then-assoc x ((letter l · x) *) y ls);
-    }
+    run-came x = came _ _ (λ ls. after-then l ((letter l · x) *) (x · (letter l · x) *) y (after-many l (letter l · x) x (after-one l x)) b ls ∙ then-assoc x ((letter l · x) *) y ls)
 
   -- none of them came
   module _ (h : Finds s l c Not) where
     pub maybe-none : (y : Expr) → Passes s (letter l ⁇ · y) y c c
     unfolding begins maybeEmpty
     maybe-none y = record { onward = omega arith; rest = h (letter l ⁇) y (λ k e. rw e) }
+
+    pub some-none : (x y : Expr) → Passes s (((letter l +) · x) ⁇ · y) y c c
+    unfolding begins maybeEmpty
+    some-none x y = record { onward = omega arith; rest = h (((letter l +) · x) ⁇) y (λ k e. rw e) }
 
     pub many-none : (y : Expr) → Passes s (letter l * · y) y c c
     unfolding begins maybeEmpty

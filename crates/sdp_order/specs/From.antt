@@ -7,8 +7,8 @@ use lib.Dec.{eqb}
 use lib.ListN.{length, drop}
 use Rattle.sdp_lines.specs.Lines.{split}
 use Rattle.sdp_lines.specs.declared.Cursor.{Cursor}
-use Rattle.sdp_order.specs.Expression.{Expr, nothing, empty, letter, _·_, _or_, _*, maybeEmpty, after}
-use Rattle.sdp_order.specs.Order.{grammar, letters, run}
+use Rattle.sdp_order.specs.Expression.{Expr, nothing, empty, letter, _·_, _or_, _*, _⁇, maybeEmpty, after}
+use Rattle.sdp_order.specs.Order.{repeatDescription, timeDescription, mediaDescription, grammar, letters, run}
 use Rattle.sdp_order.specs.declared.Next.{Next}
 use Rattle.sdp_order.specs.declared.Next.the-variants.{Good, Bad, End}
 use Rattle.sdp_order.specs.declared.Found.{Found}
@@ -72,15 +72,6 @@ second (x · y) = y
 second (x or y) = nothing
 second (x *) = nothing
 
--- x of x *
-abbrev pub repeated : Expr → Expr
-repeated nothing = nothing
-repeated empty = nothing
-repeated (letter k) = nothing
-repeated (x · y) = nothing
-repeated (x or y) = nothing
-repeated (x *) = x
-
 -- x without its first n parts
 abbrev pub partsFrom : ℕ → Expr → Expr
 partsFrom zero x = x
@@ -90,26 +81,22 @@ partsFrom (suc n) x = partsFrom n (second x)
 abbrev pub fromTitle : Expr
 fromTitle = partsFrom 3 grammar
 
--- "one or more times (t r*)" and on
+-- "one or more of (t, then optionally (r+ z?))" and on
 abbrev pub fromTimes : Expr
 fromTimes = partsFrom 9 grammar
 
--- "(t r*)"
-abbrev pub timeRun : Expr
-timeRun = letter 0x74 · letter 0x72 *
-
--- "z? k? a*" and on
-abbrev pub fromZone : Expr
-fromZone = partsFrom 10 grammar
+-- "k? a*" and on
+abbrev pub fromKey : Expr
+fromKey = partsFrom 10 grammar
 
 -- what is due behind a time's line
 abbrev pub fromRepeats : Expr
-fromRepeats = letter 0x72 * · (timeRun * · fromZone)
+fromRepeats = repeatDescription ⁇ · (timeDescription * · fromKey)
 
 -- "any number of (m i? c* b* k? a*)"
 abbrev pub fromMedia : Expr
-fromMedia = partsFrom 13 grammar
+fromMedia = partsFrom 12 grammar
 
 -- "(m i? c* b* k? a*)" without the m
 abbrev pub inMedia : Expr
-inMedia = partsFrom 1 (repeated fromMedia)
+inMedia = partsFrom 1 mediaDescription

@@ -1,4 +1,4 @@
--- Document 01, "Letter order".
+-- Document 01, "Letter order", with the zones' place by document 02, P6: the grammar of RFC 8866, section 9.
 use Prim.Native.Nat.{ℕ}
 use mathlib.Core.Bool.{Bool, false, cond}
 use mathlib.Core.List.{List, [], _∷_}
@@ -61,9 +61,25 @@ a = letter 0x61
 abbrev m : Expr
 m = letter 0x6d
 
--- "v o s i? u? e* p* c? b*, one or more times (t r*), z? k? a*, then any number of (m i? c* b* k? a*)"
+-- ---- RFC 8866, section 9, in its own names: [x] is x ⁇ here, *x is x *, 1*x is x +
+-- "repeat-description = 1*repeat-field [zone-field]"
+abbrev pub repeatDescription : Expr
+repeatDescription = r + · z ⁇
+
+-- "time-description = time-field [repeat-description]"; document 02, P6: "t, then optionally (r+ z?)"
+abbrev pub timeDescription : Expr
+timeDescription = t · repeatDescription ⁇
+
+-- "media-description = media-field [information-field] *connection-field *bandwidth-field [key-field] *attribute-field";
+-- document 01: "(m i? c* b* k? a*)"
+abbrev pub mediaDescription : Expr
+mediaDescription = m · i ⁇ · c * · b * · k ⁇ · a *
+
+-- "session-description = version-field origin-field session-name-field [information-field] [uri-field] *email-field *phone-field
+-- [connection-field] *bandwidth-field 1*time-description [key-field] *attribute-field *media-description"; document 01 with document 02, P6:
+-- "v o s i? u? e* p* c? b*", "one or more of (t, then optionally (r+ z?)), then k? a*", "then any number of (m i? c* b* k? a*)"
 abbrev pub grammar : Expr
-grammar = v · o · s · i ⁇ · u ⁇ · e * · p * · c ⁇ · b * · (t · r *) + · z ⁇ · k ⁇ · a * · (m · i ⁇ · c * · b * · k ⁇ · a *) *
+grammar = v · o · s · i ⁇ · u ⁇ · e * · p * · c ⁇ · b * · timeDescription + · k ⁇ · a * · mediaDescription *
 
 -- a line before the others by its form: an empty one has no letter; after one of bad form nothing counts
 abbrev pub before : Form → Option (List ℕ) → Option (List ℕ)

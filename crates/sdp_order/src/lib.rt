@@ -2,8 +2,8 @@
 ghost use mathlib.Core.Path.{_≡_};
 ghost use Rattle.sdp_lines.specs.Lines.{start};
 ghost use Rattle.sdp_order.specs.Expression.{Expr, empty, letter, _·_, _*, _⁇};
-ghost use Rattle.sdp_order.specs.Order.{grammar, orderOf, verdictOf};
-ghost use Rattle.sdp_order.specs.From.{runFrom, begins, Follows, Finds, Passes, Leads, Halts, timeRun, fromTitle, fromTimes, fromRepeats, fromZone, fromMedia, inMedia};
+ghost use Rattle.sdp_order.specs.Order.{timeDescription, grammar, orderOf, verdictOf};
+ghost use Rattle.sdp_order.specs.From.{runFrom, begins, Follows, Finds, Passes, Leads, Halts, fromTitle, fromTimes, fromRepeats, fromKey, fromMedia, inMedia};
 ghost use mathlib.Core.Bool.{false};
 use sdp_lines::Cursor;
 use sdp_lines::Cut;
@@ -38,7 +38,7 @@ pub enum Found {
 // `times` hands over to `repeats` this often, and then stops: so the calls are never deep, whatever the text.
 const HAND_OVERS: u8 = 16;
 
-// Where `times` or `repeats` stopped: behind the last of them all; or behind a time's line, where its repeats are due.
+// Where `times` or `repeats` stopped: behind the last of them all; or behind a time's line, where its repeats may come.
 pub enum Stop {
     Through(Cursor),
     AtRepeats(Cursor),
@@ -150,9 +150,9 @@ fn session_lines(text: &[u8], from: Cursor) -> Cursor
     many(text, b, b'b')
 }
 
-// Any number of (t r*): a time's line hands over to its repeats, as long as some hand-overs are left.
+// Any number of (t, then optionally (r+ z?)): a time's line hands over to its repeats, as long as some hand-overs are left.
 fn times(text: &[u8], c: Cursor, left: u8) -> Stop
-    ensures { λ r. ⌜ Halts (now (text .entry)) (timeRun * · fromZone) fromRepeats fromZone c r ⌝ }
+    ensures { λ r. ⌜ Halts (now (text .entry)) (timeDescription * · fromKey) fromRepeats fromKey c r ⌝ }
 {
     match line_with(text, c, b't') {
         Found::Past(next) => {
@@ -165,26 +165,23 @@ fn times(text: &[u8], c: Cursor, left: u8) -> Stop
     }
 }
 
-// r*, and these hand back to the next time's line.
+// Optionally (r+ z?), and these hand back to the next time's line.
 fn repeats(text: &[u8], from: Cursor, left: u8) -> Stop
-    ensures { λ r. ⌜ Halts (now (text .entry)) fromRepeats fromRepeats fromZone from r ⌝ }
+    ensures { λ r. ⌜ Halts (now (text .entry)) fromRepeats fromRepeats fromKey from r ⌝ }
 {
-    let mut c = from;
-    loop {
-        match line_with(text, c, b'r') {
-            Found::Past(next) => {
-                c = next;
-            }
-            Found::Not => {
-                return times(text, c, left);
-            }
+    match line_with(text, from, b'r') {
+        Found::Past(next) => {
+            let z = many(text, next, b'r');
+            let t = maybe(text, z, b'z');
+            times(text, t, left)
         }
+        Found::Not => times(text, from, left),
     }
 }
 
-// One or more times (t r*).
+// One or more of (t, then optionally (r+ z?)).
 fn time_lines(text: &[u8], from: Cursor) -> Found
-    ensures { λ r. ⌜ Leads (now (text .entry)) fromTimes fromZone from r ⌝ }
+    ensures { λ r. ⌜ Leads (now (text .entry)) fromTimes fromKey from r ⌝ }
 {
     let Found::Past(first) = line_with(text, from, b't') else {
         return Found::Not;
@@ -202,12 +199,11 @@ fn time_lines(text: &[u8], from: Cursor) -> Found
     }
 }
 
-// z? k? a*
+// k? a*
 fn last_lines(text: &[u8], from: Cursor) -> Cursor
-    ensures { λ r. ⌜ runFrom (now (text .entry)) from fromZone ≡ runFrom (now (text .entry)) r fromMedia ⌝ }
+    ensures { λ r. ⌜ runFrom (now (text .entry)) from fromKey ≡ runFrom (now (text .entry)) r fromMedia ⌝ }
 {
-    let k = maybe(text, from, b'z');
-    let a = maybe(text, k, b'k');
+    let a = maybe(text, from, b'k');
     many(text, a, b'a')
 }
 
@@ -250,10 +246,10 @@ pub fn letter_order(text: &[u8]) -> Order
         return Order::OutOfOrder;
     };
     let t = session_lines(text, i);
-    let Found::Past(z) = time_lines(text, t) else {
+    let Found::Past(k) = time_lines(text, t) else {
         return Order::OutOfOrder;
     };
-    let m = last_lines(text, z);
+    let m = last_lines(text, k);
     let end = medias(text, m);
     if ended(text, end) {
         return Order::InOrder;

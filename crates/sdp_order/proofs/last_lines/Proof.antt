@@ -8,7 +8,7 @@ use Rattle.sdp_order.proofs.last_lines.Tie as tie
 
 returns : tie.Need-returns
 unfolding begins maybeEmpty
-returns c = c .before .before .maybe .ensures _ refl .rest ∙ c .before .maybe2 .ensures _ refl .rest ∙ c .many .ensures _ refl .rest
+returns c = c .before .maybe .ensures _ refl .rest ∙ c .many .ensures _ refl .rest
 
 pub last-lines-spec : {M : Type 1} → statement M
-last-lines-spec = tie.close (tie.spec (λ c κs. search needs) (λ c κs. search needs) (λ c κs. search needs) returns)
+last-lines-spec = tie.close (tie.spec (λ c κs. search needs) (λ c κs. search needs) returns)

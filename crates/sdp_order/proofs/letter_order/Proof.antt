@@ -15,10 +15,10 @@ returns-3 : tie.Need-returns-3
 returns-3 c = out-of-order _ (c .before .before .before .before .before .before .before .before .if1 .left) ((rw (c .before .before .before .before .before .i .given .1) at (c .before .before .before .before .before .before .before .first-lines .ensures)) ∙ c .before .before .before .session-lines .ensures ∙ (rw (c .enum-told2 .given .1) at (c .before .before .time-lines .ensures)))
 
 returns-4 : tie.Need-returns-4
-returns-4 c = in-order _ (c .before .before .before .before .before .before .before .before .before .before .before .before .before .if1 .left) ((rw (c .before .before .before .before .before .before .before .before .before .before .i .given .1) at (c .before .before .before .before .before .before .before .before .before .before .before .before .first-lines .ensures)) ∙ c .before .before .before .before .before .before .before .before .session-lines .ensures ∙ (rw (c .before .before .before .before .before .z .given .1) at (c .before .before .before .before .before .before .before .time-lines .ensures)) ∙ c .before .before .before .last-lines .ensures ∙ c .before .before .medias .ensures ∙ sym (c .before .ended .ensures) ∙ c .if2 .taken)
+returns-4 c = in-order _ (c .before .before .before .before .before .before .before .before .before .before .before .before .before .if1 .left) ((rw (c .before .before .before .before .before .before .before .before .before .before .i .given .1) at (c .before .before .before .before .before .before .before .before .before .before .before .before .first-lines .ensures)) ∙ c .before .before .before .before .before .before .before .before .session-lines .ensures ∙ (rw (c .before .before .before .before .before .k .given .1) at (c .before .before .before .before .before .before .before .time-lines .ensures)) ∙ c .before .before .before .last-lines .ensures ∙ c .before .before .medias .ensures ∙ sym (c .before .ended .ensures) ∙ c .if2 .taken)
 
 returns-5 : tie.Need-returns-5
-returns-5 c = out-of-order _ (c .before .before .before .before .before .before .before .before .before .before .before .before .before .if1 .left) ((rw (c .before .before .before .before .before .before .before .before .before .before .i .given .1) at (c .before .before .before .before .before .before .before .before .before .before .before .before .first-lines .ensures)) ∙ c .before .before .before .before .before .before .before .before .session-lines .ensures ∙ (rw (c .before .before .before .before .before .z .given .1) at (c .before .before .before .before .before .before .before .time-lines .ensures)) ∙ c .before .before .before .last-lines .ensures ∙ c .before .before .medias .ensures ∙ sym (c .before .ended .ensures) ∙ c .if2 .left)
+returns-5 c = out-of-order _ (c .before .before .before .before .before .before .before .before .before .before .before .before .before .if1 .left) ((rw (c .before .before .before .before .before .before .before .before .before .before .i .given .1) at (c .before .before .before .before .before .before .before .before .before .before .before .before .first-lines .ensures)) ∙ c .before .before .before .before .before .before .before .before .session-lines .ensures ∙ (rw (c .before .before .before .before .before .k .given .1) at (c .before .before .before .before .before .before .before .time-lines .ensures)) ∙ c .before .before .before .last-lines .ensures ∙ c .before .before .medias .ensures ∙ sym (c .before .ended .ensures) ∙ c .if2 .left)
 
 pub letter-order-spec : {M : Type 1} → statement M
 letter-order-spec =

@@ -1,0 +1,4 @@
+pub mod LetterLaws
+pub mod NextLaws
+pub mod MatchLaws
+pub mod OrderedLaws
