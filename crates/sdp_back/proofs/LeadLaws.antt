@@ -1,27 +1,22 @@
 -- What is read of written lines, one after another: where the session leads. Assumes nothing.
-use mathlib.Core.Path.{_≡_, refl, sym, ap, _∙_}
-use mathlib.Core.Bool.{Bool, true, false, cond, not, _&&_, _||_, and-eq-true-iff}
+use mathlib.Core.Path.{_≡_, refl, ap}
+use mathlib.Core.Bool.{Bool, true, false, cond}
 use mathlib.Core.List.{List, [], _∷_, _++_, append-nil, append-assoc}
 use mathlib.Core.Option.{Option, none, some}
-use Prim.Native.Nat.{ℕ, suc, _+_, _≤_, _<_}
+use Prim.Native.Nat.{ℕ, _+_, _≤_, _<_}
 use native.Mathlib.Omega.{arith}
 use lib.ListN.{length, length-append}
 use lib.Dec.{ltb, eqb}
-use borrow.Author.Tests.{ltb-true, ltb-false, lt-ltb, le-ltb, eqb-true, eqb-false, ne-eqb, not-true}
-use Rattle.sdp_bytes.specs.Runs as runs
-use Rattle.sdp_bytes.proofs.ScanLaws.{and-left, and-right}
+use borrow.Author.Tests.{ltb-true, ltb-false, lt-ltb, le-ltb, eqb-true, eqb-false, ne-eqb}
 use Rattle.sdp_lines.specs.Lines as cutter
-use Rattle.sdp_lines.specs.Lines.{split, chop, content, hasNulOrCr, formOf}
-use Rattle.sdp_lines.specs.declared.Form.the-variants.{Good}
+use Rattle.sdp_lines.specs.Lines.{split, content}
 use Rattle.sdp_split.specs.Split.{part}
 use Rattle.sdp_area.specs.Session.{Session}
 use Rattle.sdp_step.specs.Step.{Reading, goes, step, fresh}
 use Rattle.sdp_read.specs.Run as reader
 use Rattle.sdp_read.specs.Run.{accepted, run, lines}
-use Rattle.sdp_put.specs.Strings.{dropped}
 use Rattle.sdp_decode.specs.Rows as rows
 use Rattle.sdp_decode.specs.Rows.{each, mine}
-use Rattle.sdp_row.specs.Written as form
 use Rattle.sdp_row.specs.Written.{line, optional}
 use Rattle.sdp_row.proofs.FormLaws.{letter, chop-cr, line-form, line-split}
 use Rattle.sdp_same.specs.Fits.{IfGiven, Each}

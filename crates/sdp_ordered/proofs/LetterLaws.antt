@@ -9,7 +9,7 @@ use lib.ListN.{length}
 use lib.Dec.{eqb, leb}
 use Rattle.sdp_lines.specs.Lines as cutter
 use Rattle.sdp_lines.specs.Lines.{split}
-use Rattle.sdp_area.specs.Session.{Origin, Connection, MediaConnection, Bandwidth, Time, Repeat, Offset, Zone, Attribute, Media, Head, Tables, Session}
+use Rattle.sdp_area.specs.Session.{Origin, Connection, Bandwidth, Time, Repeat, Offset, Zone, Attribute, Media, Head, Tables, Session}
 use Rattle.sdp_put.specs.Digits.{digits, timeText, offsetText}
 use Rattle.sdp_put.specs.Strings.{dropped, clean}
 use Rattle.sdp_put.proofs.ByteLaws.{every, every-append, bare, cleaned}
@@ -17,7 +17,7 @@ use Rattle.sdp_put.proofs.DigitLaws.{digits-bare, time-bare, offset-minus, offs
 use Rattle.sdp_decode.specs.Rows as rows
 use Rattle.sdp_decode.specs.Rows.{each, mine}
 use Rattle.sdp_row.specs.Written as form
-use Rattle.sdp_row.specs.Written.{line, spaced, optional, timeValue, offsetsOf, repeatLine, timeLines, timesLines, signedText, between, zoneText, zonesLine, orDash, text, stringLine, usernameText, originValue, originLine, nameLine, connectionLine, bandwidthLine, attributeLine, bandwidthsOf, attributesOf, connectionsOf, mediaLine, mediaLines, headLines, contactLines, closingLines, written}
+use Rattle.sdp_row.specs.Written.{line, spaced, optional, repeatLine, timeLines, timesLines, signedText, zoneText, zonesLine, orDash, text, usernameText, originValue, originLine, nameLine, connectionLine, bandwidthLine, attributeLine, bandwidthsOf, attributesOf, mediaLine, mediaLines, headLines, contactLines, closingLines, written}
 use Rattle.sdp_row.proofs.FormLaws.{letter, chop-cr, line-form, line-split}
 use Rattle.sdp_order.specs.Order as order
 use Rattle.sdp_order.specs.Order.{letters}

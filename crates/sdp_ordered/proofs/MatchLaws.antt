@@ -8,21 +8,18 @@ use mathlib.Core.List.{List, [], _∷_, _++_, append-nil, append-assoc}
 use mathlib.Core.Option.{Option, none, some}
 use lib.ListN.{length}
 use lib.Dec.{eqb}
-use Rattle.sdp_area.specs.Session.{Time, Repeat, Zone, Media, Head, Tables, Session}
+use Rattle.sdp_area.specs.Session.{Time, Repeat, Zone}
 use Rattle.sdp_decode.specs.Rows as rows
 use Rattle.sdp_decode.specs.Rows.{each, mine}
-use Rattle.sdp_row.specs.Written.{optional}
 use Rattle.sdp_order.specs.Expression as expression
-use Rattle.sdp_order.specs.Expression.{Expr, empty, letter, _·_, _*, _⁇, maybeEmpty, after, matches}
-use Rattle.sdp_order.specs.From as from
-use Rattle.sdp_order.specs.From.{fromTitle, fromTimes, fromKey, fromMedia, inMedia}
-use Rattle.sdp_order.specs.Order.{repeatDescription, timeDescription, mediaDescription, grammar}
+use Rattle.sdp_order.specs.Expression.{Expr, empty, letter, _·_, _*, _⁇, maybeEmpty, matches}
+use Rattle.sdp_order.specs.Order.{repeatDescription, timeDescription}
 use Rattle.sdp_order.proofs.ExpressionLaws.{matches-or, after-letter}
 use Rattle.sdp_order.proofs.Described.{then-yes, many-yes}
 use Rattle.sdp_ordered.specs.Ordered as ordered
 use Rattle.sdp_ordered.specs.Ordered.{hasRepeat, lastRepeats, noZones}
 use Rattle.sdp_ordered.proofs.LetterLaws as spelt
-use Rattle.sdp_ordered.proofs.LetterLaws.{givenLetter, ownLetters, timeLetters, timesLetters, zonesLetters, mediaLetters, headLetters, contactLetters, closingLetters, writtenLetters}
+use Rattle.sdp_ordered.proofs.LetterLaws.{givenLetter, timeLetters, timesLetters, zonesLetters}
 
 -- ls ends with l
 pub record EndsWith (l : ℕ) (ls : List ℕ) : Type 0 where

@@ -1,6 +1,6 @@
 -- What is written of an area is in order where it has no zones or its last time has a repeat, and else it is not. Assumes nothing.
 use Prim.Native.Nat.{ℕ}
-use mathlib.Core.Path.{_≡_, refl, sym, ap, _∙_}
+use mathlib.Core.Path.{_≡_, refl, ap, _∙_}
 use mathlib.Core.Logic.{inr}
 use mathlib.Core.Bool.{Bool, true, false, _||_, true≢false}
 use mathlib.Core.List.{List, [], _∷_, _++_, append-assoc}
@@ -14,14 +14,13 @@ use Rattle.sdp_decode.specs.Rows.{each}
 use Rattle.sdp_row.specs.Written.{written}
 use Rattle.sdp_write.proofs.WriteLaws.{wrote-text}
 use Rattle.sdp_order.specs.Expression as expression
-use Rattle.sdp_order.specs.Expression.{letter, _·_, _*, _⁇, _+, matches}
+use Rattle.sdp_order.specs.Expression.{letter, matches}
 use Rattle.sdp_order.specs.Order as order
 use Rattle.sdp_order.specs.Order.{timeDescription, mediaDescription, grammar, letters, run, orderOf}
 use Rattle.sdp_order.specs.From as from
-use Rattle.sdp_order.specs.From.{fromTitle, fromTimes, fromKey, fromMedia}
 use Rattle.sdp_ordered.specs.Ordered.{lastRepeats, noZones, zonesFit, WrittenOrder}
 use Rattle.sdp_ordered.proofs.LetterLaws as spelt
-use Rattle.sdp_ordered.proofs.LetterLaws.{givenLetter, ownLetters, timesLetters, zonesLetters, bandwidthLetters, attributeLetters, mediaLetters, headLetters, writtenLetters, written-letters}
+use Rattle.sdp_ordered.proofs.LetterLaws.{givenLetter, timesLetters, zonesLetters, bandwidthLetters, attributeLetters, mediaLetters, headLetters, writtenLetters, written-letters}
 use Rattle.sdp_ordered.proofs.NextLaws as neighbour
 use Rattle.sdp_ordered.proofs.NextLaws.{never-next}
 use Rattle.sdp_ordered.proofs.MatchLaws.{Runs, _then_, regrouped, one, absent, given, each-many, every-row, own-rows, all-times-run, last-time}

@@ -34,7 +34,7 @@ use Rattle.sdp_same.proofs.SameLaws.{fills, read-then-write}
 use Rattle.sdp_samples.specs.Samples.{Samples, Refuses, Accepts, Writes, «V», T, spaceAfter, crAtEnd, nothingBefore, noEquals, noInterval, lowest, tooHigh, minusPlus, noZones, someOrigin, junkOrigin, emptyValue, noValue, _next_, ofV}
 
 -- ---- from the lines of a text to the promise of read
-refuses : (t : List ℕ) (x : Answer) → ltb 32768 (length t) ≡ false → lines spanAt t ≡ refused x → Refuses t x
+pub refuses : (t : List ℕ) (x : Answer) → ltb 32768 (length t) ≡ false → lines spanAt t ≡ refused x → Refuses t x
 unfolding Run.readText
 refuses t x p e a h = rw (le-ltb (length a) size h, p, e)
 
