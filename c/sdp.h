@@ -141,8 +141,11 @@ struct sdp_starts sdp_starts(const uint8_t *text, size_t text_len, const uint8_t
 /* SDP_AREA_SIZE, as the archive has it. */
 size_t sdp_area_size(void);
 
-/* Whether the letters of the text's lines run in the order of the RFCs, with the z line after all t and r lines, where
- * RFC 4566 has it. A k line has its place in it. Values are not judged, and sdp_read takes other orders too. */
+/* Whether the letters of the text's lines run in the order of RFC 8866: v o s i? u? e* p* c? b*, then one or more of
+ * (t, then optionally (r+ z?)), then k? a*, then any number of (m i? c* b* k? a*). Values are not judged, and sdp_read takes
+ * other orders too. But it takes only one z line: a text with one behind the r lines of each of two times is in order, and
+ * is refused with 17. sdp_write puts z behind all times: what it writes, within SDP_LONGEST bytes, is in order if there are
+ * no zones, and otherwise exactly when the last time has a repeat. */
 struct sdp_order sdp_letter_order(const uint8_t *text, size_t text_len);
 
 /* What stands at a place of the text, where the line of that number is due. Begin with place 0 and line 1; after the

@@ -1,11 +1,15 @@
-//! The letter order beside the crate `regex`: document 01's sentence as an expression over a text's bytes.
+//! The letter order beside the crate `regex`: the words of documents 01 and 02 as an expression over a text's bytes.
+//! And the order beside what the reader takes, and of what the writer writes.
 #[path = "../../oracle/src/order.rs"]
 mod order;
-use compare::{letter_order, Order};
+use compare::area::{decode, SIZE};
+use compare::judge::{cleaned, judge, part};
+use compare::made::{self, at, put_two, DAMAGES};
+use compare::{letter_order, read, write, Answer, Order};
 use generate::random::{count, from_env};
 use generate::sessions::{self, LONGEST};
-use generate::{every_string, texts, Random};
-use order::{in_order, BAD, GOOD};
+use generate::{every_string, hours, texts, Random};
+use order::{in_order, matcher, BAD, GOOD, ORDER};
 
 /// Every letter that has a place in the order, and one that has none.
 const LETTERS: &[u8] = b"vosiuepcbtrzkamx";
@@ -55,13 +59,42 @@ fn lines(letters: &[u8]) -> Vec<u8> {
 // ---- the expression itself
 
 #[test]
-fn the_expression_says_what_document_01_says() {
-    assert!(GOOD.split(' ').count() == 18 && BAD.split(' ').count() == 36);
+fn the_expression_says_what_the_documents_say() {
+    assert!(GOOD.split(' ').count() == 26 && BAD.split(' ').count() == 48);
     for good in GOOD.split(' ') {
         assert!(in_order(&lines(good.as_bytes())), "{good}");
     }
     for bad in BAD.split(' ').chain([""]) {
         assert!(!in_order(&lines(bad.as_bytes())), "{bad}");
+    }
+}
+
+/// The orders by hand tell the times from what is nearest to them, and first of all from what was right before P6.
+#[test]
+fn the_orders_by_hand_see_neighbours() {
+    let times = "(t (r+ z?)?)+";
+    assert!(ORDER.contains(times));
+    for other in [
+        "(t r*)+ z?",
+        "(t r*)+",
+        "(t r* z?)+",
+        "(t r+ z?)+",
+        "(t (r+ z)?)+",
+        "(t (r z?)?)+",
+        "(t (r+ z*)?)+",
+        "(t (r+ z?)*)+",
+        "(t (z? r+)?)+",
+        "(t (r+ z?)?)+ z?",
+        "(t (r+ z?)?)*",
+        "(t r*)* t (r+ z?)?",
+        "(t r* z?)* t (r+ z?)?",
+        "t r* z? (t (r+ z?)?)*",
+        "t (r+ z?)?",
+    ] {
+        let wrong = matcher(&ORDER.replace(times, other));
+        let missed = GOOD.split(' ').any(|good| !wrong.is_match(&lines(good.as_bytes())));
+        let passed = BAD.split(' ').any(|bad| wrong.is_match(&lines(bad.as_bytes())));
+        assert!(missed || passed, "{other}");
     }
 }
 
@@ -109,8 +142,31 @@ fn every_short_order() {
     every_string(b"micbkart", 5, |letters| {
         counts.add(&lines(&[b"vostm", letters].concat()));
     });
+    // times with repeats and zones, and what stands behind them
+    every_string(b"trzkam", 6, |letters| {
+        counts.add(&lines(&[b"vost", letters].concat()));
+    });
+    every_string(b"trz", 9, |letters| {
+        counts.add(&lines(&[b"vost", letters].concat()));
+    });
     counts.print("every short order");
     assert!(counts.yes > 1_000 && counts.no > 1_000_000);
+}
+
+/// The times hand over to the repeats sixteen times, and then a loop goes on: every end behind as many times, and more.
+#[test]
+fn every_end_of_many_times() {
+    let mut counts = Counts::default();
+    for time in ["t", "tr", "trz"] {
+        for times in 1..=36 {
+            let before = ["vos", &time.repeat(times)].concat();
+            every_string(b"trz", 5, |letters| {
+                counts.add(&lines(&[before.as_bytes(), letters].concat()));
+            });
+        }
+    }
+    counts.print("every end of many times");
+    assert!(counts.yes > 5_000 && counts.no > 20_000);
 }
 
 /// Letters in order: each optional one there or not, each repeated one several times.
@@ -124,8 +180,11 @@ fn ordered(random: &mut Random) -> Vec<u8> {
     for _ in 0..random.between(1, 4) {
         letters.push(b't');
         letters.resize(letters.len() + many(random), b'r');
+        if letters.ends_with(b"r") && random.once_in(2) {
+            letters.push(b'z');
+        }
     }
-    for (letter, most) in [(b'z', 1), (b'k', 1), (b'a', 9)] {
+    for (letter, most) in [(b'k', 1), (b'a', 9)] {
         let times = many(random).min(most);
         letters.resize(letters.len() + times, letter);
     }
@@ -276,17 +335,228 @@ fn at_the_limit() {
         }
         counts.add(&vec![random.byte(); LONGEST + 1]);
     }
-    // as many lines as fit: times, repeats, medias, empty lines
-    for piece in ["t=\n", "t=\nr=\n", "m=\n", "\n", "t=\nr=\nr=\n\r\n"] {
+    // as many lines as fit: times, repeats, zones, medias, empty lines; and the last of them decides
+    let head = b"v=\no=\ns=\nt=\n";
+    for (piece, bad) in [
+        ("t=\n", "z=\n"),
+        ("t=\nr=\n", "t=\nz=\n"),
+        ("t=\nr=\nz=\n", "t=\nz=\n"),
+        ("t=\nr=\nz=\n\n", "t=\nr=\nz=\nz=\n"),
+        ("t=\nr=\nr=\n\r\n", "t=\nr=\nz=\nr=\n"),
+        ("m=\n", "z=\n"),
+        ("\n", "z=\n"),
+    ] {
         for due in [LONGEST, LONGEST + 1] {
-            let mut text = b"v=\no=\ns=\nt=\n".to_vec();
-            while text.len() + piece.len() <= due {
-                text.extend(piece.bytes());
+            for (end, good) in [("", true), (bad, false)] {
+                let mut text = head.to_vec();
+                while text.len() + piece.len() + end.len() <= due {
+                    text.extend(piece.bytes());
+                }
+                text.resize(due - end.len(), b'\n');
+                text.extend(end.bytes());
+                assert_eq!(counts.add(&text), good && due == LONGEST, "{piece:?} {end:?}");
             }
-            text.resize(due, b'\n');
-            assert_eq!(counts.add(&text), due == LONGEST, "{piece:?}");
         }
     }
     counts.print("at the limit");
     assert!(counts.yes > 5 && counts.long >= 4 * rounds);
+}
+
+// ---- beside the reader and the writer
+
+/// What is read of a text: the answer, and the area.
+fn area_of(text: &[u8]) -> (Answer, Vec<u8>) {
+    let mut area = vec![0xa5; SIZE];
+    (read(text, &mut area), area)
+}
+
+const ACCEPTED: Answer = Answer { number: 0, line: 0, field: 0, place: 0, len: 0 };
+
+/// The reader's word on a z line behind another.
+fn second_zones(line: u64) -> Answer {
+    Answer { number: 17, line, ..ACCEPTED }
+}
+
+/// Good values, with z lines in and out of their place: the order and the reader judge them differently.
+#[test]
+fn zones_behind_times() {
+    let mut counts = Counts::default();
+    let mut check = |times: &[u8], due: bool, read: Answer| {
+        let mut text = b"v=0\no=- 0 0 IN IP4 h\ns=x\n".to_vec();
+        for letter in times {
+            let line: &[u8] = match letter {
+                b't' => b"t=1 0\n",
+                b'r' => b"r=1d 1h 0 90\n",
+                _ => b"z=60 -1h 61 0\n",
+            };
+            text.extend(line);
+        }
+        assert_eq!((counts.add(&text), area_of(&text).0), (due, read), "{}", times.escape_ascii());
+    };
+    // behind the last time, and behind an earlier one
+    check(b"trz", true, ACCEPTED);
+    check(b"ttrrtrrz", true, ACCEPTED);
+    check(b"trzttr", true, ACCEPTED);
+    // behind each of several times
+    check(b"trztrz", true, second_zones(9));
+    check(b"trrzttrztrz", true, second_zones(11));
+    // behind a time without repeats
+    check(b"tz", false, ACCEPTED);
+    check(b"trtz", false, ACCEPTED);
+    check(b"tztr", false, ACCEPTED);
+    check(b"trztz", false, second_zones(8));
+    // behind z itself
+    check(b"trzz", false, second_zones(7));
+    check(b"trzr", false, ACCEPTED);
+    check(b"z", false, ACCEPTED);
+
+    let mut random = Random::of_test("zones behind times");
+    let (rounds, mut seen) = (count(20_000), [[0; 2]; 2]);
+    for _ in 0..rounds {
+        let mut lines = vec![b"v=0".to_vec()];
+        let put = |random: &mut Random, lines: &mut Vec<Vec<u8>>, letter| {
+            let value = sessions::good_value(random, letter);
+            lines.push(sessions::line(letter, &value));
+        };
+        put(&mut random, &mut lines, b'o');
+        put(&mut random, &mut lines, b's');
+        // in half of the texts z lines stand behind times without repeats too
+        let (mut due, mut zones, stray) = (true, Vec::new(), random.once_in(2));
+        for _ in 0..random.between(1, 6) {
+            put(&mut random, &mut lines, b't');
+            let repeats = random.below(4);
+            (0..repeats).for_each(|_| put(&mut random, &mut lines, b'r'));
+            if (repeats > 0 || stray) && random.once_in(3) {
+                due &= repeats > 0;
+                put(&mut random, &mut lines, b'z');
+                zones.push(lines.len() as u64);
+            }
+        }
+        let text = lines.join(&b'\n');
+        let read = zones.get(1).map_or(ACCEPTED, |second| second_zones(*second));
+        assert_eq!((counts.add(&text), area_of(&text).0), (due, read), "{}", text.escape_ascii());
+        seen[usize::from(due)][usize::from(read == ACCEPTED)] += 1;
+    }
+    let [[bad_refused, bad_taken], [refused, taken]] = seen;
+    counts.print("zones behind times");
+    println!("    in order {taken} taken, {refused} refused with 17; out of order {bad_taken} and {bad_refused}");
+    assert!(seen.iter().flatten().all(|seen| *seen >= rounds / 80));
+}
+
+/// What was written, by what the area has.
+#[derive(Debug, Default)]
+struct Written {
+    no_zones: u64,
+    /// With zones, and the last time has a repeat.
+    repeated: u64,
+    /// With zones, and the last time has no repeat, but an earlier one has.
+    earlier: u64,
+    /// With zones and times, and without repeats.
+    unrepeated: u64,
+    /// With zones, and without times: then `t=0 0` is written.
+    no_times: u64,
+    too_long: u64,
+}
+
+impl Written {
+    /// The theorem `written-order` on one area that can be written. Document 02, P6: "a written text within 32,768
+    /// bytes passes if it has no zones, and otherwise exactly when its last time has a repeat".
+    fn add(&mut self, counts: &mut Counts, text: &[u8], area: &[u8]) {
+        let needed = write(text, area, &mut []);
+        assert_eq!(needed.number, 22);
+        let len = needed.len as usize;
+        if len > LONGEST {
+            self.too_long += 1;
+            return;
+        }
+        let mut written = vec![0; len];
+        assert_eq!(write(text, area, &mut written), Answer { len: len as u64, ..ACCEPTED });
+        let seen = decode(&cleaned(area)).unwrap();
+        let last = seen.times.len() as u64;
+        let repeated = seen.repeats.iter().any(|repeat| repeat.owner == last);
+        let due = seen.zones.is_empty() || repeated;
+        assert_eq!(counts.add(&written), due, "{}", written.escape_ascii());
+        *match seen.zones.len() {
+            0 => &mut self.no_zones,
+            _ if repeated => &mut self.repeated,
+            _ if !seen.repeats.is_empty() => &mut self.earlier,
+            _ if last > 0 => &mut self.unrepeated,
+            _ => &mut self.no_times,
+        } += 1;
+    }
+
+    fn print_and_ask(&self, what: &str, counts: &Counts, least: u64) {
+        counts.print(what);
+        println!("    {self:?}");
+        for seen in [self.no_zones, self.repeated, self.earlier, self.unrepeated, self.no_times] {
+            assert!(seen >= least, "{what}: {self:?}, each at least {least} times");
+        }
+    }
+}
+
+#[test]
+fn written_of_what_was_read() {
+    let (mut counts, mut written) = (Counts::default(), Written::default());
+    let mut random = Random::of_test("order, written");
+    let rounds = count(12_000);
+    for round in 0..rounds {
+        let text = match round % 4 {
+            0 => hours::any(&mut random).text(),
+            1 => sessions::text(&mut random),
+            _ => {
+                let lines = sessions::good(&mut random);
+                sessions::ended(&mut random, &lines)
+            }
+        };
+        let (answer, area) = area_of(&text);
+        if answer.number == 0 {
+            written.add(&mut counts, &text, &area);
+        }
+    }
+    written.print_and_ask("written of what was read", &counts, rounds / 80);
+}
+
+/// Areas that no reader made, and areas that were damaged and can still be written.
+#[test]
+fn written_of_made_areas() {
+    let (mut counts, mut written) = (Counts::default(), Written::default());
+    let mut random = Random::of_test("order, made areas");
+    let rounds = count(6_000);
+    for _ in 0..rounds {
+        let text = made::text(&mut random);
+        let mut area = made::area(&mut random, &text);
+        written.add(&mut counts, &text, &area);
+        let kind = DAMAGES[random.below(DAMAGES.len())];
+        made::damage(&mut random, kind, &text, &mut area);
+        if judge(&text, &area) {
+            written.add(&mut counts, &text, &area);
+        }
+    }
+    written.print_and_ask("written of made areas", &counts, rounds / 80);
+}
+
+/// Written texts of 32,768 bytes, and of one byte more.
+#[test]
+fn written_at_the_limit() {
+    let mut counts = Counts::default();
+    let text = vec![b'x'; LONGEST];
+    // how many times, repeats of the first of them, and zones
+    for (rows, due) in
+        [([2, 1, 0], true), ([1, 1, 1], true), ([2, 1, 1], false), ([1, 0, 1], false), ([0, 0, 1], false)]
+    {
+        let mut area = vec![0; SIZE];
+        for (name, rows) in ["times", "repeats", "zones"].into_iter().zip(rows) {
+            put_two(&mut area, part(name).at, rows);
+        }
+        put_two(&mut area, at("repeats", 0, "owner"), 1);
+        put_two(&mut area, at("description", 0, "mark"), 1);
+        let without = write(&text, &area, &mut []).len as usize;
+        for len in [LONGEST, LONGEST + 1] {
+            put_two(&mut area, at("description", 0, "description") + 2, len - without);
+            let mut written = vec![0; len];
+            assert_eq!(write(&text, &area, &mut written), Answer { len: len as u64, ..ACCEPTED });
+            assert_eq!(counts.add(&written), due && len == LONGEST, "{rows:?}");
+        }
+    }
+    assert_eq!((counts.yes, counts.no, counts.long), (2, 3, 5));
 }

@@ -49,7 +49,7 @@ fn every_function_answers_on_a_small_stack() {
             "full" => assert_eq!((answers["sdp_read"], answers["sdp_write"], answers["sdp_letter_order"]), (0, 0, 1)),
             "starts" => assert_eq!((answers["sdp_read"], answers["sdp_starts"]), (0, 1_256)), // 1,000 and their count
             "starts-without-end" => assert_eq!((answers["sdp_read"], answers["sdp_starts"]), (0, 29)),
-            "first-t" | "times-and-repeats" => assert_eq!(answers["sdp_letter_order"], 1),
+            "first-t" | "times-and-repeats" | "times-and-zones" => assert_eq!(answers["sdp_letter_order"], 1),
             "over-the-limit" => assert_eq!((answers["sdp_read"], answers["sdp_letter_order"]), (1, 0)),
             _ => (),
         }

@@ -66,6 +66,7 @@ pub fn texts() -> Vec<Hostile> {
     for (name, part) in [
         ("times-and-repeats", "t=\nr=\n"),
         ("times-and-two-repeats", "t=\r\nr=\r\nr=\r\n"),
+        ("times-and-zones", "t=\nr=\nz=\n"),
         ("spaced-times", "t=\n\nr=\n\n"),
         ("good-times", "t=0 0\nr=0 0 0\n"),
         ("whole-medias", "t=\nm=\ni=\nc=\nb=\nk=\na=\n"),

@@ -503,8 +503,8 @@ fn orders(list: &mut List) {
         let lines: Vec<String> = letters.chars().map(|letter| format!("{letter}=\n")).collect();
         list.add("l", lines.concat().as_bytes());
     }
-    // every time hands over to its repeats
-    list.add("l", &[b"v=\no=\ns=\n", &b"t=\nr=\nr=\n".repeat(20)[..]].concat());
+    // every time hands over to its repeats, and these to their zones
+    list.add("l", &[b"v=\no=\ns=\n", &b"t=\nr=\nr=\nz=\n".repeat(20)[..]].concat());
     list.add("l", b"");
     for (before, after) in [("v=\no=\n", "s=\nt=\n"), ("v=\no=\ns=\nt=\n", "")] {
         for line in [

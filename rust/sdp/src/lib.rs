@@ -183,13 +183,19 @@ pub fn kept<'a>(text: &'a [u8], area: &'a Area) -> Result<Session<'a>, Error> {
     }
 }
 
-/// Whether the letters of the text's lines run in the order of the RFCs, with the z line after all t and r lines, where
-/// RFC 4566 has it. Receivers take other orders too, and so does [`read`]; who wants to know asks here.
+/// Whether the letters of the text's lines run in the order of RFC 8866: `v o s i? u? e* p* c? b*`, then one or more of
+/// (`t`, then optionally `r+ z?`), then `k? a*`, then any number of `m i? c* b* k? a*`. Receivers take other orders too, and
+/// so does [`read`]; who wants to know asks here.
 ///
 /// ```
 /// assert_eq!(sdp::letter_order(b"v=0\no=- 0 0 IN IP4 h\ns=x\nt=0 0\n"), Ok(true));
 /// assert_eq!(sdp::letter_order(b"v=0\ns=x\no=- 0 0 IN IP4 h\nt=0 0\n"), Ok(false));
+/// assert_eq!(sdp::letter_order(b"v=0\no=- 0 0 IN IP4 h\ns=x\nt=1 0\nz=1 1h\n"), Ok(false)); // z behind no repeat
 /// ```
+///
+/// A text with a z line behind the r lines of each of two times is in order, and [`read`] refuses the second one with 17.
+/// [`Session::write`] puts z behind all times, as the crate does: what it writes, within [`LONGEST`] bytes, is in order if
+/// there are no zones, and otherwise exactly when the last time has a repeat.
 ///
 /// # Errors
 ///

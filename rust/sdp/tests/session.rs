@@ -343,6 +343,24 @@ fn the_letter_order() {
     assert_eq!(sdp::letter_order(RICH), Ok(true));
 }
 
+/// RFC 8866 has z behind the repeats of a time, the reader takes one z line, and the writer puts it behind all times.
+#[test]
+fn the_place_of_zones() {
+    let head = "v=0\no=- 0 0 IN IP4 h\ns=x\n";
+    let order = |text: &str| sdp::letter_order(text.as_bytes()).unwrap();
+    let twice = format!("{head}t=1 0\nr=1d 1h\nz=1 -1h\nt=2 0\nr=1d 1h\nz=1 -1h\n");
+    let second = refused(twice.as_bytes());
+    assert_eq!((order(&twice), second.number(), second.line()), (true, 17, 9));
+    // behind the first time, and written behind the last, which has no repeat
+    let early = format!("{head}t=1 0\nr=1d 1h\nz=1 -1h\nt=2 0\n");
+    let written = read(early.as_bytes()).session().to_string();
+    assert!(written.ends_with("r=1d 1h\r\nt=2 0\r\nz=1 -1h\r\n"), "{written}");
+    assert_eq!((order(&early), order(&written)), (true, false));
+    let late = format!("{head}t=1 0\nt=2 0\nr=1d 1h\nz=1 -1h\n");
+    let written = read(late.as_bytes()).session().to_string();
+    assert_eq!((order(&late), order(&written)), (true, true));
+}
+
 /// Times with and without repeats, shifted by the z line and not, from both ends; and the lines that they come from.
 #[test]
 fn starts() {
