@@ -13,13 +13,13 @@ use Rattle.sdp_order.specs.Expression.{Expr, nothing, empty, letter, _·
 use Rattle.sdp_order.proofs.ExpressionLaws.{matches-or, matches-nothing, then-cons, after-letter}
 
 -- ---- what is described is matched
-pub then-yes : (x y : Expr) (ls ms : List ℕ) → matches x ls ≡ true → matches y ms ≡ true → matches (x · y) (ls ++ ms) ≡ true
+then-yes : (x y : Expr) (ls ms : List ℕ) → matches x ls ≡ true → matches y ms ≡ true → matches (x · y) (ls ++ ms) ≡ true
 unfolding matches maybeEmpty
 then-yes x y [] [] f g = rw (f, g)
 then-yes x y [] (m ∷ ms) f g = then-cons x y m ms ∙ rw (f, g) (or-true (matches (after m x · y) ms))
 then-yes x y (l ∷ ls) ms f g = then-cons x y l (ls ++ ms) ∙ rw (then-yes (after l x) y ls ms f g)
 
-pub many-yes : (x : Expr) (ls ms : List ℕ) → matches x ls ≡ true → matches (x *) ms ≡ true → matches (x *) (ls ++ ms) ≡ true
+many-yes : (x : Expr) (ls ms : List ℕ) → matches x ls ≡ true → matches (x *) ms ≡ true → matches (x *) (ls ++ ms) ≡ true
 unfolding matches after
 many-yes x [] ms f g = g
 many-yes x (l ∷ ls) ms f g = then-yes (after l x) (x *) ls ms f g

@@ -14,16 +14,17 @@ use Rattle.sdp_decode.specs.Rows.{each}
 use Rattle.sdp_row.specs.Written.{written}
 use Rattle.sdp_write.proofs.WriteLaws.{wrote-text}
 use Rattle.sdp_order.specs.Expression as expression
-use Rattle.sdp_order.specs.Expression.{letter, matches}
+use Rattle.sdp_order.specs.Expression.{letter, matches, Describes, one-letter}
 use Rattle.sdp_order.specs.Order as order
 use Rattle.sdp_order.specs.Order.{timeDescription, mediaDescription, grammar, letters, run, orderOf}
 use Rattle.sdp_order.specs.From as from
+use Rattle.sdp_order.proofs.Described.{described}
 use Rattle.sdp_ordered.specs.Ordered.{lastRepeats, noZones, zonesFit, WrittenOrder}
 use Rattle.sdp_ordered.proofs.LetterLaws as spelt
 use Rattle.sdp_ordered.proofs.LetterLaws.{givenLetter, timesLetters, zonesLetters, bandwidthLetters, attributeLetters, mediaLetters, headLetters, writtenLetters, written-letters}
 use Rattle.sdp_ordered.proofs.NextLaws as neighbour
 use Rattle.sdp_ordered.proofs.NextLaws.{never-next}
-use Rattle.sdp_ordered.proofs.MatchLaws.{Runs, _then_, regrouped, one, absent, given, each-many, every-row, own-rows, all-times-run, last-time}
+use Rattle.sdp_ordered.proofs.MatchLaws.{_then_, regrouped, absent, given, each-many, every-row, own-rows, all-times-run, last-time}
 
 -- ---- z directly behind t
 zones-apart : (front back : List ℕ) (rs : List Repeat) (ts : List Time) (zs : List Zone) → noZones zs || lastRepeats ts rs ≡ false → matches grammar (front ++ ((timesLetters rs ts ++ zonesLetters zs) ++ back)) ≡ false
@@ -58,21 +59,21 @@ module _ {S : Type 0} (s : Session S) where
   parted : writtenLetters s ≡ front ++ (middle ++ back)
   parted = simp append-assoc
 
-  media-runs : (n : ℕ) (m : Media S) → Runs mediaDescription (mediaLetters T n m)
+  media-runs : (n : ℕ) (m : Media S) → Describes mediaDescription (mediaLetters T n m)
   media-runs n m =
-      one 0x6d
+      one-letter 0x6d
       then given 0x69 (m .mediaTitle)
       then own-rows 0x63 (λ c. c .owner) n 1 (T .connections)
       then own-rows 0x62 (λ b. b .owner) n 1 (T .bandwidths)
       then absent {x = letter 0x6b}
       then own-rows 0x61 (λ a. a .owner) n 1 (T .attributes)
 
-  all-run : Runs (expression._+ timeDescription) middle → Runs grammar (front ++ (middle ++ back))
+  all-run : Describes (expression._+ timeDescription) middle → Describes grammar (front ++ (middle ++ back))
   all-run times =
       regrouped
-      (one 0x76
-      then one 0x6f
-      then one 0x73
+      (one-letter 0x76
+      then one-letter 0x6f
+      then one-letter 0x73
       then given 0x69 (H .description)
       then given 0x75 (H .uri)
       then every-row 0x65 (T .emails)
@@ -89,7 +90,7 @@ module _ {S : Type 0} (s : Session S) where
   letters-run = ap (matches grammar) parted ∙ go (zonesFit s) refl
     where
       go : (b : Bool) → zonesFit s ≡ b → matches grammar (front ++ (middle ++ back)) ≡ b
-      go true e = all-run (all-times-run (T .repeats) (T .times) (T .zones) e) .is
+      go true e = described grammar _ .1 (all-run (all-times-run (T .repeats) (T .times) (T .zones) e))
       go false e = zones-apart front back (T .repeats) (T .times) (T .zones) e
 
   -- of any session, within the limit
