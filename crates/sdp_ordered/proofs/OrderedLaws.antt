@@ -93,7 +93,7 @@ module _ {S : Type 0} (s : Session S) where
       go true e = described grammar _ .1 (all-run (all-times-run (T .repeats) (T .times) (T .zones) e))
       go false e = zones-apart front back (T .repeats) (T .times) (T .zones) e
 
-  -- of any session, within the limit
+  -- of any session, over any strings
   session-order : (str : S → List ℕ) → run grammar (letters (split (written str s))) ≡ zonesFit s
   session-order str = ap (run grammar) (written-letters str s) ∙ letters-run
 
