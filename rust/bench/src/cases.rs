@@ -59,6 +59,18 @@ pub fn few(texts: &Path) -> Result<Vec<Case>, String> {
 
 fn those(texts: &Path, wanted: fn(&str) -> bool) -> Result<Vec<Case>, String> {
     let mut cases = Vec::new();
+    for (name, text) in stored(texts, wanted)? {
+        match Case::new(name.clone(), text)? {
+            Some(case) => cases.push(case),
+            None => eprintln!("bench: {name} is left out: it is refused by a limit that the crate doesn't have"),
+        }
+    }
+    Ok(cases)
+}
+
+/// The names and the texts as they are stored.
+pub fn stored(texts: &Path, wanted: fn(&str) -> bool) -> Result<Vec<(String, Vec<u8>)>, String> {
+    let mut all = Vec::new();
     for part in ["published", "kinds"] {
         let folder = texts.join(part);
         let say = |e: std::io::Error| format!("{}: {e}", folder.display());
@@ -70,13 +82,10 @@ fn those(texts: &Path, wanted: fn(&str) -> bool) -> Result<Vec<Case>, String> {
         names.sort();
         for name in names {
             let text = std::fs::read(folder.join(format!("{name}.sdp"))).map_err(say)?;
-            match Case::new(name.clone(), text)? {
-                Some(case) => cases.push(case),
-                None => eprintln!("bench: {name} is left out: it is refused by a limit that the crate doesn't have"),
-            }
+            all.push((name, text));
         }
     }
-    Ok(cases)
+    Ok(all)
 }
 
 /// Texts of 256 to 32,768 bytes, each twice as long as the one before, all alike: a media and its attributes for each

@@ -54,6 +54,15 @@ pub fn counts(lines: &str) -> Result<Vec<Cost>, String> {
     Ok(calls)
 }
 
+/// What one work of a text costs, where only ours is called.
+pub fn one(costs: &[Cost], name: &str, work: &str) -> Result<f64, String> {
+    let mut all = costs.iter().filter(|cost| cost.name == name && cost.work == work);
+    match (all.next(), all.next()) {
+        (Some(one), None) => Ok(one.cost),
+        _ => Err(format!("{name}: not one cost of {work}")),
+    }
+}
+
 /// Ours and the crate's for one text and one work.
 #[derive(Debug)]
 pub struct Row {
@@ -97,9 +106,14 @@ pub fn rows(costs: &[Cost], work: Work) -> Result<Vec<Row>, String> {
 }
 
 pub fn geometric_mean<'a>(rows: impl Iterator<Item = &'a Row>) -> Option<f64> {
+    mean(rows.map(Row::ratio))
+}
+
+/// The geometric one.
+pub fn mean(ratios: impl Iterator<Item = f64>) -> Option<f64> {
     let (mut sum, mut count) = (0.0, 0);
-    for row in rows {
-        sum += row.ratio().ln();
+    for ratio in ratios {
+        sum += ratio.ln();
         count += 1;
     }
     (count > 0).then(|| (sum / f64::from(count)).exp())

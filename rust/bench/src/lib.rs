@@ -1,8 +1,9 @@
-//! Our reader and writer beside the crate's, on the same texts: what they cost. And our list of starts, which the crate
-//! doesn't have. The script `bench` in the repository's root puts it together.
+//! Our reader and writer beside the crate's, on the same texts: what they cost. And our list of starts and letter order,
+//! which the crate doesn't have. The script `bench` in the repository's root puts it together.
 pub mod cases;
 pub mod cost;
 pub mod marks;
+pub mod order;
 pub mod sides;
 pub mod stack;
 pub mod starts;

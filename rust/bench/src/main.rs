@@ -2,6 +2,7 @@
 use bench::cases::{self, Case};
 use bench::cost::{self, Cost};
 use bench::marks::{known, marked};
+use bench::order;
 use bench::sides::{Ours, Side, Theirs, Work};
 use bench::stack::{self, Lent};
 use bench::starts;
@@ -68,6 +69,28 @@ fn list_calls(cases: &[starts::Case]) {
         for work in starts::WORKS {
             call(&mut ours, work, case);
             marked(|| call(&mut ours, work, case));
+            said += &format!("{} {} {work} {}\n", case.name, case.text.len(), ours.name());
+        }
+    }
+    print!("{said}");
+}
+
+/// And for the letter order.
+fn order_calls(cases: &[order::Case]) {
+    let mut said = begun();
+    let mut ours = Ours::default();
+    for case in cases {
+        for work in order::WORKS {
+            let mut call = || {
+                let text = black_box(&case.text[..]);
+                if work == order::WORKS[0] {
+                    black_box(ours.read(text));
+                } else {
+                    black_box(compare::letter_order(text));
+                }
+            };
+            call();
+            marked(call);
             said += &format!("{} {} {work} {}\n", case.name, case.text.len(), ours.name());
         }
     }
@@ -193,6 +216,8 @@ fn run(words: &[&str]) -> Result<ExitCode, String> {
         ["calls", "worst-starts"] => list_calls(&[starts::worst()?]),
         ["calls", "starts", texts] => list_calls(&starts::cases(Path::new(texts))?),
         ["calls", "starts-doubling"] => list_calls(&starts::doubling()?),
+        ["calls", "order", texts] => order_calls(&order::folder(Path::new(texts))?),
+        ["calls", "order-doubling"] => order_calls(&order::doubling()?),
         ["times", "starts", texts] => list_times(&starts::cases(Path::new(texts))?),
         ["times", texts] => times(&cases::folder(Path::new(texts))?),
         ["stacks", texts] => {
@@ -215,6 +240,8 @@ fn run(words: &[&str]) -> Result<ExitCode, String> {
             print!("{said}");
             return Ok(judged(&wrong));
         }
+        ["order", count, texts] => print!("{}", order::table(&order::folder(Path::new(texts))?, &counts(count)?)?),
+        ["order-growth", count] => print!("{}", order::growth(&counts(count)?)?),
         _ => return Err("run the script bench in the repository's root".into()),
     }
     Ok(ExitCode::SUCCESS)

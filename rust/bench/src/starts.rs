@@ -1,6 +1,6 @@
 //! The list of starts: its cases, from a usual one to the worst that the tables allow, and what is printed of their costs.
 //! The crate has nothing of the kind, so a list's cost is set beside that of reading the same text.
-use crate::cost::Cost;
+use crate::cost::{one, Cost};
 use crate::sides::{Ours, Side};
 use std::fmt::Write;
 use std::ops::Range;
@@ -131,18 +131,9 @@ pub fn doubling() -> Result<Vec<Case>, String> {
     Ok(cases)
 }
 
-/// What one work of a case costs.
-fn cost(costs: &[Cost], name: &str, work: &str) -> Result<f64, String> {
-    let mut all = costs.iter().filter(|cost| cost.name == name && cost.work == work);
-    match (all.next(), all.next()) {
-        (Some(one), None) => Ok(one.cost),
-        _ => Err(format!("{name}: not one cost of {work}")),
-    }
-}
-
 /// The instructions of a list for each of its parts.
 fn each_part(case: &Case, counts: &[Cost]) -> Result<f64, String> {
-    Ok(cost(counts, &case.name, WORKS[1])? / case.parts as f64)
+    Ok(one(counts, &case.name, WORKS[1])? / case.parts as f64)
 }
 
 /// A row for each case: reading it and listing its starts, in instructions and in nanoseconds.
@@ -151,8 +142,8 @@ pub fn table(cases: &[Case], counts: &[Cost], times: &[Cost]) -> Result<String, 
     out += "   reading   listing  ratio  a part  read ns  list ns  ratio\n";
     for case in cases {
         let Case { name, text, due, parts, .. } = case;
-        let [read, list] = [cost(counts, name, WORKS[0])?, cost(counts, name, WORKS[1])?];
-        let [read_ns, list_ns] = [cost(times, name, WORKS[0])?, cost(times, name, WORKS[1])?];
+        let [read, list] = [one(counts, name, WORKS[0])?, one(counts, name, WORKS[1])?];
+        let [read_ns, list_ns] = [one(times, name, WORKS[0])?, one(times, name, WORKS[1])?];
         let starts = due.map_or_else(|number| format!("({number})"), |count| count.to_string());
         let (bytes, each) = (text.len(), each_part(case, counts)?);
         let _ = write!(out, "{name:<18} {bytes:>6} {starts:>6} {parts:>6} {read:>9} {list:>9} {:>6.2}", list / read);

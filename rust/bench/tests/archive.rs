@@ -1,5 +1,6 @@
 //! What docs/SPEED.md says of the archive. It uses no heap: it calls nothing of the C library but what sets or copies
 //! memory.
+use bench::order;
 use bench::stack::CALLS;
 use bench::starts::{cases, doubling, worst};
 use object::read::archive::ArchiveFile;
@@ -66,4 +67,18 @@ fn the_worst_list_is_full() {
     let texts = Path::new(env!("CARGO_MANIFEST_DIR")).join("../../texts");
     assert!(cases(&texts).unwrap().iter().all(|case| case.parts <= worst.parts));
     assert_eq!(doubling().unwrap().len(), 7 + 9 + 7);
+}
+
+/// The texts of the letter order double up to the limit; `doubling` looks itself whether they are in order. Of the
+/// folder's texts none is left out.
+#[test]
+fn the_orders_reach_the_limit() {
+    let doubling = order::doubling().unwrap();
+    let sizes: Vec<usize> = doubling.iter().map(|case| case.text.len()).collect();
+    assert_eq!(sizes, [256, 512, 1_024, 2_048, 4_096, 8_192, 16_384, 32_768].repeat(4));
+    let over = [&doubling.last().unwrap().text[..], b"\n"].concat();
+    assert_eq!(compare::letter_order(&over).number, 1);
+    let texts = Path::new(env!("CARGO_MANIFEST_DIR")).join("../../texts");
+    let files = ["published", "kinds"].map(|part| std::fs::read_dir(texts.join(part)).unwrap().count());
+    assert_eq!(order::folder(&texts).unwrap().len() * 2, files[0] + files[1], "each text has its expected output");
 }

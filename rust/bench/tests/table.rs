@@ -1,5 +1,6 @@
 //! The tables and the check of the direction, on costs made by hand.
 use bench::cost::{costs, counts, geometric_mean, rows};
+use bench::order;
 use bench::sides::Work;
 use bench::starts::{self, Case};
 use bench::table::{direction, growth, short, texts};
@@ -149,4 +150,56 @@ fn the_most_of_a_list() {
     let (_, wrong) = starts::held(&case("full-256", Ok(256), 19_999), &counts).unwrap();
     assert_eq!(wrong, ["the list of starts: 200.01 instructions for each part, and 200 are the most"]);
     assert!(starts::held(&case("full-257", Ok(256), 1), &counts).is_err());
+}
+
+const ORDERS: &str = "\
+nothing 0 none none 3
+known 0 none none 20005
+a 10 read ours 103
+a 10 order ours 203
+b 20 read ours 103
+b 20 order ours 53
+c 30 read ours 43
+c 30 order ours 13
+";
+
+#[test]
+fn the_orders() {
+    let case = |name: &str, in_order| order::Case { name: name.into(), text: Vec::new(), in_order };
+    let cases = [case("a", true), case("b", true), case("c", false)];
+    let table = order::table(&cases, &counts(ORDERS).unwrap()).unwrap();
+    let rows: Vec<String> = table.lines().map(|line| line.split_whitespace().collect::<Vec<_>>().join(" ")).collect();
+    let due = [
+        "the letter order order reading ratio",
+        "in order, least: b 50 100 0.500",
+        "in order, most: a 200 100 2.000",
+        "in order, geometric mean of 2 texts 1.000",
+        "out of order, least: c 10 40 0.250",
+        "out of order, most: c 10 40 0.250",
+        "out of order, geometric mean of 1 texts 0.250",
+    ];
+    assert_eq!(rows, due);
+    assert!(table.lines().all(|line| line.len() <= 100), "{table}");
+    for (from, to, why) in [
+        ("a 10 read ours 103\n", "", "no reading"),
+        ("c 30 order ours 13\n", "", "no order"),
+        ("b 20 order ours 53\n", "b 20 order ours 53\nb 20 order ours 54\n", "two orders"),
+    ] {
+        assert!(order::table(&cases, &counts(&ORDERS.replace(from, to)).unwrap()).is_err(), "{why}");
+    }
+    assert!(order::table(&cases[..2], &counts(ORDERS).unwrap()).is_err(), "no text out of order");
+}
+
+#[test]
+fn the_orders_for_each_byte() {
+    let mut lines: Vec<String> = ORDERS.lines().take(2).map(String::from).collect();
+    for (each, name) in [(1, "times"), (2, "zones"), (3, "attributes"), (4, "medias")] {
+        let sizes = (8..=15).map(|power| 1 << power);
+        lines.extend(sizes.map(|size: usize| format!("{name}-{size} {size} order ours {}", each * size + 3)));
+    }
+    let grown = order::growth(&counts(&lines.join("\n")).unwrap()).unwrap();
+    let rows: Vec<Vec<&str>> = grown.lines().skip(2).map(|line| line.split_whitespace().collect()).collect();
+    assert_eq!((rows.len(), &rows[0][..]), (8, &["256", "1.00", "2.00", "3.00", "4.00"][..]), "{grown}");
+    assert_eq!(rows[7], ["32768", "1.00", "2.00", "3.00", "4.00"], "{grown}");
+    assert!(order::growth(&counts(&lines[..lines.len() - 1].join("\n")).unwrap()).is_err(), "a text is missing");
 }

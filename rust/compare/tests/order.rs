@@ -1,5 +1,5 @@
 //! The letter order beside the crate `regex`: the words of documents 01 and 02 as an expression over a text's bytes.
-//! And the order beside what the reader takes, and of what the writer writes.
+//! And the order beside what the reader takes, of what the writer writes, and of the stored texts.
 #[path = "../../oracle/src/order.rs"]
 mod order;
 use compare::area::{decode, SIZE};
@@ -10,6 +10,8 @@ use generate::random::{count, from_env};
 use generate::sessions::{self, LONGEST};
 use generate::{every_string, hours, texts, Random};
 use order::{in_order, matcher, BAD, GOOD, ORDER};
+use std::fs;
+use std::path::PathBuf;
 
 /// Every letter that has a place in the order, and one that has none.
 const LETTERS: &[u8] = b"vosiuepcbtrzkamx";
@@ -559,4 +561,44 @@ fn written_at_the_limit() {
         }
     }
     assert_eq!((counts.yes, counts.no, counts.long), (2, 3, 5));
+}
+
+// ---- the folder of texts
+
+/// The stored texts that are out of order. The reader doesn't ask for the order, so some of them are accepted.
+const STORED: &str = "rfc3388-6 rfc4145-7.1-offer rfc4585-4.5-unicast rfc5583-6.5 rfc5888-7 desk4 empty-values \
+    keys-ignored minimal out-of-order refused-17-emails refused-32-medias-two-titles refused-bom refused-half-zone \
+    refused-html refused-key-form refused-latin1 refused-long-bandwidth refused-no-version refused-old-mac \
+    refused-port refused-repeat-first refused-second-media-title refused-second-name refused-short-origin \
+    unknown-lines";
+/// The one whose written form is: it has zones, and its last time has no repeat.
+const WRITTEN: &str = "zones-moved";
+
+/// A text whose order becomes another changes its class, and is named.
+#[test]
+fn the_folder_of_texts() {
+    let (mut stored, mut written) = (Counts::default(), Counts::default());
+    let (mut stored_out, mut written_out) = (Vec::new(), Vec::new());
+    for folder in ["published", "kinds"] {
+        let folder = format!("{}/../../texts/{folder}", env!("CARGO_MANIFEST_DIR"));
+        let entries = fs::read_dir(&folder).unwrap_or_else(|error| panic!("{folder}: {error}"));
+        let mut paths: Vec<PathBuf> = entries.map(|entry| entry.unwrap().path()).collect();
+        paths.sort();
+        for path in paths {
+            let text = fs::read(&path).unwrap();
+            let (counts, out) = match path.extension().and_then(|end| end.to_str()) {
+                Some("sdp") => (&mut stored, &mut stored_out),
+                Some("expected") if !text.starts_with(b"refused ") => (&mut written, &mut written_out),
+                _ => continue,
+            };
+            if !counts.add(&text) {
+                out.push(path.file_stem().unwrap().to_str().unwrap().to_string());
+            }
+        }
+    }
+    stored.print("stored texts");
+    written.print("stored written forms");
+    assert_eq!(stored_out, STORED.split(' ').collect::<Vec<_>>());
+    assert_eq!(written_out, WRITTEN.split(' ').collect::<Vec<_>>());
+    assert!(stored.yes >= 51 && written.yes >= 57);
 }
