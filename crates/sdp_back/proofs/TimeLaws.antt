@@ -1,10 +1,9 @@
 -- The t, r and z lines: what is written of numbers that have 64 bits is read again. Assumes nothing.
 use mathlib.Core.Path.{_≡_, refl, sym, ap, _∙_}
-use mathlib.Core.Bool.{Bool, true, false, cond}
+use mathlib.Core.Bool.{true}
 use mathlib.Core.List.{List, [], _∷_, _++_, map, append-nil, append-assoc}
-use Prim.Native.Nat.{ℕ, _+_, _-_, _^_, _<_}
+use Prim.Native.Nat.{ℕ, _+_, _^_, _<_}
 use native.Mathlib.Omega.{arith}
-use lib.Dec.{leb}
 use borrow.Author.Tests.{ne-eqb}
 use Rattle.sdp_number.specs.Number.{wholeNumber, typedTime}
 use Rattle.sdp_split.specs.Split.{wordAt, words}
@@ -17,8 +16,8 @@ use Rattle.sdp_lists.specs.declared.RepeatHead.{RepeatHead}
 use Rattle.sdp_lists.specs.declared.Zone as zone
 use Rattle.sdp_area.specs.Session.{Time, Zone}
 use Rattle.sdp_step.specs.Step.{timeIn, zoneIn}
-use Rattle.sdp_put.specs.Digits.{digits, timeText, offsetText}
-use Rattle.sdp_put.proofs.DigitLaws.{offset-minus, offset-plain}
+use Rattle.sdp_put.specs.Digits.{digits, timeText}
+use Rattle.sdp_put.proofs.DigitLaws.{offset-form}
 use Rattle.sdp_decode.specs.Rows as rows
 use Rattle.sdp_decode.specs.Rows.{each}
 use Rattle.sdp_row.specs.Written as form
@@ -111,11 +110,7 @@ unfolding every
 minus-word t = record { some = omega arith; whole = time-word t .whole; bare = time-word t .bare }
 
 signed-word : (n : ℕ) → Word (signedText n)
-signed-word n = go (leb (2 ^ 63) n)
-  where
-    go : (b : Bool) → Word (offsetText b (cond b (2 ^ 64 - n) n))
-    go true = rw (offset-minus true (2 ^ 64 - n) refl) (minus-word (2 ^ 64 - n))
-    go false = rw (offset-plain false n refl) (time-word n)
+signed-word n = offset-form Word time-word minus-word _ _
 
 pairs-words : (zs : List Zone) → Each Word (pairWords zs)
 pairs-words [] = tt

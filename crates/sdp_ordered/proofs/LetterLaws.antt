@@ -1,19 +1,19 @@
 -- The letters of what is written, whatever the session is: each line has a good form, since strings are written without NUL, CR and LF.
 -- Assumes nothing.
-use Prim.Native.Nat.{ℕ, _+_, _-_, _^_}
+use Prim.Native.Nat.{ℕ, _+_}
 use mathlib.Core.Path.{_≡_, refl, sym, ap, _∙_}
 use mathlib.Core.Bool.{Bool, true, false, cond, not}
 use mathlib.Core.List.{List, [], _∷_, _++_, append-nil, append-assoc}
 use mathlib.Core.Option.{Option, none, some}
 use lib.ListN.{length}
-use lib.Dec.{eqb, leb}
+use lib.Dec.{eqb}
 use Rattle.sdp_lines.specs.Lines as cutter
 use Rattle.sdp_lines.specs.Lines.{split}
 use Rattle.sdp_area.specs.Session.{Origin, Connection, Bandwidth, Time, Repeat, Offset, Zone, Attribute, Media, Head, Tables, Session}
-use Rattle.sdp_put.specs.Digits.{digits, timeText, offsetText}
+use Rattle.sdp_put.specs.Digits.{digits, timeText}
 use Rattle.sdp_put.specs.Strings.{dropped, clean}
 use Rattle.sdp_put.proofs.ByteLaws.{every, every-append, bare, cleaned}
-use Rattle.sdp_put.proofs.DigitLaws.{digits-bare, time-bare, offset-minus, offset-plain}
+use Rattle.sdp_put.proofs.DigitLaws.{digits-bare, time-bare, offset-form}
 use Rattle.sdp_decode.specs.Rows as rows
 use Rattle.sdp_decode.specs.Rows.{each, mine}
 use Rattle.sdp_row.specs.Written as form
@@ -34,9 +34,15 @@ nothing : Bare []
 unfolding every
 nothing = record { is = refl }
 
-space : {a : List ℕ} → Bare a → Bare (spaced a)
+behind : (b : ℕ) → not (dropped b) ≡ true → {v : List ℕ} → Bare v → Bare ((b ∷ []) ++ v)
 unfolding every
-space f = record { is = f .is }
+behind b h f = record { is = rw (h, f .is) }
+
+space : {a : List ℕ} → Bare a → Bare (spaced a)
+space f = behind 0x20 refl f
+
+dash : {a : List ℕ} → Bare a → Bare (0x2d ∷ a)
+dash f = behind 0x2d refl f
 
 number : (n : ℕ) → Bare (digits n)
 number n = record { is = digits-bare n }
@@ -61,16 +67,8 @@ optional-bare : {X : Type 0} (f : X → List ℕ) → ((x : X) → Bare (f x)) �
 optional-bare f h none = nothing
 optional-bare f h (some x) = h x
 
-minus : (t : ℕ) → Bare (0x2d ∷ timeText t)
-unfolding every
-minus t = record { is = time-bare t }
-
 signed : (n : ℕ) → Bare (signedText n)
-signed n = go (leb (2 ^ 63) n)
-  where
-    go : (b : Bool) → Bare (offsetText b (cond b (2 ^ 64 - n) n))
-    go true = rw (offset-minus true (2 ^ 64 - n) refl) (minus (2 ^ 64 - n))
-    go false = rw (offset-plain false n refl) (time n)
+signed n = offset-form Bare time (λ t. dash (time t)) _ _
 
 zone : (k : ℕ) (z : Zone) → Bare (zoneText k z)
 unfolding form.zoneText every
@@ -79,14 +77,6 @@ zone k z = go (eqb k 1) and (number (z .adjustmentTime) and space (signed (z .of
     go : (b : Bool) → Bare (cond b [] (0x20 ∷ []))
     go true = nothing
     go false = space nothing
-
-dash : Bare (0x2d ∷ [])
-unfolding every
-dash = record { is = refl }
-
-behind : (b : ℕ) → not (dropped b) ≡ true → {v : List ℕ} → Bare v → Bare ((b ∷ []) ++ v)
-unfolding every
-behind b h f = record { is = rw (h, f .is) }
 
 -- ---- the letters of lines: ls, and then those of the lines behind xs
 pub record Lettered (ls xs : List ℕ) : Type 0 where
@@ -207,11 +197,11 @@ module _ {S : Type 0} (str : S → List ℕ) where
 
   user : (o : Option S) → Bare (usernameText str o)
   unfolding form.usernameText form.orDash
-  user none = dash
+  user none = dash nothing
   user (some x) = go (eqb (length (str x)) 0)
     where
       go : (b : Bool) → Bare (cond b (0x2d ∷ []) (clean (str x)))
-      go true = dash
+      go true = dash nothing
       go false = string x
 
   origin-letter : (o : Option (Origin S)) → Lettered (0x6f ∷ []) (originLine str o)

@@ -136,6 +136,12 @@ module _ (P : List ℕ → Type 0) (v : ℕ) where
       go false false false true q r s t = rw (time-minute v (eqb-false v 0 q) (eqb-false _ 0 r) (eqb-false _ 0 s) (eqb-true _ 0 t)) (m (eqb-true _ 0 t))
       go false false false false q r s t = rw (time-plain v (eqb-false v 0 q) (eqb-false _ 0 r) (eqb-false _ 0 s) (eqb-false _ 0 t)) p
 
+-- and of an offset's text, where it holds of a time's text and of one behind a minus sign
+pub offset-form : (P : List ℕ → Type 0) → ((t : ℕ) → P (timeText t)) → ((t : ℕ) → P (0x2d ∷ timeText t)) → (negative : Bool) (t : ℕ) → P (offsetText negative t)
+unfolding offsetText
+offset-form P f g true t = g t
+offset-form P f g false t = f t
+
 -- ---- tests that digits pass, and digits and units
 module _ (p : ℕ → Bool) (h : (b : ℕ) → 0x30 ≤ b → b ≤ 0x39 → p b ≡ true) where
   digits-in-pass : (n v : ℕ) → every p (digitsIn n v) ≡ true
