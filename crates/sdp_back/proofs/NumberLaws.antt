@@ -116,14 +116,16 @@ unit-back v k x u z e l h =
 
 pub time-back : (v : ℕ) → v < 2 ^ 64 → typedTime (timeText v) ≡ Value v
 time-back v h =
-    time-form (λ s. typedTime s ≡ Value v) v (plain-back v h)
-    (λ e. unit-back v 86400 0x64 refl (eqb-false 86400 0 refl) (omega arith) (omega arith) h)
-    (λ e. unit-back v 3600 0x68 refl (eqb-false 3600 0 refl) (omega arith) (omega arith) h)
-    (λ e. unit-back v 60 0x6d refl (eqb-false 60 0 refl) (omega arith) (omega arith) h)
+    time-form (λ s. typedTime s ≡ Value v) v
+    (λ e. plain-back v h)
+    (λ z e. unit-back v 86400 0x64 refl (eqb-false 86400 0 refl) (omega arith) (omega arith) h)
+    (λ z e. unit-back v 3600 0x68 refl (eqb-false 3600 0 refl) (omega arith) (omega arith) h)
+    (λ z e. unit-back v 60 0x6d refl (eqb-false 60 0 refl) (omega arith) (omega arith) h)
+    (λ z. plain-back v h)
 
 pub time-some : (v : ℕ) → 0 < length (timeText v)
 time-some v =
-    time-form (λ s. 0 < length s) v (digits-some v) (λ e. more (v / 86400) 0x64) (λ e. more (v / 3600) 0x68) (λ e. more (v / 60) 0x6d)
+    time-form (λ s. 0 < length s) v (λ e. digits-some v) (λ z e. more (v / 86400) 0x64) (λ z e. more (v / 3600) 0x68) (λ z e. more (v / 60) 0x6d) (λ z. digits-some v)
   where
     more : (n x : ℕ) → 0 < length (digits n ++ (x ∷ []))
     more n x = omega (arith, length-append (digits n) (x ∷ []))

@@ -19,7 +19,7 @@ use Rattle.sdp_judge.specs.Offset
 use Rattle.sdp_judge.specs.Offset.{negated, signedOf, offsetOf}
 use Rattle.sdp_judge.specs.Read.{got, refused}
 use Rattle.sdp_put.specs.Digits.{digits, timeText}
-use Rattle.sdp_put.proofs.DigitLaws.{digits-one, digits-more, time-zero, time-day, time-hour, time-minute, time-plain, offset-minus, offset-plain}
+use Rattle.sdp_put.proofs.DigitLaws.{digits-one, digits-more, time-form, offset-minus, offset-plain}
 use Rattle.sdp_row.specs.Written.{signedText}
 use Rattle.sdp_room.proofs.LengthLaws.{length-digits}
 
@@ -104,18 +104,12 @@ module _ (v n : ℕ) where
       → ((v % 60 ≡ 0 → ⊥) → length (digits v) ≤ n)
       → (v ≡ 0 → length (digits v) ≤ n)
       → length (timeText v) ≤ n
-  forms-short d h m p z = go (eqb v 0) (eqb (v % 86400) 0) (eqb (v % 3600) 0) (eqb (v % 60) 0) refl refl refl refl
-    where
-      go : (a b c e : Bool) → eqb v 0 ≡ a → eqb (v % 86400) 0 ≡ b → eqb (v % 3600) 0 ≡ c → eqb (v % 60) 0 ≡ e → length (timeText v) ≤ n
-      go true b c e q r s t = rw (time-zero v (eqb-true v 0 q)) (z (eqb-true v 0 q))
-      go false true c e q r s t =
-          omega (arith, d (eqb-false v 0 q) (eqb-true _ 0 r), ap length (time-day v (eqb-false v 0 q) (eqb-true _ 0 r)), length-append (digits (v / 86400)) (0x64 ∷ []))
-      go false false true e q r s t =
-          omega (arith, h (eqb-false _ 0 r) (eqb-true _ 0 s), ap length (time-hour v (eqb-false v 0 q) (eqb-false _ 0 r) (eqb-true _ 0 s)), length-append (digits (v / 3600)) (0x68 ∷ []))
-      go false false false true q r s t =
-          omega (arith, m (eqb-false _ 0 s) (eqb-true _ 0 t), ap length (time-minute v (eqb-false v 0 q) (eqb-false _ 0 r) (eqb-false _ 0 s) (eqb-true _ 0 t)), length-append (digits (v / 60)) (0x6d ∷ []))
-      go false false false false q r s t =
-          rw (time-plain v (eqb-false v 0 q) (eqb-false _ 0 r) (eqb-false _ 0 s) (eqb-false _ 0 t)) (p (eqb-false _ 0 t))
+  forms-short d h m p z =
+      time-form (λ s. length s ≤ n) v z
+      (λ a b. omega (arith, d a b, length-append (digits (v / 86400)) (0x64 ∷ [])))
+      (λ a b. omega (arith, h a b, length-append (digits (v / 3600)) (0x68 ∷ [])))
+      (λ a b. omega (arith, m a b, length-append (digits (v / 60)) (0x6d ∷ [])))
+      p
 
 plain-short : (v : ℕ) → length (timeText v) ≤ length (digits v)
 plain-short v =

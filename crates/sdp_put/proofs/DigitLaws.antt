@@ -124,17 +124,22 @@ pub offset-plain : (n : Bool) (t : ℕ) → n ≡ false → offsetText n t ≡ t
 unfolding offsetText
 offset-plain n t e = rw e
 
--- what holds of a time's text, where it holds of plain digits and of digits with a unit of k seconds that divides the time
+-- what holds of a time's text, where it holds of each of its forms: by zero, whole days, hours, minutes, and else
 module _ (P : List ℕ → Type 0) (v : ℕ) where
-  pub time-form : P (digits v) → (v % 86400 ≡ 0 → P (digits (v / 86400) ++ (0x64 ∷ []))) → (v % 3600 ≡ 0 → P (digits (v / 3600) ++ (0x68 ∷ []))) → (v % 60 ≡ 0 → P (digits (v / 60) ++ (0x6d ∷ []))) → P (timeText v)
-  time-form p d h m = go (eqb v 0) (eqb (v % 86400) 0) (eqb (v % 3600) 0) (eqb (v % 60) 0) refl refl refl refl
+  pub time-form : (v ≡ 0 → P (digits v))
+      → ((v ≡ 0 → ⊥) → v % 86400 ≡ 0 → P (digits (v / 86400) ++ (0x64 ∷ [])))
+      → ((v % 86400 ≡ 0 → ⊥) → v % 3600 ≡ 0 → P (digits (v / 3600) ++ (0x68 ∷ [])))
+      → ((v % 3600 ≡ 0 → ⊥) → v % 60 ≡ 0 → P (digits (v / 60) ++ (0x6d ∷ [])))
+      → ((v % 60 ≡ 0 → ⊥) → P (digits v))
+      → P (timeText v)
+  time-form z d h m p = go (eqb v 0) (eqb (v % 86400) 0) (eqb (v % 3600) 0) (eqb (v % 60) 0) refl refl refl refl
     where
       go : (a b c e : Bool) → eqb v 0 ≡ a → eqb (v % 86400) 0 ≡ b → eqb (v % 3600) 0 ≡ c → eqb (v % 60) 0 ≡ e → P (timeText v)
-      go true b c e q r s t = rw (time-zero v (eqb-true v 0 q)) p
-      go false true c e q r s t = rw (time-day v (eqb-false v 0 q) (eqb-true _ 0 r)) (d (eqb-true _ 0 r))
-      go false false true e q r s t = rw (time-hour v (eqb-false v 0 q) (eqb-false _ 0 r) (eqb-true _ 0 s)) (h (eqb-true _ 0 s))
-      go false false false true q r s t = rw (time-minute v (eqb-false v 0 q) (eqb-false _ 0 r) (eqb-false _ 0 s) (eqb-true _ 0 t)) (m (eqb-true _ 0 t))
-      go false false false false q r s t = rw (time-plain v (eqb-false v 0 q) (eqb-false _ 0 r) (eqb-false _ 0 s) (eqb-false _ 0 t)) p
+      go true b c e q r s t = rw (time-zero v (eqb-true v 0 q)) (z (eqb-true v 0 q))
+      go false true c e q r s t = rw (time-day v (eqb-false v 0 q) (eqb-true _ 0 r)) (d (eqb-false v 0 q) (eqb-true _ 0 r))
+      go false false true e q r s t = rw (time-hour v (eqb-false v 0 q) (eqb-false _ 0 r) (eqb-true _ 0 s)) (h (eqb-false _ 0 r) (eqb-true _ 0 s))
+      go false false false true q r s t = rw (time-minute v (eqb-false v 0 q) (eqb-false _ 0 r) (eqb-false _ 0 s) (eqb-true _ 0 t)) (m (eqb-false _ 0 s) (eqb-true _ 0 t))
+      go false false false false q r s t = rw (time-plain v (eqb-false v 0 q) (eqb-false _ 0 r) (eqb-false _ 0 s) (eqb-false _ 0 t)) (p (eqb-false _ 0 t))
 
 -- and of an offset's text, where it holds of a time's text and of one behind a minus sign
 pub offset-form : (P : List ℕ → Type 0) → ((t : ℕ) → P (timeText t)) → ((t : ℕ) → P (0x2d ∷ timeText t)) → (negative : Bool) (t : ℕ) → P (offsetText negative t)
@@ -160,7 +165,7 @@ module _ (p : ℕ → Bool) (h : (b : ℕ) → 0x30 ≤ b → b ≤ 0x39 → p b
 pub time-pass : (p : ℕ → Bool) → ((b : ℕ) → 0x30 ≤ b → b ≤ 0x39 → p b ≡ true) → p 0x64 ≡ true → p 0x68 ≡ true → p 0x6d ≡ true → (v : ℕ) → every p (timeText v) ≡ true
 unfolding every
 time-pass p h d k m v =
-    time-form (λ s. every p s ≡ true) v (digits-pass p h v) (λ e. more (v / 86400) 0x64 d) (λ e. more (v / 3600) 0x68 k) (λ e. more (v / 60) 0x6d m)
+    time-form (λ s. every p s ≡ true) v (λ e. digits-pass p h v) (λ z e. more (v / 86400) 0x64 d) (λ z e. more (v / 3600) 0x68 k) (λ z e. more (v / 60) 0x6d m) (λ z. digits-pass p h v)
   where
     more : (n x : ℕ) → p x ≡ true → every p (digits n ++ (x ∷ [])) ≡ true
     more n x q = every-append p (digits n) (x ∷ []) (digits-pass p h n) (rw q)
