@@ -3,27 +3,16 @@ ghost use Prim.Native.Nat.{_≤_};
 ghost use mathlib.Core.Path.{_≡_};
 ghost use lib.ListN.{length};
 ghost use lib.Dec.{leb};
-ghost use Rattle.sdp_cells.specs.Bytes.{le, num};
+ghost use Rattle.sdp_cells.specs.Bytes.{le};
 ghost use Rattle.sdp_bytes.specs.Ranges.{_to_, within};
 ghost use Rattle.sdp_bytes.specs.Runs.{run, runLen};
-use sdp_cells::get2;
+use sdp_cells::get8;
 
 // Whether b is one of lo..=hi.
 pub(crate) fn inside(b: u8, lo: u8, hi: u8) -> bool
     ensures { λ r. ⌜ r ≡ within (lo to hi) b ⌝ }
 {
     (lo <= b) & (b <= hi)
-}
-
-// The first eight bytes as one number, the first the lowest.
-fn word8(s: &[u8]) -> usize
-    requires { ⌜ 8 ≤ length (now s) ⌝ }
-    ensures { λ r. ⌜ r ≡ num 8 (now (s .entry)) 0 ⌝ }
-{
-    get2(s, 0)
-        + get2(s, 2) * 0x1_0000
-        + get2(s, 4) * 0x1_0000_0000
-        + get2(s, 6) * 0x1_0000_0000_0000
 }
 
 // Whether each of the eight bytes of x is lo or more: the sum sets the top bit of a byte whose low seven bits are lo or more.
@@ -45,7 +34,7 @@ pub fn eight(s: &[u8], lo: u8, hi: u8) -> bool
     if s.len() < 8 {
         return false;
     }
-    let x = word8(s);
+    let x = get8(s, 0);
     all_from(x, lo as usize) & all_from(0xffff_ffff_ffff_ffff - x, 255 - hi as usize)
 }
 

@@ -80,11 +80,23 @@ unfolding num
 num-below a byte zero p = omega arith
 num-below a byte (suc k) p = omega (arith, byte p, num-below a byte k (p + 1), pow-suc 256 k)
 
+-- ---- eight bytes, two at a time
+num-cong : (k : ℕ) (a : List ℕ) {i j : ℕ} → i ≡ j → num k a i ≡ num k a j
+num-cong k a e = ap (num k a) e
+
+-- two bytes, and k behind them
+num-two : (k : ℕ) (a : List ℕ) (i : ℕ) → num (suc (suc k)) a i ≡ num 2 a i + 65536 * num k a (i + 2)
+unfolding num
+num-two k a i = omega (arith, num-cong k a (add-assoc i 1 1))
+
+pub num-eight : (a : List ℕ) (i : ℕ) → num 8 a i ≡ num 2 a i + 65536 * (num 2 a (i + 2) + 65536 * (num 2 a (i + 4) + 65536 * num 2 a (i + 6)))
+num-eight a i =
+    omega (arith, num-two 6 a i, num-two 4 a (i + 2), num-two 2 a (i + 4), num-cong 4 a (add-assoc i 2 2), num-cong 2 a (add-assoc i 4 2))
+
 le-two : (k v : ℕ) → le (suc (suc k)) v ≡ le 2 v ++ le k (v / 65536)
 unfolding le
 le-two k v = ap (λ (x : ℕ). v % 256 ∷ v / 256 % 256 ∷ le k x) (div-div-eq-div-mul v 256 256)
 
--- eight bytes, two at a time
 pub le-eight : (v : ℕ) → le 8 v ≡ le 2 v ++ (le 2 (v / 65536) ++ (le 2 (v / 4294967296) ++ le 2 (v / 281474976710656)))
 le-eight v =
     le-two 6 v

@@ -29,6 +29,17 @@ pub fn get2(a: &[u8], at: usize) -> usize
     (a[at] as usize) + 256 * (a[at + 1] as usize)
 }
 
+// The number in the eight bytes at a place.
+pub fn get8(a: &[u8], at: usize) -> usize
+    requires { ⌜ at + 8 ≤ length (now a) ⌝ }
+    ensures { λ r. ⌜ r ≡ num 8 (now (a .entry)) at ⌝ }
+{
+    get2(a, at)
+        + get2(a, at + 2) * 0x1_0000
+        + get2(a, at + 4) * 0x1_0000_0000
+        + get2(a, at + 6) * 0x1_0000_0000_0000
+}
+
 // Numbers of two bytes each, one after the other.
 pub fn put_words(a: &mut [u8], at: usize, ws: &[usize])
     requires { ⌜ at + length (now ws) * 2 ≤ length (now a) ⌝ }

@@ -3,6 +3,7 @@ ghost use mathlib.Core.Path.{_≡_};
 ghost use Prim.Native.Nat.{_<_};
 ghost use Rattle.sdp_cells.specs.Bytes.{num};
 use sdp_cells::get2;
+use sdp_cells::get8;
 
 // A number of two bytes.
 pub fn num2(a: &[u8], at: usize) -> usize
@@ -41,9 +42,5 @@ pub fn num8(a: &[u8], at: usize) -> u64
     if a.len() - at < 8 {
         return num8_by_two(a, at);
     }
-    let p = get2(a, at) as u64;
-    let q = get2(a, at + 2) as u64;
-    let r = get2(a, at + 4) as u64;
-    let s = get2(a, at + 6) as u64;
-    p + 65536 * (q + 65536 * (r + 65536 * s))
+    get8(a, at) as u64
 }

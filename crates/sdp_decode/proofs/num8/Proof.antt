@@ -1,18 +1,12 @@
 -- `sdp_decode::num8` meets its contract. Assumes nothing.
-use Rattle.sdp_decode.proofs.CellLaws.{num-eight, num-past}
+use Rattle.sdp_decode.proofs.CellLaws.{num-past}
 use mathlib.Core.Path.{sym}
-use denote.Ref.{now}
-use native.Mathlib.Omega.{arith}
 use borrow.Author.Needs.{needs}
 use Rattle.sdp_decode.proofs.num8.Statement.{statement}
 use Rattle.sdp_decode.proofs.num8.Tie as tie
 
 returns : tie.Need-returns
 returns c = sym (num-past 8 _ _ (c .if1 .taken))
-
-returns-3 : tie.Need-returns-3
-returns-3 c = let b = c .before .before .before .before .before .before .before in
-    omega (arith, num-eight (now (b .args .a)) (b .args .at))
 
 pub num8-spec : {M : Type 1} → statement M
 num8-spec =
@@ -23,16 +17,4 @@ num8-spec =
     (λ c κs. search needs)
     (λ c. search needs)
     (λ c κs. search needs)
-    (λ c. search needs)
-    (λ c κs. search needs)
-    (λ c. search needs)
-    (λ c κs. search needs)
-    (λ c. search needs)
-    (λ c κs. search needs)
-    (λ c. search needs)
-    (λ c. search needs)
-    (λ c. search needs)
-    (λ c. search needs)
-    (λ c. search needs)
-    (λ c. search needs)
-    returns-3)
+    (λ c. search needs))

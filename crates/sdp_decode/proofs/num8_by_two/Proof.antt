@@ -1,5 +1,6 @@
 -- `sdp_decode::num8_by_two` meets its contract. Assumes nothing.
-use Rattle.sdp_decode.proofs.CellLaws.{num-eight, num-past}
+use Rattle.sdp_cells.proofs.ByteLaws.{num-eight}
+use Rattle.sdp_decode.proofs.CellLaws.{num-past}
 use mathlib.Core.Path.{sym}
 use denote.Ref.{now}
 use native.Mathlib.Omega.{arith}

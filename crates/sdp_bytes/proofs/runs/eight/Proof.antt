@@ -15,7 +15,7 @@ returns-2 : tie.Need-returns-2
 returns-2 c =
     let k = c .before .before .before in
     ap₂ _&&_ (c .before .all-from .ensures) (c .all-from2 .ensures)
-    ∙ eight-is _ (λ i. omega (arith, k .before .shared-slice-known .given i)) _ _ (omega (arith, k .before .before .fits .hi)) (k .if1 .left) _ (c .before .before .word8 .ensures)
+    ∙ eight-is _ (λ i. omega (arith, k .before .shared-slice-known .given i)) _ _ (omega (arith, k .before .before .fits .hi)) (k .if1 .left) _ (c .before .before .get8 .ensures)
 
 pub eight-spec : {M : Type 1} → statement M
 eight-spec =
