@@ -41,7 +41,8 @@ use Rattle.sdp_decode.specs.Rows as rows
 use Rattle.sdp_decode.specs.Rows.{each}
 use Rattle.sdp_row.specs.Written
 use Rattle.sdp_row.specs.Written.{line, optional, stringLine, usernameText, originLine, connectionLine, bandwidthLine, attributeLine, mediaLine, timeValue, signedText, zoneText, zonesLine}
-use Rattle.sdp_room.proofs.LengthLaws.{length-clean, length-line}
+use Rattle.sdp_put.proofs.StringLaws.{length-clean}
+use Rattle.sdp_room.proofs.LengthLaws.{length-line}
 use Rattle.sdp_bound.specs.Kept.{id}
 use Rattle.sdp_bound.proofs.NumberLaws.{number-short, time-short, offset-short}
 use Rattle.sdp_room.proofs.SumLaws

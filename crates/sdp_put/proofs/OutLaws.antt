@@ -1,13 +1,13 @@
 -- Laws of a bounded output: none of them asks for room. Assumes nothing.
 use mathlib.Core.Path.{_≡_, refl, sym, ap, ap₂, _∙_}
 use mathlib.Core.Bool.{Bool, true, false}
-use mathlib.Core.List.{List, [], _∷_, _++_, append-nil}
+use mathlib.Core.List.{List, [], _∷_, _++_, append-nil, append-assoc}
 use Prim.Native.Nat.{ℕ, suc, _+_, _-_, _≤_, _<_, _^_}
 use native.Mathlib.Nat.{add-suc, suc-add, add-zero}
 use native.Mathlib.Numerals.{add-one, add-two, add-three, add-four, add-five, add-six, add-seven}
 use native.Mathlib.Omega.{arith}
-use lib.ListN.{length, drop, set, length-append, length-set}
-use lib.Seq.{sets, sets-eq, length-sets, set-out}
+use lib.ListN.{length, take, drop, set, length-append, length-set, length-drop, take-append-drop}
+use lib.Seq.{sets, sets-eq, length-sets, length-take-le, set-out, take-add, take-take, take-append-le, take-append-add, drop-append-add, drop-drop}
 use lib.Dec.{ltb}
 use borrow.Author.Tests.{ltb-true, ltb-false}
 use Rattle.sdp_put.specs.Out.{put, placed, Put}
@@ -39,6 +39,44 @@ unfolding put
 put-room bs o h =
     sets-eq bs o 0 (omega arith)
     ∙ ap (λ (k : ℕ). bs ++ drop k o) (let e : 0 + length bs ≡ length bs = omega arith in e)
+
+-- the bytes of s are put one part after the other
+module _ (o s : List ℕ) (at : ℕ) where
+  pub put-more : (i : ℕ) → i + 8 ≤ length s → put (put o at (take i s)) (at + i) (take 8 (drop i s)) ≡ put o at (take (i + 8) s)
+  put-more i h =
+      ap (λ (k : ℕ). put (put o at (take i s)) k (take 8 (drop i s))) (let z : at + i ≡ at + length (take i s) = omega (arith, length-take-le i s (omega arith)) in z)
+      ∙ put-next o (take i s) (take 8 (drop i s)) at
+      ∙ ap (put o at) (sym (take-add i 8 s))
+
+  -- with room, the last part may lie over what stands there
+  pub put-over : (i k : ℕ) → k ≤ i → i ≤ length s → at + length s ≤ length o → put (put o at (take i s)) (at + k) (drop k s) ≡ put o at s
+  unfolding put
+  put-over i k l h room =
+      let m = length-take-le i s h in
+      let n = length-append (take at o) (take i s) in
+      let a = length-take-le at o (omega arith) in
+      let first = sets-eq (take i s) o at (omega arith) in
+      sets-eq (drop k s) (sets o at (take i s)) (at + k) (omega (arith, length-drop k s, length-sets o at (take i s)))
+      ∙ ap₂ (λ (x y : List ℕ). x ++ drop k s ++ y) (begins first a m n) (rests first (omega arith))
+      ∙ ap (λ (x : List ℕ). x ++ drop (at + length s) o) (append-assoc (take at o) (take k s) (drop k s) ∙ ap (λ (x : List ℕ). take at o ++ x) (take-append-drop k s))
+      ∙ sym (sets-eq s o at room)
+    where
+      begins : sets o at (take i s) ≡ take at o ++ take i s ++ drop (at + length (take i s)) o → length (take at o) ≡ at → length (take i s) ≡ i
+          → length (take at o ++ take i s) ≡ length (take at o) + length (take i s) → take (at + k) (sets o at (take i s)) ≡ take at o ++ take k s
+      begins first a m n =
+          ap (take (at + k)) first
+          ∙ take-append-le (at + k) (take at o ++ take i s) (drop (at + length (take i s)) o) (omega arith)
+          ∙ ap (λ (x : ℕ). take (x + k) (take at o ++ take i s)) (sym a)
+          ∙ take-append-add (take at o) (take i s) k
+          ∙ ap (λ (x : List ℕ). take at o ++ x) (take-take k i s l)
+
+      rests : sets o at (take i s) ≡ take at o ++ take i s ++ drop (at + length (take i s)) o → length (take at o ++ take i s) ≡ at + length (take i s)
+          → drop (at + k + length (drop k s)) (sets o at (take i s)) ≡ drop (at + length s) o
+      rests first n =
+          ap₂ drop (let z : at + k + length (drop k s) ≡ length (take at o ++ take i s) + (length s - i) = omega (arith, length-drop k s, length-take-le i s h) in z) first
+          ∙ drop-append-add (take at o ++ take i s) (drop (at + length (take i s)) o) (length s - i)
+          ∙ drop-drop (length s - i) (at + length (take i s)) o
+          ∙ ap (λ (x : ℕ). drop x o) (let z : at + length (take i s) + (length s - i) ≡ at + length s = omega (arith, length-take-le i s h) in z)
 
 -- a slice never reaches the machine's last place
 put-placed : (a ys : List ℕ) (k : ℕ) → length a < 2 ^ 64 → put a (placed k) ys ≡ put a k ys

@@ -1,18 +1,24 @@
 -- Laws of strings. Assumes nothing.
 use mathlib.Core.Path.{_≡_, refl, sym, ap, ap₂, _∙_}
-use mathlib.Core.Bool.{Bool, true, false, false≢true}
+use mathlib.Core.Bool.{Bool, true, false, false≢true, cond, not, _&&_, and-eq-true-iff}
 use mathlib.Core.List.{List, [], _∷_, _++_}
-use Prim.Native.Nat.{ℕ, zero, suc, _+_, _-_, _≤_, _<_}
+use Prim.Native.Nat.{ℕ, zero, suc, _+_, _*_, _-_, _/_, _%_, _≤_, _<_}
 use native.Mathlib.Numerals.{add-one}
 use native.Mathlib.Omega.{arith}
-use lib.ListN.{length, take, drop, getD, set, length-drop, length-set, drop-of-length-le}
-use lib.Seq.{drop-cons, drop-drop, take-all}
+use lib.ListN.{length, take, drop, getD, set, length-drop, length-set, length-append, drop-of-length-le, take-append-drop}
+use lib.Seq.{drop-cons, take-add, take-all, take-take}
 use lib.Dec.{ltb, leb}
 use borrow.Author.Tests.{leb-true, ltb-true, ltb-false, ne-eqb}
 use Rattle.sdp_bytes.specs.Ranges.{_to_, within}
-use Rattle.sdp_bytes.specs.Runs.{run}
-use Rattle.sdp_bytes.proofs.ScanLaws.{and-left, and-right, rest-from}
-use Rattle.sdp_put.proofs.OutLaws.{Cut}
+use Rattle.sdp_bytes.specs.Runs as runs
+use Rattle.sdp_bytes.specs.Runs.{run, runLen}
+use Rattle.sdp_bytes.proofs.ScanLaws.{and-left, and-right}
+use Rattle.sdp_cells.specs.Bytes as cells
+use Rattle.sdp_cells.specs.Bytes.{le, num}
+use Rattle.sdp_put.proofs.OutLaws.{Cut, put-more, put-over}
+use Rattle.sdp_put.proofs.ByteLaws as bytes
+use Rattle.sdp_put.proofs.ByteLaws.{every, every-append, every-take, every-so, clean-bare}
+use Rattle.sdp_put.specs.Out.{put}
 use Rattle.sdp_put.specs.Strings.{part, dropped, kept, clean}
 
 -- the bytes from i to e
@@ -68,46 +74,83 @@ pub kept-is : (b : ℕ) → dropped b ≡ false → kept b ≡ b ∷ []
 unfolding kept
 kept-is b e = rw e
 
--- ---- eight bytes at once
-quiet-kept : (b : ℕ) → 14 ≤ b → dropped b ≡ false
-quiet-kept b h = rw (ne-eqb b 0 (λ e. omega arith), ne-eqb b 13 (λ e. omega arith), ne-eqb b 10 (λ e. omega arith))
+length-kept : (b : ℕ) → length (kept b) ≤ 1
+unfolding kept
+length-kept b = go (dropped b)
+  where
+    go : (d : Bool) → length (cond d [] (b ∷ [])) ≤ 1
+    go true = omega arith
+    go false = omega arith
 
--- the bytes above CR, the largest byte that is left out
+pub length-clean : (s : List ℕ) → length (clean s) ≤ length s
+unfolding clean
+length-clean [] = omega arith
+length-clean (b ∷ s) = omega (arith, length-append (kept b) (clean s), length-kept b, length-clean s)
+
+-- ---- bytes above CR, the largest byte that is left out
 abbrev pub quiet : ℕ → Bool
 quiet = within (14 to 255)
 
-run-clean : (k : ℕ) (s : List ℕ) → run quiet k s ≡ true → (k ≤ length s) × (clean s ≡ take k s ++ clean (drop k s))
-unfolding run clean
-run-clean zero s e = (omega arith, refl)
-run-clean (suc k) [] e = absurd (false≢true e)
-run-clean (suc k) (b ∷ s) e =
-    let f = run-clean k s (and-right (quiet b) _ e) in
-    (omega arith, ap₂ (λ (x y : List ℕ). x ++ y) (kept-is b (quiet-kept b (leb-true 14 b (and-left (leb 14 b) _ (and-left (quiet b) _ e))))) (f .1))
+quiet-kept : (b : ℕ) → quiet b ≡ true → not (dropped b) ≡ true
+quiet-kept b e =
+    let h = leb-true 14 b (and-left (leb 14 b) _ e) in
+    rw (ne-eqb b 0 (λ e. omega arith), ne-eqb b 13 (λ e. omega arith), ne-eqb b 10 (λ e. omega arith))
 
--- eight bytes of s from i on are there, and all of them are kept
-abbrev pub Eight : List ℕ → ℕ → Type 0
-Eight s i = (i + 8 ≤ length s) × (8 ≤ length (upto s (length s) i)) × Cut (clean (drop i s)) (take 8 (upto s (length s) i)) (clean (drop (i + 8) s))
+pub quiet-clean : (s : List ℕ) → every quiet s ≡ true → clean s ≡ s
+quiet-clean s e = clean-bare s (every-so quiet (λ b. not (dropped b)) quiet-kept s e)
 
-pub quiet-eight : (s : List ℕ) (i : ℕ) → run quiet 8 (upto s (length s) i) ≡ true → Eight s i
-quiet-eight s i e =
-    let f = run-clean 8 (drop i s) (rw (rest-from s i) at e) in
-    let d = length-drop i s in
-    (omega arith, rw (rest-from s i) (f .0), record { is = rw (rest-from s i, ← drop-drop 8 i s) (f .1) })
+-- ---- by eights, of which the last may lie over the one before it
+module _ (p : ℕ → Bool) where
+  run-every : (k : ℕ) (s : List ℕ) → run p k s ≡ true → every p (take k s) ≡ true
+  unfolding run bytes.every
+  run-every zero s e = refl
+  run-every (suc k) [] e = absurd (false≢true e)
+  run-every (suc k) (b ∷ s) e = and-eq-true-iff (p b) _ .1 (and-left (p b) _ e, run-every k s (and-right (p b) _ e))
 
-abbrev firsts : ℕ → List ℕ → ℕ → List ℕ
-firsts zero s i = []
-firsts (suc k) s i = getD s i 0 ∷ firsts k s (i + 1)
+  pub every-eight : (s : List ℕ) (i : ℕ) → every p (take i s) ≡ true → run p 8 (drop i s) ≡ true → every p (take (i + 8) s) ≡ true
+  every-eight s i h e = rw (take-add i 8 s) (every-append p (take i s) (take 8 (drop i s)) h (run-every 8 (drop i s) e))
 
-take-firsts : (k : ℕ) (s : List ℕ) (i : ℕ) → i + k ≤ length s → take k (drop i s) ≡ firsts k s i
-take-firsts zero s i h = refl
-take-firsts (suc k) s i h =
+  pub every-last : (s : List ℕ) (i k : ℕ) → k + 8 ≡ length s → k ≤ i → every p (take i s) ≡ true → run p 8 (drop k s) ≡ true → every p s ≡ true
+  every-last s i k n l h e =
+      let first : every p (take k s) ≡ true = rw (take-take k i s l) at (every-take p k (take i s) h) in
+      let last : every p (drop k s) ≡ true = rw (take-all 8 (drop k s) (omega (arith, length-drop k s))) at (run-every 8 (drop k s) e) in
+      rw (take-append-drop k s) at (every-append p (take k s) (drop k s) first last)
+
+  pub every-run : (s : List ℕ) → runLen p s ≡ length s → every p s ≡ true
+  unfolding runs.runLen bytes.every
+  every-run [] e = refl
+  every-run (b ∷ s) e = go (p b) refl (every-run s) e
+    where
+      go : (t : Bool) → p b ≡ t → (runLen p s ≡ length s → every p s ≡ true) → cond t (suc (runLen p s)) 0 ≡ suc (length s) → (t && every p s) ≡ true
+      go true e ih n = ih (omega arith)
+      go false e ih n = absurd (omega arith)
+
+-- ---- the bytes of a number are those that it was read from
+pub le-num : (s : List ℕ) → ((i : ℕ) → getD s i 0 < 256) → (k i : ℕ) → i + k ≤ length s → le k (num k s i) ≡ take k (drop i s)
+unfolding cells.le cells.num
+le-num s byte zero i h = refl
+le-num s byte (suc k) i h =
     let l : i < length s = omega arith in
-    let e = take-firsts k s (i + 1) (omega arith) in
-    rw (drop-cons s i 0, ← e, add-one)
+    let e : (getD s i 0 + 256 * num k s (i + 1)) % 256 ≡ getD s i 0 = omega (arith, byte i) in
+    let f : (getD s i 0 + 256 * num k s (i + 1)) / 256 ≡ num k s (i + 1) = omega (arith, byte i) in
+    rw (e, f, le-num s byte k (i + 1) (omega arith), drop-cons s i 0, add-one)
 
-pub take-eight : (s : List ℕ) → 8 ≤ length s
-    → getD s 0 0 ∷ getD s 1 0 ∷ getD s 2 0 ∷ getD s 3 0 ∷ getD s 4 0 ∷ getD s 5 0 ∷ getD s 6 0 ∷ getD s 7 0 ∷ [] ≡ take 8 s
-take-eight s h = sym (take-firsts 8 s 0 h)
+-- ---- s is stored by eights: o₁ has the first i bytes of it, and then eight from k on were stored
+module _ (o o₁ o₂ s : List ℕ) (byte : (i : ℕ) → getD s i 0 < 256) (at i k x : ℕ) (e : x ≡ num 8 s k) (before : o₁ ≡ put o at (take i s)) (after : o₂ ≡ put o₁ (at + k) (le 8 x)) where
+  stored : k + 8 ≤ length s → o₂ ≡ put (put o at (take i s)) (at + k) (take 8 (drop k s))
+  stored h = after ∙ ap₂ (λ (l b : List ℕ). put l (at + k) b) before (ap (le 8) e ∙ le-num s byte 8 k h)
+
+  pub stored-more : k ≡ i → k + 8 ≤ length s → o₂ ≡ put o at (take (k + 8) s)
+  stored-more n h =
+      stored h
+      ∙ ap (λ (j : ℕ). put (put o at (take j s)) (at + k) (take 8 (drop k s))) (sym n)
+      ∙ put-more o s at k h
+
+  pub stored-last : k + 8 ≡ length s → k ≤ i → i ≤ length s → at + length s ≤ length o → o₂ ≡ put o at s
+  stored-last n l h room =
+      stored (omega arith)
+      ∙ ap (put (put o at (take i s)) (at + k)) (take-all 8 (drop k s) (omega (arith, length-drop k s)))
+      ∙ put-over o s at i k l h room
 
 -- ---- stores one after the other
 -- o after the bytes of s up to k were stored from at on

@@ -1,13 +1,17 @@
 // Writers of one piece each: bytes go into out from at on, what finds no room is only counted, and the next place is returned.
 // So a call with at = out.len() changes nothing and counts.
 ghost use mathlib.Core.Path.{_≡_};
+ghost use mathlib.Core.Bool.{true};
 ghost use mathlib.Core.List.{List, [], _∷_, _++_};
 ghost use Prim.Native.Nat.{_+_, _/_, _%_, _≤_, _<_};
-ghost use lib.ListN.{length, take};
-ghost use Rattle.sdp_put.specs.Out.{placed, Put};
+ghost use lib.ListN.{length};
+ghost use Rattle.sdp_cells.specs.Bytes.{le};
+ghost use Rattle.sdp_put.specs.Out.{placed, put, Put};
 ghost use Rattle.sdp_put.specs.Digits.{digits, fourDigits, timeText, offsetText};
 ghost use Rattle.sdp_put.specs.Strings.{part, dropped, kept, clean};
 use sdp_bytes::runs::eight;
+use sdp_bytes::runs::run_len;
+use sdp_cells::get8;
 
 // The place n behind at; the last place stays, so that no sum wraps.
 fn past(at: usize, n: usize) -> usize
@@ -78,55 +82,111 @@ fn put_rest(out: &mut [u8], at: usize, s: &[u8]) -> usize
     p
 }
 
-// Eight bytes where there is room. All are read before one is stored, so that both are one step of the machine.
-fn store8(out: &mut [u8], at: usize, s: &[u8]) -> usize
-    requires { ⌜ (at + 8 ≤ length (now out)) × (8 ≤ length (now s)) ⌝ }
-    ensures { λ r. ⌜ Put (now (out .entry)) at (take 8 (now (s .entry))) (now (out .exit)) r ⌝ }
+// The eight bytes of x, the lowest first, where there is room: one store of the machine.
+fn store8(out: &mut [u8], at: usize, x: usize)
+    requires { ⌜ at + 8 ≤ length (now out) ⌝ }
+    ensures { λ _. ⌜ now (out .exit) ≡ put (now (out .entry)) at (le 8 x) ⌝ }
 {
-    let a = s[0];
-    let b = s[1];
-    let c = s[2];
-    let d = s[3];
-    let e = s[4];
-    let f = s[5];
-    let g = s[6];
-    let h = s[7];
-    out[at] = a;
-    out[at + 1] = b;
-    out[at + 2] = c;
-    out[at + 3] = d;
-    out[at + 4] = e;
-    out[at + 5] = f;
-    out[at + 6] = g;
-    out[at + 7] = h;
-    at + 8
+    let b = x / 256;
+    let c = b / 256;
+    let d = c / 256;
+    let e = d / 256;
+    let f = e / 256;
+    let g = f / 256;
+    let h = g / 256;
+    out[at] = (x % 256) as u8;
+    out[at + 1] = (b % 256) as u8;
+    out[at + 2] = (c % 256) as u8;
+    out[at + 3] = (d % 256) as u8;
+    out[at + 4] = (e % 256) as u8;
+    out[at + 5] = (f % 256) as u8;
+    out[at + 6] = (g % 256) as u8;
+    out[at + 7] = (h % 256) as u8;
 }
 
-// The first eight bytes of s.
-fn put8(out: &mut [u8], at: usize, s: &[u8]) -> usize
-    requires { ⌜ 8 ≤ length (now s) ⌝ }
-    ensures { λ r. ⌜ Put (now (out .entry)) at (take 8 (now (s .entry))) (now (out .exit)) r ⌝ }
+// All of s where there is room, byte by byte.
+fn copy_short(out: &mut [u8], at: usize, s: &[u8]) -> usize
+    requires { ⌜ at + length (now s) ≤ length (now out) ⌝ }
+    ensures { λ r. ⌜ Put (now (out .entry)) at (now (s .entry)) (now (out .exit)) r ⌝ }
 {
-    if out.len() <= at {
-        return past(at, 8);
+    let mut i: usize = 0;
+    while i < s.len() {
+        out[at + i] = s[i];
+        i += 1;
     }
-    if out.len() - at < 8 {
-        return put_all(out, at, &s[0..8]);
-    }
-    store8(out, at, s)
+    at + i
 }
 
-// The bytes of s that are not left out: by eights as long as all eight are above CR, the largest that is left out.
-fn put_clean(out: &mut [u8], at: usize, s: &[u8]) -> usize
-    ensures { λ r. ⌜ Put (now (out .entry)) at (clean (now (s .entry))) (now (out .exit)) r ⌝ }
+// All of s where there is room, by eights: the last of them ends where s ends, and may lie over the one before it.
+fn copy(out: &mut [u8], at: usize, s: &[u8]) -> usize
+    requires { ⌜ at + length (now s) ≤ length (now out) ⌝ }
+    ensures { λ r. ⌜ Put (now (out .entry)) at (now (s .entry)) (now (out .exit)) r ⌝ }
+{
+    let n = s.len();
+    if n < 8 {
+        return copy_short(out, at, s);
+    }
+    let mut i: usize = 0;
+    while i + 8 < n {
+        store8(out, at + i, get8(s, i));
+        i += 8;
+    }
+    store8(out, at + (n - 8), get8(s, n - 8));
+    at + n
+}
+
+// As much of s as there is room for, byte by byte.
+fn put_some(out: &mut [u8], at: usize, s: &[u8]) -> usize
+    ensures { λ r. ⌜ Put (now (out .entry)) at (now (s .entry)) (now (out .exit)) r ⌝ }
 {
     let mut i: usize = 0;
     let mut p = at;
-    while eight(&s[i..], 14, 255) {
-        p = put8(out, p, &s[i..]);
+    while i < s.len() {
+        p = put_byte(out, p, s[i]);
+        i += 1;
+    }
+    p
+}
+
+// A whole slice: room is looked for once.
+pub fn put_all(out: &mut [u8], at: usize, s: &[u8]) -> usize
+    ensures { λ r. ⌜ Put (now (out .entry)) at (now (s .entry)) (now (out .exit)) r ⌝ }
+{
+    if out.len() <= at {
+        return past(at, s.len());
+    }
+    if out.len() - at < s.len() {
+        return put_some(out, at, s);
+    }
+    copy(out, at, s)
+}
+
+// Whether all bytes of s are above CR, the largest that is left out: by eights, as copy goes.
+fn quiet(s: &[u8]) -> bool
+    ensures { λ r. ⌜ (r ≡ true → clean (now (s .entry)) ≡ now (s .entry)) ⌝ }
+{
+    let n = s.len();
+    if n < 8 {
+        return run_len(s, 14, 255) == n;
+    }
+    let mut i: usize = 0;
+    while i + 8 < n {
+        if !eight(&s[i..], 14, 255) {
+            return false;
+        }
         i += 8;
     }
-    put_rest(out, p, &s[i..])
+    eight(&s[n - 8..], 14, 255)
+}
+
+// The bytes of s that are not left out.
+fn put_clean(out: &mut [u8], at: usize, s: &[u8]) -> usize
+    ensures { λ r. ⌜ Put (now (out .entry)) at (clean (now (s .entry))) (now (out .exit)) r ⌝ }
+{
+    if quiet(s) {
+        return put_all(out, at, s);
+    }
+    put_rest(out, at, s)
 }
 
 pub fn put_text(out: &mut [u8], at: usize, text: &[u8], place: usize, len: usize) -> usize
@@ -137,6 +197,43 @@ pub fn put_text(out: &mut [u8], at: usize, text: &[u8], place: usize, len: usize
         return at;
     }
     put_clean(out, at, &text[place..end])
+}
+
+// How many bytes put_kept puts.
+fn one_len(b: u8) -> usize
+    ensures { λ r. ⌜ (r ≡ length (kept b)) × (r ≤ 1) ⌝ }
+{
+    if dropped(b) {
+        return 0;
+    }
+    1
+}
+
+// How many bytes of s are not left out.
+fn kept_len(s: &[u8]) -> usize
+    ensures { λ r. ⌜ r ≡ length (clean (now (s .entry))) ⌝ }
+{
+    let mut i: usize = 0;
+    let mut n: usize = 0;
+    while i < s.len() {
+        n += one_len(s[i]);
+        i += 1;
+    }
+    n
+}
+
+// How many bytes put_text puts.
+pub fn text_len(text: &[u8], place: usize, len: usize) -> usize
+    ensures { λ r. ⌜ (r ≡ length (clean (part (now (text .entry)) place len))) × (r ≤ len) ⌝ }
+{
+    let end = end_of(text.len(), place, len);
+    if end <= place {
+        return 0;
+    }
+    if quiet(&text[place..end]) {
+        return end - place;
+    }
+    kept_len(&text[place..end])
 }
 
 // The last digit of v.
@@ -241,17 +338,4 @@ pub fn put_offset(out: &mut [u8], at: usize, negative: bool, v: u64) -> usize
         return put_time(out, next, v);
     }
     put_time(out, at, v)
-}
-
-// A whole slice, as a literal.
-pub fn put_all(out: &mut [u8], at: usize, s: &[u8]) -> usize
-    ensures { λ r. ⌜ Put (now (out .entry)) at (now (s .entry)) (now (out .exit)) r ⌝ }
-{
-    let mut i: usize = 0;
-    let mut p = at;
-    while i < s.len() {
-        p = put_byte(out, p, s[i]);
-        i += 1;
-    }
-    p
 }

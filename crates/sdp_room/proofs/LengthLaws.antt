@@ -1,4 +1,4 @@
--- How many bytes strings, numbers and lines take at most. Assumes nothing.
+-- How many bytes numbers and lines take at most. Assumes nothing.
 use mathlib.Core.Path.{_≡_, refl}
 use mathlib.Core.Bool.{Bool, true, false, cond}
 use mathlib.Core.List.{List, [], _∷_, _++_}
@@ -10,25 +10,9 @@ use lib.Dec.{ltb, leb, eqb}
 use borrow.Author.Tests.{ltb-true, ltb-false, leb-true}
 use Rattle.sdp_put.specs.Digits as digit
 use Rattle.sdp_put.specs.Digits.{digits, timeText, offsetText}
-use Rattle.sdp_put.specs.Strings as strings
-use Rattle.sdp_put.specs.Strings.{dropped, kept, clean}
 use Rattle.sdp_put.proofs.DigitLaws.{digits-one, digits-more}
 use Rattle.sdp_row.specs.Written
 use Rattle.sdp_row.specs.Written.{line, signedText}
-
--- ---- bytes that are kept
-length-kept : (b : ℕ) → length (kept b) ≤ 1
-unfolding strings.kept
-length-kept b = go (dropped b)
-  where
-    go : (d : Bool) → length (cond d [] (b ∷ [])) ≤ 1
-    go true = omega arith
-    go false = omega arith
-
-pub length-clean : (s : List ℕ) → length (clean s) ≤ length s
-unfolding strings.clean
-length-clean [] = omega arith
-length-clean (b ∷ s) = omega (arith, length-append (kept b) (clean s), length-kept b, length-clean s)
 
 -- ---- digits
 pub length-digits : (n v : ℕ) → v < 10 ^ suc n → length (digits v) ≤ suc n

@@ -24,7 +24,8 @@ use Rattle.sdp_row.specs.Written.{optional, signedText, zoneText, zonesLine, us
 use Rattle.sdp_valid.specs.declared.Row.the-variants.{Plain, Connection, Bandwidth, Attribute, Media}
 use Rattle.sdp_room.specs.Room.{sumAt, connectionRoom, mediaRoom, rowRoom, originRoom, headRoom, timesRoom, tablesRoom, roomFor}
 use Rattle.sdp_room.proofs.SumLaws.{sum, rows-short}
-use Rattle.sdp_room.proofs.LengthLaws.{length-clean, digits-20, time-21, signed-22, length-line}
+use Rattle.sdp_put.proofs.StringLaws.{length-clean}
+use Rattle.sdp_room.proofs.LengthLaws.{digits-20, time-21, signed-22, length-line}
 use Rattle.sdp_room.proofs.CostLaws.{timeCost, timesCost, repeatCost, offsetCost, connectionCost, bandwidthCost, attributeCost, mediaCost, cost, written-cost}
 
 -- ---- tables: f of each row is no more than g at its place, or than k
