@@ -11,7 +11,7 @@ use Rattle.sdp_put.specs.Digits.{digits}
 use Rattle.sdp_put.specs.Out.{Put}
 use Rattle.sdp_put.proofs.OutLaws.{put-room}
 use Rattle.sdp_read.specs.Run.{readText}
-use Rattle.sdp_write.specs.Write.{Outcome, textOf, writeText}
+use Rattle.sdp_write.specs.Write.{Outcome, textOf, fillText}
 use Rattle.sdp_same.specs.Same.{filled}
 use Rattle.sdp_bound.specs.Bound.{roomOfAny}
 use Rattle.sdp_bound.proofs.RoomLaws.{room}
@@ -51,12 +51,12 @@ module _ (t a o′ : List ℕ) (x : Answer) (ex : x ≡ readText t a .answer) wh
   pub read-refused : (r : ℕ) → (x .number ≡ 0 → ⊥) → Holds (refusedLine x) o′ r → Holds (printed t a) o′ r
   read-refused r n h = said (rw (ne-eqb (readText t a .answer .number) 0 (λ z. n (sym (number-of ex) ∙ z))) (ap refusedLine ex)) h
 
-  pub all-written : x .number ≡ 0 → (a′ : List ℕ) → a′ ≡ readText t a .area → (o : List ℕ) → roomOfAny ≤ length o → (w : Answer) → w ≡ writeText t a′ o .answer
-      → o′ ≡ writeText t a′ o .out → Holds (printed t a) o′ (w .len)
+  pub all-written : x .number ≡ 0 → (a′ : List ℕ) → a′ ≡ readText t a .area → (o : List ℕ) → roomOfAny ≤ length o → (w : Answer) → w ≡ fillText t a′ o .answer
+      → o′ ≡ fillText t a′ o .out → Holds (printed t a) o′ (w .len)
   all-written z a′ ea o big w ew eo =
       let s : List ℕ = textOf t (readText t a .area) in
       let h : readText t a .answer .number ≡ 0 = number-of ex ∙ z in
-      let e : writeText t a′ o ≡ filled s o = ap (λ (b : List ℕ). writeText t b o) ea ∙ room t a h .written o big in
+      let e : fillText t a′ o ≡ filled s o = ap (λ (b : List ℕ). fillText t b o) ea ∙ room t a h .written o big in
       let p : s ≡ printed t a = rw (eq-eqb (readText t a .answer .number) 0 h) in
       said p
       (begins s (drop (length s) o) o′ (w .len)

@@ -12,7 +12,7 @@ use Rattle.sdp_strings.specs.Strings.{spanAt}
 use Rattle.sdp_read.specs.Run.{Verdict, accepted, refused, lines, readText}
 use Rattle.sdp_row.specs.Written.{written}
 use Rattle.sdp_write.specs.Write as writer
-use Rattle.sdp_write.specs.Write.{wrote, fill, writeText}
+use Rattle.sdp_write.specs.Write.{wrote, fill, fillText}
 use Rattle.sdp_write.proofs.WriteLaws.{wrote-fill}
 use Rattle.sdp_bound.specs.Kept.{id}
 use Rattle.sdp_same.specs.Said.{saidMediaConnection, saidBandwidth, saidAttribute, saidMedia, said, bytesAt}
@@ -112,5 +112,5 @@ pub kept-back : (t a : List ℕ) (k : KeptFrom t a) (c o b : List ℕ) → KeptB
 kept-back t a k c o b short full =
     let s : Session Span = withoutKeys (k .session) in
     let w = kept-written t a k short o in
-    let today : writeText t (readText t c .area) o ≡ fill (written (bytesOf t) s) o = ap (λ r. writeText t (r .area) o) (read-is t c short full (accepted s) (k .today)) ∙ write-is t short s (read-sound t s (k .today)) (drop size c) o in
+    let today : fillText t (readText t c .area) o ≡ fill (written (bytesOf t) s) o = ap (λ r. fillText t (r .area) o) (read-is t c short full (accepted s) (k .today)) ∙ write-is t short s (read-sound t s (k .today)) (drop size c) o in
     (w ∙ sym today, says-again t s (k .today) o b _ w)

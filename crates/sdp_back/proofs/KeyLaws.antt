@@ -14,7 +14,7 @@ use Rattle.sdp_decode.specs.Rows as rows
 use Rattle.sdp_decode.specs.Rows.{each}
 use Rattle.sdp_row.specs.Written as form
 use Rattle.sdp_row.specs.Written.{headLines, contactLines, closingLines, mediaLines, written}
-use Rattle.sdp_write.specs.Write.{fill, writeText}
+use Rattle.sdp_write.specs.Write.{fill, fillText}
 use Rattle.sdp_same.specs.Fits.{IfGiven, Each, FitKey, FitMedia}
 use Rattle.sdp_same.specs.Said.{said, saidKey, saidMedia}
 use Rattle.sdp_same.specs.Sound.{FineIn, Sound}
@@ -90,9 +90,9 @@ module _ (t : List ℕ) (s : Session Span) (k : KeysIn t s) (h : Sound (FineIn t
 
 -- ---- so a kept area is written as today's is
 module _ (t a : List ℕ) (k : KeptFrom t a) (short : length t ≤ 32768) where
-  pub kept-written : (o : List ℕ) → writeText t a o ≡ fill (written (bytesOf t) (withoutKeys (k .session))) o
+  pub kept-written : (o : List ℕ) → fillText t a o ≡ fill (written (bytesOf t) (withoutKeys (k .session))) o
   kept-written o =
       let s = k .session in
-      ap (λ (x : List ℕ). writeText t x o) (k .bytes)
+      ap (λ (x : List ℕ). fillText t x o) (k .bytes)
       ∙ write-is t short s (keyed-sound t s (k .keys) (read-sound t (withoutKeys s) (k .today))) (k .behind) o
       ∙ ap (λ (w : List ℕ). fill w o) (sym (written-keyless (bytesOf t) s))

@@ -11,7 +11,7 @@ use Rattle.sdp_area.specs.Session.{Session}
 use Rattle.sdp_area.specs.Area.{size}
 use Rattle.sdp_strings.specs.Strings.{spanAt}
 use Rattle.sdp_read.specs.Run.{accepted, outcomeOf, lines, readText}
-use Rattle.sdp_write.specs.Write.{wrote, writeText}
+use Rattle.sdp_write.specs.Write.{wrote, fillText}
 use Rattle.sdp_same.specs.Said.{said}
 use Rattle.sdp_back.specs.Again.{again}
 
@@ -33,7 +33,7 @@ pub record SaidAgain (t a w b : List ℕ) : Type 0 where
 abbrev pub ReadBack : List ℕ → List ℕ → List ℕ → List ℕ → Type 0
 ReadBack t a o b =
     readText t a .answer .number ≡ 0
-    → writeText t (readText t a .area) o .answer .number ≡ 0
-    → length (wrote (writeText t (readText t a .area) o)) ≤ longestText
+    → fillText t (readText t a .area) o .answer .number ≡ 0
+    → length (wrote (fillText t (readText t a .area) o)) ≤ longestText
     → size ≤ length b
-    → SaidAgain t a (wrote (writeText t (readText t a .area) o)) b
+    → SaidAgain t a (wrote (fillText t (readText t a .area) o)) b

@@ -12,7 +12,7 @@ use Rattle.sdp_area.specs.Session.{Media, Session}
 use Rattle.sdp_area.specs.Area.{encode, size}
 use Rattle.sdp_strings.specs.Strings.{spanAt}
 use Rattle.sdp_read.specs.Run.{accepted, lines, readText}
-use Rattle.sdp_write.specs.Write.{wrote, writeText}
+use Rattle.sdp_write.specs.Write.{wrote, fillText}
 use Rattle.sdp_same.specs.Fits.{IfGiven, Each, FitKey}
 use Rattle.sdp_same.specs.Said.{said}
 use Rattle.sdp_same.specs.Sound.{FineIn}
@@ -74,8 +74,8 @@ abbrev pub KeptBack : (t a : List ℕ) → KeptFrom t a → List ℕ → List �
 KeptBack t a k c o b =
     length t ≤ longestText
     → size ≤ length c
-    → (writeText t a o ≡ writeText t (readText t c .area) o)
-    × (writeText t a o .answer .number ≡ 0
-    → length (wrote (writeText t a o)) ≤ longestText
+    → (fillText t a o ≡ fillText t (readText t c .area) o)
+    × (fillText t a o .answer .number ≡ 0
+    → length (wrote (fillText t a o)) ≤ longestText
     → size ≤ length b
-    → SaysAgain (said (bytesOf t) (withoutKeys (k .session))) (wrote (writeText t a o)) b)
+    → SaysAgain (said (bytesOf t) (withoutKeys (k .session))) (wrote (fillText t a o)) b)

@@ -22,7 +22,7 @@ use Rattle.sdp_read.specs.Run.{Verdict, accepted, refused, after, stepForm, run
 use Rattle.sdp_row.specs.Written
 use Rattle.sdp_row.specs.Written.{written}
 use Rattle.sdp_lines.specs.Strings.{bytesOf}
-use Rattle.sdp_write.specs.Write.{textOf, fill, writeText}
+use Rattle.sdp_write.specs.Write.{textOf, fill, fillText}
 use Rattle.sdp_same.specs.Said.{said, bytesAt}
 use Rattle.sdp_same.specs.Same.{filled}
 use Rattle.sdp_same.proofs.WrittenLaws.{written-said}
@@ -138,7 +138,7 @@ module _ (t a : List ℕ) (h : readText t a .answer .number ≡ 0) where
   pub enough : (n : ℕ) → bound t ≤ n → Enough n t a
   enough n l = record { short = omega (arith, text-bound); written = writes }
     where
-      writes : (o : List ℕ) → n ≤ length o → writeText t (readText t a .area) o ≡ filled (textOf t (readText t a .area)) o
+      writes : (o : List ℕ) → n ≤ length o → fillText t (readText t a .area) o ≡ filled (textOf t (readText t a .area)) o
       writes o m =
           let r = read-then-write t a o h in
           r .outcome ∙ (ap (λ (w : List ℕ). fill w o) (sym (r .text)) ∙ fills (textOf t (readText t a .area)) o (omega (arith, text-bound)))

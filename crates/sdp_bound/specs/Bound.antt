@@ -4,7 +4,7 @@ use mathlib.Core.List.{List}
 use Prim.Native.Nat.{ℕ, _+_, _≤_}
 use lib.ListN.{length}
 use Rattle.sdp_read.specs.Run.{readText}
-use Rattle.sdp_write.specs.Write.{textOf, writeText}
+use Rattle.sdp_write.specs.Write.{textOf, fillText}
 use Rattle.sdp_same.specs.Same.{filled}
 use Rattle.sdp_bound.specs.Kept.{kept}
 
@@ -20,4 +20,4 @@ roomOfAny = 43727
 -- with its length for any output of n bytes or more
 pub record Enough (n : ℕ) (t a : List ℕ) : Type 0 where
   pub short : length (textOf t (readText t a .area)) ≤ n
-  pub written : (o : List ℕ) → n ≤ length o → writeText t (readText t a .area) o ≡ filled (textOf t (readText t a .area)) o
+  pub written : (o : List ℕ) → n ≤ length o → fillText t (readText t a .area) o ≡ filled (textOf t (readText t a .area)) o

@@ -9,7 +9,7 @@ use lib.Dec.{eqb}
 use Rattle.sdp_numbers.specs.Refusals.{longestText}
 use Rattle.sdp_area.specs.Session.{Time, Repeat, Zone, Session}
 use Rattle.sdp_decode.specs.Decode.{decode}
-use Rattle.sdp_write.specs.Write.{wrote, writeText}
+use Rattle.sdp_write.specs.Write.{wrote, fillText}
 use Rattle.sdp_order.specs.Order.{orderOf}
 use Rattle.sdp_order.specs.declared.Order.the-variants.{InOrder, OutOfOrder}
 
@@ -35,6 +35,6 @@ zonesFit s = noZones (s .tables .zones) || lastRepeats (s .tables .times) (s .ta
 -- the area a, whoever made it, was written with the text t to the output o: what was written, within the limit, is in order or not
 abbrev pub WrittenOrder : List ℕ → List ℕ → List ℕ → Type 0
 WrittenOrder t a o =
-    writeText t a o .answer .number ≡ 0
-    → length (wrote (writeText t a o)) ≤ longestText
-    → orderOf (wrote (writeText t a o)) ≡ cond (zonesFit (decode a)) InOrder OutOfOrder
+    fillText t a o .answer .number ≡ 0
+    → length (wrote (fillText t a o)) ≤ longestText
+    → orderOf (wrote (fillText t a o)) ≡ cond (zonesFit (decode a)) InOrder OutOfOrder

@@ -23,7 +23,7 @@ use Rattle.sdp_row.specs.Written as form
 use Rattle.sdp_row.specs.Written.{line, originLine, nameLine, stringLine, optional, headLines, contactLines, closingLines, mediaLines, written}
 use Rattle.sdp_unfit.proofs.UnfitLaws.{fit}
 use Rattle.sdp_write.specs.Write as writer
-use Rattle.sdp_write.specs.Write.{Outcome, textOf, fill, writeText}
+use Rattle.sdp_write.specs.Write.{Outcome, textOf, fill, fillText}
 use Rattle.sdp_same.specs.Fits.{nameOf, named}
 use Rattle.sdp_same.specs.Sound.{FineIn, Sound}
 use Rattle.sdp_same.specs.Same.{ReadThenWritten, filled}
@@ -85,8 +85,8 @@ module _ (t : List ℕ) (short : length t ≤ 32768) (s : Session Span) (sound :
   text-is : (x : List ℕ) → textOf t (encode s ++ x) ≡ written (bytesOf t) s
   text-is x = ap (written (bytesOf t)) (decode-encode (FineIn t) (fine-room t short) s (sound .fits) x) ∙ written-same t s
 
-  pub write-is : (x o : List ℕ) → writeText t (encode s ++ x) o ≡ fill (written (bytesOf t) s) o
-  unfolding writer.writeText
+  pub write-is : (x o : List ℕ) → fillText t (encode s ++ x) o ≡ fill (written (bytesOf t) s) o
+  unfolding writer.fillText
   write-is x o =
       let l : size ≤ length (encode s ++ x) = omega (arith, length-append (encode s) x, length-encode s) in
       rw (fit t (encode s ++ x) l short (well-formed t short s sound x), text-is x)
@@ -94,7 +94,7 @@ module _ (t : List ℕ) (short : length t ≤ 32768) (s : Session Span) (sound :
   accepted-written : lines spanAt t ≡ accepted s → (a o : List ℕ) → size ≤ length a → ReadThenWritten t a o
   accepted-written read a o h =
       let left = read-is t a short h (accepted s) read in
-      let e : writeText t (readText t a .area) o ≡ fill (written (bytesOf t) s) o = ap (λ r. writeText t (r .area) o) left ∙ write-is (drop size a) o in
+      let e : fillText t (readText t a .area) o ≡ fill (written (bytesOf t) s) o = ap (λ r. fillText t (r .area) o) left ∙ write-is (drop size a) o in
       record {
         session = s;
         read = read;

@@ -11,7 +11,7 @@ use Rattle.sdp_area.specs.Session.{Session}
 use Rattle.sdp_strings.specs.Strings.{spanAt}
 use Rattle.sdp_read.specs.Run.{accepted, lines, readText}
 use Rattle.sdp_row.specs.Written.{written}
-use Rattle.sdp_write.specs.Write.{Outcome, answer, textOf, fill, writeText}
+use Rattle.sdp_write.specs.Write.{Outcome, answer, textOf, fill, fillText}
 
 -- the output o after the text w was written into it: 0 with its length, and "success changes only the bytes written"
 abbrev pub filled : List ℕ → List ℕ → Outcome
@@ -23,5 +23,5 @@ pub record ReadThenWritten (t a o : List ℕ) : Type 0 where
   pub session : Session Span
   pub read : lines spanAt t ≡ accepted session
   pub text : textOf t (readText t a .area) ≡ written (bytesOf t) session
-  pub outcome : writeText t (readText t a .area) o ≡ fill (written (bytesOf t) session) o
-  pub answer : (writeText t (readText t a .area) o .answer .number ≡ 0) ⊎ (writeText t (readText t a .area) o .answer .number ≡ refusals.outputTooShort)
+  pub outcome : fillText t (readText t a .area) o ≡ fill (written (bytesOf t) session) o
+  pub answer : (fillText t (readText t a .area) o .answer .number ≡ 0) ⊎ (fillText t (readText t a .area) o .answer .number ≡ refusals.outputTooShort)

@@ -11,7 +11,7 @@ use Rattle.sdp_area.specs.Session.{Session, empty}
 use Rattle.sdp_area.specs.Area.{encode, size}
 use Rattle.sdp_area.specs.With.{withZones, withAttributes}
 use Rattle.sdp_read.specs.Run.{readText}
-use Rattle.sdp_write.specs.Write.{writeText}
+use Rattle.sdp_write.specs.Write.{fillText}
 
 -- ---- the lines
 -- `v=0`
@@ -110,7 +110,7 @@ Accepts t s = (a : List ℕ) → size ≤ length a → readText t a ≡ record {
 abbrev pub Writes : List ℕ → List ℕ → Type 0
 Writes t w =
     (a o : List ℕ) → size ≤ length a → length w ≤ length o
-    → writeText t (readText t a .area) o ≡ record { answer = five 0 0 0 0 (length w); out = w ++ drop (length w) o }
+    → fillText t (readText t a .area) o ≡ record { answer = five 0 0 0 0 (length w); out = w ++ drop (length w) o }
 
 -- a session with one zone at adjustment time 0 and nothing else; the offset is the 64 bits of a signed number
 abbrev pub zoned : ℕ → Session Span

@@ -16,7 +16,7 @@ use Rattle.sdp_valid.specs.Judge as judge
 use Rattle.sdp_valid.specs.Judge.{owners, smallCounts, largeCounts, fineHead, fineTables}
 use Rattle.sdp_unfit.specs.Unfit.{unfit}
 use Rattle.sdp_unfit.proofs.UnfitLaws.{fit-formed}
-use Rattle.sdp_write.specs.Write.{Outcome, answer, textOf, wrote, fill, writeText}
+use Rattle.sdp_write.specs.Write.{Outcome, answer, textOf, wrote, fill, fillText}
 
 -- what an answer and an output must be, by a case of the outcome
 pub settled : (r : Answer) (o′ : List ℕ) (x y : Outcome) → y ≡ x → r ≡ x .answer → o′ ≡ x .out → (r ≡ y .answer) × (o′ ≡ y .out)
@@ -24,17 +24,17 @@ settled r o′ x y e p q = (p ∙ sym (ap (λ (z : Outcome). z .answer) e), q �
 
 -- ---- the answers
 module _ (t a o : List ℕ) where
-  pub not-written : (n : ℕ) → n ≡ unfit t a → (n ≡ 0 → ⊥) → writeText t a o ≡ record { answer = answer n 0; out = o }
-  unfolding writeText
+  pub not-written : (n : ℕ) → n ≡ unfit t a → (n ≡ 0 → ⊥) → fillText t a o ≡ record { answer = answer n 0; out = o }
+  unfolding fillText
   not-written n e h = rw (← e, ne-eqb n 0 h)
 
   module _ (f : unfit t a ≡ 0) (n : ℕ) (e : n ≡ length (textOf t a)) where
-    pub out-short : length o < n → writeText t a o ≡ record { answer = answer 22 n; out = o }
-    unfolding writeText
+    pub out-short : length o < n → fillText t a o ≡ record { answer = answer 22 n; out = o }
+    unfolding fillText
     out-short h = rw (f, ← e, lt-ltb (length o) n h)
 
-    pub all-written : n ≤ length o → writeText t a o ≡ record { answer = answer 0 n; out = textOf t a ++ drop n o }
-    unfolding writeText
+    pub all-written : n ≤ length o → fillText t a o ≡ record { answer = answer 0 n; out = textOf t a ++ drop n o }
+    unfolding fillText
     all-written h = rw (f, ← e, le-ltb (length o) n h)
 
 -- ---- what was written, where the answer is 0
@@ -45,8 +45,8 @@ wrote-fill w o = go (ltb (length o) (length w))
     go true n = absurd (let z : _≡_ {A = ℕ} 22 0 = n in omega arith)
     go false n = take-at w (drop (length w) o) (length w) refl
 
-pub wrote-text : (t a o : List ℕ) → writeText t a o .answer .number ≡ 0 → wrote (writeText t a o) ≡ textOf t a
-unfolding writeText
+pub wrote-text : (t a o : List ℕ) → fillText t a o .answer .number ≡ 0 → wrote (fillText t a o) ≡ textOf t a
+unfolding fillText
 wrote-text t a o = go (eqb (unfit t a) 0) refl
   where
     go : (b : Bool) → eqb (unfit t a) 0 ≡ b → (let r : Outcome = cond b (fill (textOf t a) o) (record { answer = answer (unfit t a) 0; out = o }) in r .answer .number ≡ 0 → wrote r ≡ textOf t a)

@@ -1,4 +1,5 @@
--- Document 01, "Writing", "Refusal numbers": what writing answers and what it leaves in the output.
+-- Document 01, "Writing", "Refusal numbers", and document 02, P7: writing is two calls, "one returns the length, one fills". What they answer, and
+-- what the fill leaves in the output.
 use Prim.Native.Nat.{ℕ}
 use mathlib.Core.Bool.{cond}
 use mathlib.Core.List.{List, _++_}
@@ -19,6 +20,10 @@ answer number len = record { number = number; line = 0; field = 0; place = 0; le
 abbrev pub textOf : List ℕ → List ℕ → List ℕ
 textOf t a = written (bytesOf t) (decode a)
 
+-- "one returns the length": 2, 1 or 23 where there is none
+unfoldable pub lengthText : List ℕ → List ℕ → Answer
+lengthText t a = cond (eqb (unfit t a) 0) (answer 0 (length (textOf t a))) (answer (unfit t a) 0)
+
 -- the answer, and the output afterwards
 pub record Outcome : Type 0 where
   pub answer : Answer
@@ -35,7 +40,7 @@ fill w o =
     (record { answer = answer refusals.outputTooShort (length w); out = o })
     (record { answer = answer 0 (length w); out = w ++ drop (length w) o })
 
--- "for writing 2, 1, 23, 22"; "a refusal leaves the output as found"
-unfoldable pub writeText : List ℕ → List ℕ → List ℕ → Outcome
-writeText t a o =
+-- "one fills": "2, 1 and 23 in both, 22 only in the fill"; "a refusal leaves the output as found"
+unfoldable pub fillText : List ℕ → List ℕ → List ℕ → Outcome
+fillText t a o =
     cond (eqb (unfit t a) 0) (fill (textOf t a) o) (record { answer = answer (unfit t a) 0; out = o })

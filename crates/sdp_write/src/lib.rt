@@ -7,7 +7,7 @@ ghost use Rattle.sdp_valid.specs.Judge.{owners};
 ghost use Rattle.sdp_put.specs.Out.{Put};
 ghost use Rattle.sdp_decode.specs.Decode.{decode};
 ghost use Rattle.sdp_row.specs.Written.{headLines, written};
-ghost use Rattle.sdp_write.specs.Write.{answer, writeText};
+ghost use Rattle.sdp_write.specs.Write.{answer, fillText};
 use sdp_area::DESCRIPTION;
 use sdp_area::NAME;
 use sdp_area::URI;
@@ -56,9 +56,9 @@ fn told(number: u64, len: usize) -> Answer
 }
 
 // Writes the session of the area into out. Where out may be too short for it, a first pass, past out's end, only counts.
-pub fn write(text: &[u8], area: &[u8], out: &mut [u8]) -> Answer
-    ensures { λ r. ⌜ r ≡ writeText (now (text .entry)) (now (area .entry)) (now (out .entry)) .answer ⌝ }
-    ensures { λ r. ⌜ now (out .exit) ≡ writeText (now (text .entry)) (now (area .entry)) (now (out .entry)) .out ⌝ }
+pub fn fill(text: &[u8], area: &[u8], out: &mut [u8]) -> Answer
+    ensures { λ r. ⌜ r ≡ fillText (now (text .entry)) (now (area .entry)) (now (out .entry)) .answer ⌝ }
+    ensures { λ r. ⌜ now (out .exit) ≡ fillText (now (text .entry)) (now (area .entry)) (now (out .entry)) .out ⌝ }
 {
     let number = unfit(text, area);
     if number != 0 {

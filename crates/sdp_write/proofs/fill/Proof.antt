@@ -1,4 +1,4 @@
--- `sdp_write::write` meets its contract. Assumes nothing.
+-- `sdp_write::fill` meets its contract. Assumes nothing.
 use Rattle.sdp_write.proofs.WriteLaws.{well-owned, settled, not-written, out-short, all-written, fits, counted, filled}
 use Rattle.sdp_room.proofs.RoomLaws.{written-room}
 use Rattle.sdp_write.specs.Write.{textOf}
@@ -8,8 +8,8 @@ use native.Mathlib.Omega.{arith}
 use lib.ListN.{length}
 use denote.Ref.{now}
 use borrow.Author.Needs.{needs}
-use Rattle.sdp_write.proofs.write.Statement.{statement}
-use Rattle.sdp_write.proofs.write.Tie as tie
+use Rattle.sdp_write.proofs.fill.Statement.{statement}
+use Rattle.sdp_write.proofs.fill.Tie as tie
 
 returns : tie.Need-returns
 returns c = settled _ _ _ _ (not-written _ _ _ _ (c .before .before .unfit .ensures) (c .before .if1 .taken)) (c .told .ensures) refl
@@ -60,8 +60,8 @@ returns-4 c = let m = c .before .before .before .before .before .before .before 
     settled _ _ _ _ (all-written t a o (sym (m .before .before .unfit .ensures) ∙ m .before .if1 .left) (p .put-session2 .result - length o) k (c .before .before .before .before .before .if3 .left)) (c .told4 .ensures)
     (filled o (p .put-session2 .last .0) (textOf t a) (p .put-session2 .result) (omega (arith, w, m .room-for .ensures .0, m .room-for .ensures .1)) (omega arith) (p .put-session2 .ensures) (c .before .before .before .put-session3 .last .0) (c .before .before .before .put-session3 .result) (p .put-session2 .result - length o) k (c .before .before .before .before .before .if3 .left) (c .before .before .before .put-session3 .ensures))
 
-pub write-spec : {M : Type 1} → statement M
-write-spec =
+pub fill-spec : {M : Type 1} → statement M
+fill-spec =
     tie.close
     (tie.spec
     (λ c κs. search needs)
