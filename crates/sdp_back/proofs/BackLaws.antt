@@ -12,21 +12,21 @@ use Rattle.sdp_strings.specs.Strings.{spanAt}
 use Rattle.sdp_read.specs.Run.{Verdict, accepted, refused, lines, readText}
 use Rattle.sdp_row.specs.Written.{written}
 use Rattle.sdp_write.specs.Write as writer
-use Rattle.sdp_write.specs.Write.{wrote, fill, fillText}
+use Rattle.sdp_write.specs.Write.{answer, wrote, lengthText, fill, fillText}
 use Rattle.sdp_write.proofs.WriteLaws.{wrote-fill}
 use Rattle.sdp_bound.specs.Kept.{id}
 use Rattle.sdp_same.specs.Said.{saidMediaConnection, saidBandwidth, saidAttribute, saidMedia, said, bytesAt}
 use Rattle.sdp_same.specs.Sound.{FineIn, Rising, Sound}
 use Rattle.sdp_same.proofs.LinesLaws.{accepted-said, refused-said}
 use Rattle.sdp_same.proofs.SoundLaws.{read-sound}
-use Rattle.sdp_same.proofs.SameLaws.{read-is, read-fits, write-is, read-then-write}
+use Rattle.sdp_same.proofs.SameLaws.{read-is, read-fits, length-is, write-is, read-then-write}
 use Rattle.sdp_same.proofs.WrittenLaws.{written-said}
 use Rattle.sdp_back.specs.Again.{again}
 use Rattle.sdp_back.specs.Back.{SaysAgain, ReadBack}
 use Rattle.sdp_back.specs.Keys.{withoutKeys, KeptFrom, KeptBack}
 use Rattle.sdp_back.proofs.PlainLaws.{read-plain}
 use Rattle.sdp_back.proofs.WholeLaws.{Ordered, written-back}
-use Rattle.sdp_back.proofs.KeyLaws.{kept-written}
+use Rattle.sdp_back.proofs.KeyLaws.{kept-length, kept-written}
 
 -- ---- counts, numbers and owners of what is said
 rising-map : {X Y : Type 0} (h : X → Y) (owner : Y → ℕ) (most lo : ℕ) (xs : List X) → Rising (λ x. owner (h x)) most lo xs → Rising owner most lo (map h xs)
@@ -112,5 +112,8 @@ pub kept-back : (t a : List ℕ) (k : KeptFrom t a) (c o b : List ℕ) → KeptB
 kept-back t a k c o b short full =
     let s : Session Span = withoutKeys (k .session) in
     let w = kept-written t a k short o in
-    let today : fillText t (readText t c .area) o ≡ fill (written (bytesOf t) s) o = ap (λ r. fillText t (r .area) o) (read-is t c short full (accepted s) (k .today)) ∙ write-is t short s (read-sound t s (k .today)) (drop size c) o in
-    (w ∙ sym today, says-again t s (k .today) o b _ w)
+    let left = read-is t c short full (accepted s) (k .today) in
+    let sound = read-sound t s (k .today) in
+    let long : lengthText t (readText t c .area) ≡ answer 0 (length (written (bytesOf t) s)) = ap (λ r. lengthText t (r .area)) left ∙ length-is t short s sound (drop size c) in
+    let today : fillText t (readText t c .area) o ≡ fill (written (bytesOf t) s) o = ap (λ r. fillText t (r .area) o) left ∙ write-is t short s sound (drop size c) o in
+    (kept-length t a k short ∙ sym long, w ∙ sym today, says-again t s (k .today) o b _ w)

@@ -14,14 +14,14 @@ use Rattle.sdp_decode.specs.Rows as rows
 use Rattle.sdp_decode.specs.Rows.{each}
 use Rattle.sdp_row.specs.Written as form
 use Rattle.sdp_row.specs.Written.{headLines, contactLines, closingLines, mediaLines, written}
-use Rattle.sdp_write.specs.Write.{fill, fillText}
+use Rattle.sdp_write.specs.Write.{answer, lengthText, fill, fillText}
 use Rattle.sdp_same.specs.Fits.{IfGiven, Each, FitKey, FitMedia}
 use Rattle.sdp_same.specs.Said.{said, saidKey, saidMedia}
 use Rattle.sdp_same.specs.Sound.{FineIn, Sound}
 use Rattle.sdp_same.proofs.LinesLaws.{accepted-said}
 use Rattle.sdp_same.proofs.RowLaws.{rising-more}
 use Rattle.sdp_same.proofs.SoundLaws.{read-sound}
-use Rattle.sdp_same.proofs.SameLaws.{write-is}
+use Rattle.sdp_same.proofs.SameLaws.{length-is, write-is}
 use Rattle.sdp_back.specs.Keys.{unkeyed, withoutKeys, KeysIn, KeptFrom}
 use Rattle.sdp_back.proofs.PlainLaws.{MediaPlain, read-plain}
 
@@ -90,9 +90,17 @@ module _ (t : List ℕ) (s : Session Span) (k : KeysIn t s) (h : Sound (FineIn t
 
 -- ---- so a kept area is written as today's is
 module _ (t a : List ℕ) (k : KeptFrom t a) (short : length t ≤ 32768) where
+  sound : Sound (FineIn t) (k .session)
+  sound = keyed-sound t (k .session) (k .keys) (read-sound t (withoutKeys (k .session)) (k .today))
+
+  pub kept-length : lengthText t a ≡ answer 0 (length (written (bytesOf t) (withoutKeys (k .session))))
+  kept-length =
+      ap (lengthText t) (k .bytes)
+      ∙ length-is t short (k .session) sound (k .behind)
+      ∙ ap (λ (w : List ℕ). answer 0 (length w)) (sym (written-keyless (bytesOf t) (k .session)))
+
   pub kept-written : (o : List ℕ) → fillText t a o ≡ fill (written (bytesOf t) (withoutKeys (k .session))) o
   kept-written o =
-      let s = k .session in
       ap (λ (x : List ℕ). fillText t x o) (k .bytes)
-      ∙ write-is t short s (keyed-sound t s (k .keys) (read-sound t (withoutKeys s) (k .today))) (k .behind) o
-      ∙ ap (λ (w : List ℕ). fill w o) (sym (written-keyless (bytesOf t) s))
+      ∙ write-is t short (k .session) sound (k .behind) o
+      ∙ ap (λ (w : List ℕ). fill w o) (sym (written-keyless (bytesOf t) (k .session)))

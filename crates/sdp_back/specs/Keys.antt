@@ -12,7 +12,7 @@ use Rattle.sdp_area.specs.Session.{Media, Session}
 use Rattle.sdp_area.specs.Area.{encode, size}
 use Rattle.sdp_strings.specs.Strings.{spanAt}
 use Rattle.sdp_read.specs.Run.{accepted, lines, readText}
-use Rattle.sdp_write.specs.Write.{wrote, fillText}
+use Rattle.sdp_write.specs.Write.{wrote, lengthText, fillText}
 use Rattle.sdp_same.specs.Fits.{IfGiven, Each, FitKey}
 use Rattle.sdp_same.specs.Said.{said}
 use Rattle.sdp_same.specs.Sound.{FineIn}
@@ -68,13 +68,14 @@ pub record KeptFrom (t a : List ℕ) : Type 0 where
   pub keys : KeysIn t session
   pub today : lines spanAt t ≡ accepted (withoutKeys session)
 
--- t is within the limit, a was kept of it, and c is any area of full size: a is written to the output o as the area that t is read into today
--- is; with room, and read into the area b within the limit, that says again the session without its keys
+-- t is within the limit, a was kept of it, and c is any area of full size: a has the length, and is written to the output o, as the area that t
+-- is read into today; with room, and read into the area b within the limit, that says again the session without its keys
 abbrev pub KeptBack : (t a : List ℕ) → KeptFrom t a → List ℕ → List ℕ → List ℕ → Type 0
 KeptBack t a k c o b =
     length t ≤ longestText
     → size ≤ length c
-    → (fillText t a o ≡ fillText t (readText t c .area) o)
+    → (lengthText t a ≡ lengthText t (readText t c .area))
+    × (fillText t a o ≡ fillText t (readText t c .area) o)
     × (fillText t a o .answer .number ≡ 0
     → length (wrote (fillText t a o)) ≤ longestText
     → size ≤ length b

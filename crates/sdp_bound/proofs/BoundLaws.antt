@@ -22,7 +22,7 @@ use Rattle.sdp_read.specs.Run.{Verdict, accepted, refused, after, stepForm, run
 use Rattle.sdp_row.specs.Written
 use Rattle.sdp_row.specs.Written.{written}
 use Rattle.sdp_lines.specs.Strings.{bytesOf}
-use Rattle.sdp_write.specs.Write.{textOf, fill, fillText}
+use Rattle.sdp_write.specs.Write.{answer, textOf, fill, fillText}
 use Rattle.sdp_same.specs.Said.{said, bytesAt}
 use Rattle.sdp_same.specs.Same.{filled}
 use Rattle.sdp_same.proofs.WrittenLaws.{written-said}
@@ -136,7 +136,11 @@ module _ (t a : List ℕ) (h : readText t a .answer .number ≡ 0) where
 
   -- n bytes are enough where the bound is no more than n
   pub enough : (n : ℕ) → bound t ≤ n → Enough n t a
-  enough n l = record { short = omega (arith, text-bound); written = writes }
+  enough n l = record {
+    short = omega (arith, text-bound);
+    known = (let r = read-then-write t a [] h in r .known ∙ ap (λ (w : List ℕ). answer 0 (length w)) (sym (r .text)));
+    written = writes;
+  }
     where
       writes : (o : List ℕ) → n ≤ length o → fillText t (readText t a .area) o ≡ filled (textOf t (readText t a .area)) o
       writes o m =

@@ -4,7 +4,7 @@ use mathlib.Core.List.{List}
 use Prim.Native.Nat.{ℕ, _+_, _≤_}
 use lib.ListN.{length}
 use Rattle.sdp_read.specs.Run.{readText}
-use Rattle.sdp_write.specs.Write.{textOf, fillText}
+use Rattle.sdp_write.specs.Write.{answer, textOf, lengthText, fillText}
 use Rattle.sdp_same.specs.Same.{filled}
 use Rattle.sdp_bound.specs.Kept.{kept}
 
@@ -16,8 +16,9 @@ bound t = length t + kept t + 36
 abbrev pub roomOfAny : ℕ
 roomOfAny = 43727
 
--- n bytes are enough for what is written of the area that reading the text t into the area a leaves: it is no longer, and write answers 0
--- with its length for any output of n bytes or more
+-- n bytes are enough for what is written of the area that reading the text t into the area a leaves: it is no longer, the length call
+-- answers its length, and the fill 0 with that length for any output of n bytes or more
 pub record Enough (n : ℕ) (t a : List ℕ) : Type 0 where
   pub short : length (textOf t (readText t a .area)) ≤ n
+  pub known : lengthText t (readText t a .area) ≡ answer 0 (length (textOf t (readText t a .area)))
   pub written : (o : List ℕ) → n ≤ length o → fillText t (readText t a .area) o ≡ filled (textOf t (readText t a .area)) o

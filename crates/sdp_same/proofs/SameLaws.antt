@@ -21,9 +21,10 @@ use Rattle.sdp_read.specs.Run.{Verdict, accepted, refused, answer, outcomeOf, l
 use Rattle.sdp_decode.specs.Rows.{each}
 use Rattle.sdp_row.specs.Written as form
 use Rattle.sdp_row.specs.Written.{line, originLine, nameLine, stringLine, optional, headLines, contactLines, closingLines, mediaLines, written}
+use Rattle.sdp_unfit.specs.Unfit.{unfit}
 use Rattle.sdp_unfit.proofs.UnfitLaws.{fit}
 use Rattle.sdp_write.specs.Write as writer
-use Rattle.sdp_write.specs.Write.{Outcome, textOf, fill, fillText}
+use Rattle.sdp_write.specs.Write.{Outcome, answer, textOf, lengthText, fill, fillText}
 use Rattle.sdp_same.specs.Fits.{nameOf, named}
 use Rattle.sdp_same.specs.Sound.{FineIn, Sound}
 use Rattle.sdp_same.specs.Same.{ReadThenWritten, filled}
@@ -85,11 +86,18 @@ module _ (t : List ℕ) (short : length t ≤ 32768) (s : Session Span) (sound :
   text-is : (x : List ℕ) → textOf t (encode s ++ x) ≡ written (bytesOf t) s
   text-is x = ap (written (bytesOf t)) (decode-encode (FineIn t) (fine-room t short) s (sound .fits) x) ∙ written-same t s
 
+  fits : (x : List ℕ) → unfit t (encode s ++ x) ≡ 0
+  fits x =
+      let l : size ≤ length (encode s ++ x) = omega (arith, length-append (encode s) x, length-encode s) in
+      fit t (encode s ++ x) l short (well-formed t short s sound x)
+
+  pub length-is : (x : List ℕ) → lengthText t (encode s ++ x) ≡ answer 0 (length (written (bytesOf t) s))
+  unfolding writer.lengthText
+  length-is x = rw (fits x, text-is x)
+
   pub write-is : (x o : List ℕ) → fillText t (encode s ++ x) o ≡ fill (written (bytesOf t) s) o
   unfolding writer.fillText
-  write-is x o =
-      let l : size ≤ length (encode s ++ x) = omega (arith, length-append (encode s) x, length-encode s) in
-      rw (fit t (encode s ++ x) l short (well-formed t short s sound x), text-is x)
+  write-is x o = rw (fits x, text-is x)
 
   accepted-written : lines spanAt t ≡ accepted s → (a o : List ℕ) → size ≤ length a → ReadThenWritten t a o
   accepted-written read a o h =
@@ -99,6 +107,7 @@ module _ (t : List ℕ) (short : length t ≤ 32768) (s : Session Span) (sound :
         session = s;
         read = read;
         text = ap (λ r. textOf t (r .area)) left ∙ text-is (drop size a);
+        known = ap (λ r. lengthText t (r .area)) left ∙ length-is (drop size a);
         outcome = e;
         answer = rw e (fill-answer (written (bytesOf t) s) o);
       }

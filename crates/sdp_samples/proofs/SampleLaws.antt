@@ -29,7 +29,7 @@ use Rattle.sdp_read.specs.Run.{Verdict, accepted, refused, lines}
 use Rattle.sdp_decode.specs.Rows as rows
 use Rattle.sdp_row.specs.Written
 use Rattle.sdp_row.specs.Written.{written}
-use Rattle.sdp_write.specs.Write.{fill}
+use Rattle.sdp_write.specs.Write.{answer, fill}
 use Rattle.sdp_same.proofs.SameLaws.{fills, read-then-write}
 use Rattle.sdp_samples.specs.Samples.{Samples, Refuses, Accepts, Writes, «V», T, spaceAfter, crAtEnd, nothingBefore, noEquals, noInterval, lowest, tooHigh, minusPlus, noZones, someOrigin, junkOrigin, emptyValue, noValue, _next_, ofV}
 
@@ -52,7 +52,10 @@ unfolding sessionOf
 writes t s w p e f a o h k =
     let r = read-then-write t a o (ap (λ x. x .answer .number) (accepts t s p e a h)) in
     let same : r .session ≡ s = ap sessionOf (sym (r .read) ∙ e) in
-    r .outcome ∙ (ap (λ x. fill (written (bytesOf t) x) o) same ∙ (ap (λ x. fill x o) f ∙ fills w o k))
+    (
+      r .known ∙ (ap (λ x. answer 0 (length (written (bytesOf t) x))) same ∙ ap (λ x. answer 0 (length x)) f),
+      r .outcome ∙ (ap (λ x. fill (written (bytesOf t) x) o) same ∙ (ap (λ x. fill x o) f ∙ fills w o k)),
+    )
 
 -- ---- the samples
 v-text : written (bytesOf «V») empty ≡ ofV

@@ -11,7 +11,7 @@ use Rattle.sdp_area.specs.Session.{Session, empty}
 use Rattle.sdp_area.specs.Area.{encode, size}
 use Rattle.sdp_area.specs.With.{withZones, withAttributes}
 use Rattle.sdp_read.specs.Run.{readText}
-use Rattle.sdp_write.specs.Write.{fillText}
+use Rattle.sdp_write.specs.Write.{lengthText, fillText}
 
 -- ---- the lines
 -- `v=0`
@@ -106,11 +106,12 @@ Refuses t x = (a : List ℕ) → size ≤ length a → readText t a ≡ record {
 abbrev pub Accepts : List ℕ → Session Span → Type 0
 Accepts t s = (a : List ℕ) → size ≤ length a → readText t a ≡ record { answer = five 0 0 0 0 0; area = encode s ++ drop size a }
 
--- the area that reading t leaves is written as w in every output that has room for it; the bytes behind it are as found
+-- the area that reading t leaves has the length of w, and is written as w in every output that has room for it; the bytes behind it are as found
 abbrev pub Writes : List ℕ → List ℕ → Type 0
 Writes t w =
     (a o : List ℕ) → size ≤ length a → length w ≤ length o
-    → fillText t (readText t a .area) o ≡ record { answer = five 0 0 0 0 (length w); out = w ++ drop (length w) o }
+    → (lengthText t (readText t a .area) ≡ five 0 0 0 0 (length w))
+    × (fillText t (readText t a .area) o ≡ record { answer = five 0 0 0 0 (length w); out = w ++ drop (length w) o })
 
 -- a session with one zone at adjustment time 0 and nothing else; the offset is the 64 bits of a signed number
 abbrev pub zoned : ℕ → Session Span

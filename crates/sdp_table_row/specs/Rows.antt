@@ -8,6 +8,16 @@ use Rattle.sdp_row.specs.Written.{spaced, stringLine, connectionLine, bandwidth
 use Rattle.sdp_table_row.specs.declared.Table.{Table}
 use Rattle.sdp_table_row.specs.declared.Table.the-variants.{Emails, Phones, Connections, Bandwidths, Offsets, Zones, Attributes}
 
+-- the bytes of a row of each table
+abbrev pub width : Table → ℕ
+width Emails = 4
+width Phones = 4
+width Connections = 14
+width Bandwidths = 14
+width Offsets = 10
+width Zones = 16
+width Attributes = 12
+
 -- row k; its owner, where it has one, is not written
 abbrev pub rowText : List ℕ → List ℕ → Table → ℕ → ℕ → List ℕ
 rowText t a Emails k p = stringLine (bytesOf t) 0x65 (spanOf a p)

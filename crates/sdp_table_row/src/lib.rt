@@ -1,16 +1,17 @@
 // One row of a table of a session, put into an output, after writer.rs. Each function puts its bytes into out from at on; what finds no
-// room is only counted. p is a place in the area.
+// room is only counted. p is a place in the area; what is read from there on lies in it.
 ghost use mathlib.Core.List.{[], _∷_, _++_};
-ghost use Prim.Native.Nat.{_<_};
+ghost use Prim.Native.Nat.{_+_, _≤_};
+ghost use lib.ListN.{length};
 ghost use Rattle.sdp_lines.specs.Strings.{bytesOf};
 ghost use Rattle.sdp_put.specs.Out.{Put};
 ghost use Rattle.sdp_put.specs.Strings.{clean};
 ghost use Rattle.sdp_decode.specs.Rows.{marked};
 ghost use Rattle.sdp_decode.specs.Decode.{spanOf, bandwidthOf, zoneOf, attributeOf};
 ghost use Rattle.sdp_row.specs.Written.{optional, signedText, between, zoneText, bandwidthLine, attributeLine};
-ghost use Rattle.sdp_table_row.specs.Rows.{rowText};
-use sdp_decode::num2;
-use sdp_decode::num8;
+ghost use Rattle.sdp_table_row.specs.Rows.{width, rowText};
+use sdp_cells::get2;
+use sdp_cells::get8;
 use sdp_put::put_byte;
 use sdp_put::put_number;
 use sdp_put::put_offset;
@@ -32,22 +33,22 @@ pub enum Table {
 }
 
 fn put_bandwidth(out: &mut [u8], at: usize, text: &[u8], area: &[u8], p: usize) -> usize
-    requires { ⌜ p < 3800000 ⌝ }
+    requires { ⌜ p + 14 ≤ length (now area) ⌝ }
     ensures { λ r. ⌜ Put (now (out .entry)) at (bandwidthLine (bytesOf (now (text .entry))) (bandwidthOf (now (area .entry)) p)) (now (out .exit)) r ⌝ }
 {
     let b = put_two(out, at, b'b', b'=');
     let c = put_string(out, b, text, area, p + 2);
     let d = put_byte(out, c, b':');
-    let e = put_number(out, d, num8(area, p + 6));
+    let e = put_number(out, d, get8(area, p + 6) as u64);
     put_two(out, e, 13, 10)
 }
 
 // A colon and a value, where it is present.
 fn put_value(out: &mut [u8], at: usize, text: &[u8], area: &[u8], p: usize) -> usize
-    requires { ⌜ p < 3900000 ⌝ }
+    requires { ⌜ p + 6 ≤ length (now area) ⌝ }
     ensures { λ r. ⌜ Put (now (out .entry)) at (optional (λ x. (0x3a ∷ []) ++ clean (bytesOf (now (text .entry)) x)) (marked spanOf (now (area .entry)) p)) (now (out .exit)) r ⌝ }
 {
-    if num2(area, p) == 0 {
+    if get2(area, p) == 0 {
         return at;
     }
     let b = put_byte(out, at, b':');
@@ -55,7 +56,7 @@ fn put_value(out: &mut [u8], at: usize, text: &[u8], area: &[u8], p: usize) -> u
 }
 
 fn put_attribute(out: &mut [u8], at: usize, text: &[u8], area: &[u8], p: usize) -> usize
-    requires { ⌜ p < 3800000 ⌝ }
+    requires { ⌜ p + 12 ≤ length (now area) ⌝ }
     ensures { λ r. ⌜ Put (now (out .entry)) at (attributeLine (bytesOf (now (text .entry))) (attributeOf (now (area .entry)) p)) (now (out .exit)) r ⌝ }
 {
     let b = put_two(out, at, b'a', b'=');
@@ -86,13 +87,13 @@ fn put_between(out: &mut [u8], at: usize, k: usize) -> usize
 
 // One pair of the z line.
 fn put_zone(out: &mut [u8], at: usize, area: &[u8], k: usize, p: usize) -> usize
-    requires { ⌜ p < 3800000 ⌝ }
+    requires { ⌜ p + 16 ≤ length (now area) ⌝ }
     ensures { λ r. ⌜ Put (now (out .entry)) at (zoneText k (zoneOf (now (area .entry)) p)) (now (out .exit)) r ⌝ }
 {
     let b = put_between(out, at, k);
-    let c = put_number(out, b, num8(area, p));
+    let c = put_number(out, b, get8(area, p) as u64);
     let d = put_byte(out, c, b' ');
-    put_signed(out, d, num8(area, p + 8))
+    put_signed(out, d, get8(area, p + 8) as u64)
 }
 
 // Row k of a table.
@@ -105,7 +106,7 @@ pub fn put_row(
     k: usize,
     p: usize,
 ) -> usize
-    requires { ⌜ p < 3700000 ⌝ }
+    requires { ⌜ p + width table ≤ length (now area) ⌝ }
     ensures { λ r. ⌜ Put (now (out .entry)) at (rowText (now (text .entry)) (now (area .entry)) table k p) (now (out .exit)) r ⌝ }
 {
     match table {
@@ -113,7 +114,7 @@ pub fn put_row(
         Table::Phones => put_string_line(out, at, b'p', text, area, p),
         Table::Connections => put_connection(out, at, text, area, p + 2),
         Table::Bandwidths => put_bandwidth(out, at, text, area, p),
-        Table::Offsets => put_spaced_time(out, at, num8(area, p + 2)),
+        Table::Offsets => put_spaced_time(out, at, get8(area, p + 2) as u64),
         Table::Zones => put_zone(out, at, area, k, p),
         Table::Attributes => put_attribute(out, at, text, area, p),
     }

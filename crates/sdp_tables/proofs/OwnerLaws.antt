@@ -2,20 +2,26 @@
 use mathlib.Core.Path.{_≡_, refl, sym, ap, ap₂, _∙_}
 use mathlib.Core.Bool.{Bool, true, false, _&&_}
 use mathlib.Core.List.{List, [], _++_}
-use Prim.Native.Nat.{ℕ, zero, suc, _+_, _*_, _-_, _≤_, _<_}
-use native.Mathlib.Nat.{suc-mul, add-mul, one-mul, mul-comm, mul-le-mul-right}
+use Prim.Native.Nat.{ℕ, zero, suc, _+_, _*_, _-_, _/_, _≤_, _<_}
+use native.Mathlib.Nat.{suc-mul, add-mul, one-mul}
 use native.Mathlib.Omega.{arith}
 use lib.Dec.{leb}
+use lib.ListN.{length}
 use borrow.Author.Tests.{leb-true, leb-false, eq-eqb, ne-eqb}
 use Rattle.sdp_bytes.proofs.ScanLaws.{and-left, and-right}
 use Rattle.sdp_cells.specs.Bytes.{num}
 use Rattle.sdp_area.specs.Area.{connectionsAt, bandwidthsAt, repeatsAt, offsetsAt, attributesAt, mediasAt, timesAt}
 use Rattle.sdp_valid.specs.Judge as judge
 use Rattle.sdp_valid.specs.Judge.{rising, owned, owners}
+use Rattle.sdp_valid.specs.Counted.{Inside}
+use Rattle.sdp_valid.proofs.CountedLaws.{rest-inside, row-inside}
 use Rattle.sdp_put.specs.Out.{Put}
 use Rattle.sdp_put.proofs.OutLaws.{begin, finish, said, nothing}
 use Rattle.sdp_decode.specs.Rows as rows
 use Rattle.sdp_decode.specs.Rows.{eachAt, mine}
+use Rattle.sdp_table_row.specs.declared.Table.{Table}
+use Rattle.sdp_table_row.specs.declared.Table.the-variants.{Emails, Phones, Connections, Bandwidths, Offsets, Zones, Attributes}
+use Rattle.sdp_table_row.specs.Rows.{width}
 use Rattle.sdp_tables.specs.Tables.{own, NeverFall, Parted}
 use Rattle.sdp_tables.proofs.RowLaws.{Left, left-turn}
 
@@ -80,11 +86,31 @@ module _ (a : List ℕ) (h : owners a ≡ true) where
   pub attributes-rise : NeverFall a attributesAt 12
   attributes-rise = never-fall a attributesAt 12 0 (num 2 a mediasAt) (and-right (owned a offsetsAt 10 1 repeatsAt) _ after-repeats)
 
--- ---- the search by halves
--- a row is far from the end of what a place can count
-pub far : (i w : ℕ) → w < 40 → i < 65536 → i * w ≤ 40 * 65536
-far i w h l = omega (arith, mul-le-mul-right i (let z : w ≤ 40 = omega arith in z), mul-comm i w)
+-- ---- rows that lie in the area
+-- an owner has room in a row of each table
+pub owner-width : (t : Table) → 2 ≤ width t
+owner-width Emails = omega arith
+owner-width Phones = omega arith
+owner-width Connections = omega arith
+owner-width Bandwidths = omega arith
+owner-width Offsets = omega arith
+owner-width Zones = omega arith
+owner-width Attributes = omega arith
 
+-- of a table's n rows, those from the row r on
+pub from-inside : (a : List ℕ) (base w n r : ℕ) → n ≡ num 2 a base → r ≤ n → Inside a base w → base + 2 + r * w + (n - r) * w ≤ length a
+from-inside a base w n r e l h = rest-inside n r (base + 2) w (length a) l (omega (arith, h, ap (λ (k : ℕ). k * w) e))
+
+-- the owner of the row i
+owner-inside : (a : List ℕ) (base w i : ℕ) → 2 ≤ w → Inside a base w → i < num 2 a base → base + 2 + i * w + 2 ≤ length a
+owner-inside a base w i u h l =
+    omega (arith, u, row-inside (num 2 a base) i (base + 2 + i * w) w (length a) l (from-inside a base w (num 2 a base) i refl (omega arith) h))
+
+-- that of the row in the middle
+pub half-inside : (a : List ℕ) (base w lo hi : ℕ) → 2 ≤ w → Inside a base w → lo < hi → hi ≤ num 2 a base → base + 2 + (lo + (hi - lo) / 2) * w + 2 ≤ length a
+half-inside a base w lo hi u h l k = owner-inside a base w (lo + (hi - lo) / 2) u h (omega arith)
+
+-- ---- the search by halves
 module _ (a : List ℕ) (base w n lo hi : ℕ) where
   pub none-left : lo ≤ hi → hi ≤ lo → Parted a base w n lo hi lo
   none-left k l = record { low = omega arith; high = omega arith; earlier = λ j p q. absurd (omega arith); later = λ j p q. absurd (omega arith) }
@@ -139,7 +165,7 @@ other n o bs h = rw (ne-eqb o n h)
 -- ---- the loop over the rows of the owner n: from the first of them on, until another follows. i is the next, at place p
 module _ (f : ℕ → ℕ → List ℕ) (a : List ℕ) (base w n count : ℕ) (o₀ : List ℕ) (at : ℕ) where
   pub record Ours (o : List ℕ) (i p q : ℕ) : Type 0 where
-    pub rows : Left (own a n f) w base (num 2 a base) count o₀ at o p i q
+    pub rows : Left (own a n f) a w base count o₀ at o p i q
     pub place : p ≡ base + 2 + i * w
     pub least : i < count → n ≤ num 2 a (base + 2 + i * w)
 
@@ -149,12 +175,11 @@ module _ (f : ℕ → ℕ → List ℕ) (a : List ℕ) (base w n count : ℕ) (o
     unfolding eachAt
     ours-none e = said (ap (λ (k : ℕ). eachAt (own a n f) w k 1 (base + 2)) (sym e ∙ all)) (nothing o₀ at)
 
-    pub ours-begin : (r : ℕ) → count < 65536 → w ≤ 40 → Parted a base w n 0 count r → Ours o₀ r (base + 2 + r * w) at
-    ours-begin r h u s =
+    pub ours-begin : (r : ℕ) → Inside a base w → Parted a base w n 0 count r → Ours o₀ r (base + 2 + r * w) at
+    ours-begin r h s =
         record {
           rows = record {
-            few = h;
-            near = omega (arith, mul-le-mul-right r u, mul-comm r w, mul-comm r 40);
+            inside = from-inside a base w count r all (s .high) h;
             same = begin
                 (ap (λ (k : ℕ). eachAt (own a n f) w k 1 (base + 2)) (sym all)
                 ∙ skip (own a n f) w r count 1 (base + 2) (s .high) (λ j l. other n (num 2 a (base + 2 + j * w)) (f (1 + j) (base + 2 + j * w)) (λ e. omega (arith, s .earlier j (omega arith) l)))
@@ -175,11 +200,11 @@ module _ (f : ℕ → ℕ → List ℕ) (a : List ℕ) (base w n count : ℕ) (o
           ne (omega (arith, s .rise i (i + j) (omega arith) (omega arith), ap (num 2 a) z, ap (num 2 a) (x .place), x .least l))))
           ∙ ap (λ (k : ℕ). eachAt (own a n f) w k (i + 1 + (count - i)) (p + (count - i) * w)) (let z : count - i - (count - i) ≡ 0 = omega arith in z))
 
-      pub ours-turn : {o′ : List ℕ} (r : ℕ) → w ≤ 40 → m ≡ n → Put o q (f (i + 1) p) o′ r → Ours o′ (i + 1) (p + w) r
+      pub ours-turn : {o′ : List ℕ} (r : ℕ) → m ≡ n → Put o q (f (i + 1) p) o′ r → Ours o′ (i + 1) (p + w) r
       unfolding rows.mine
-      ours-turn r u h t =
+      ours-turn r h t =
           record {
-            rows = left-turn (own a n f) w base (num 2 a base) count o₀ at u l (x .rows) (said (rw (← e, eq-eqb m n h)) t);
+            rows = left-turn (own a n f) a w base count o₀ at l (x .rows) (said (rw (← e, eq-eqb m n h)) t);
             place = omega (arith, x .place, add-mul i 1 w, one-mul w);
             least = λ k. omega (arith, x .least l, s .rise i (i + 1) (omega arith) (omega arith));
           }

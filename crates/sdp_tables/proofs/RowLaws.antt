@@ -2,7 +2,10 @@
 use mathlib.Core.Path.{_≡_, refl, _∙_}
 use mathlib.Core.List.{List, [], _∷_}
 use Prim.Native.Nat.{ℕ, zero, suc, _+_, _*_, _-_, _≤_, _<_}
-use native.Mathlib.Omega.{arith}
+use lib.ListN.{length}
+use Rattle.sdp_cells.specs.Bytes.{num}
+use Rattle.sdp_valid.specs.Counted.{Inside}
+use Rattle.sdp_valid.proofs.CountedLaws.{all-inside, row-inside}
 use Rattle.sdp_put.specs.Out.{Put}
 use Rattle.sdp_put.proofs.OutLaws.{Same, begin, turn, finish}
 use Rattle.sdp_decode.specs.Rows as rows
@@ -12,20 +15,24 @@ use Rattle.sdp_decode.specs.Decode.{timeOf, zoneOf}
 use Rattle.sdp_area.specs.Session.{Repeat, Offset}
 use Rattle.sdp_row.specs.Written.{line, timeLines, timesLines, zoneText, zonesLine}
 
--- ---- the loop over a table: n rows of at most 40 bytes each from base + 2 on, the first i of them put
-module _ (f : ℕ → ℕ → List ℕ) (w base m n : ℕ) (o₀ : List ℕ) (at : ℕ) where
+-- ---- the loop over a table: n rows of w bytes each from base + 2 on, the first i of them put; those that are left lie in the area
+module _ (f : ℕ → ℕ → List ℕ) (a : List ℕ) (w base n : ℕ) (o₀ : List ℕ) (at : ℕ) where
   pub record Left (o : List ℕ) (p i q : ℕ) : Type 0 where
-    pub few : n < 65536
-    pub near : p ≤ base + 2 + i * 40
-    pub same : Same o₀ at (eachAt f w m 1 (base + 2)) o q (eachAt f w (n - i) (i + 1) p)
+    pub inside : p + (n - i) * w ≤ length a
+    pub same : Same o₀ at (eachAt f w (num 2 a base) 1 (base + 2)) o q (eachAt f w (n - i) (i + 1) p)
 
-  pub left-begin : n ≡ m → n < 65536 → Left o₀ (base + 2) 0 at
-  left-begin e h = record { few = h; near = omega arith; same = begin (rows-all f w n m (base + 2) e) }
+  pub left-begin : n ≡ num 2 a base → Inside a base w → Left o₀ (base + 2) 0 at
+  left-begin e h = record { inside = all-inside a base w n e h; same = begin (rows-all f w n (num 2 a base) (base + 2) e) }
 
-  pub left-turn : {o o′ : List ℕ} {p i q r : ℕ} → w ≤ 40 → i < n → Left o p i q → Put o q (f (i + 1) p) o′ r → Left o′ (p + w) (i + 1) r
-  left-turn {o} {o′} {p} {i} {q} {r} u h l t = record { few = l .few; near = omega (arith, l .near); same = turn (l .same) (record { is = rows-more f w n i p h }) t }
+  -- the next row lies in the area
+  pub left-here : {o : List ℕ} {p i q : ℕ} → i < n → Left o p i q → p + w ≤ length a
+  left-here {o} {p} {i} h l = row-inside n i p w (length a) h (l .inside) .0
 
-  pub left-finish : {o : List ℕ} {p i q : ℕ} → n ≤ i → Left o p i q → Put o₀ at (eachAt f w m 1 (base + 2)) o q
+  pub left-turn : {o o′ : List ℕ} {p i q r : ℕ} → i < n → Left o p i q → Put o q (f (i + 1) p) o′ r → Left o′ (p + w) (i + 1) r
+  left-turn {o} {o′} {p} {i} {q} {r} h l t =
+      record { inside = row-inside n i p w (length a) h (l .inside) .1; same = turn (l .same) (record { is = rows-more f w n i p h }) t }
+
+  pub left-finish : {o : List ℕ} {p i q : ℕ} → n ≤ i → Left o p i q → Put o₀ at (eachAt f w (num 2 a base) 1 (base + 2)) o q
   left-finish {o} {p} {i} {q} h l = finish (l .same) (rows-none f w n i p h)
 
 -- ---- a table without rows, and one with rows; m is its count as it was read

@@ -1,17 +1,19 @@
 // The lines of a session that its tables give, after writer.rs. Each put function puts its bytes into out from at on; what finds no room
 // is only counted.
 ghost use mathlib.Core.Path.{_≡_};
-ghost use Prim.Native.Nat.{_+_, _≤_, _<_};
+ghost use Prim.Native.Nat.{_+_, _≤_};
+ghost use lib.ListN.{length};
 ghost use mathlib.Core.Bool.{true};
 ghost use Rattle.sdp_lines.specs.Strings.{bytesOf};
 ghost use Rattle.sdp_cells.specs.Bytes.{num};
 ghost use Rattle.sdp_valid.specs.Judge.{owners};
+ghost use Rattle.sdp_valid.specs.Counted.{Counted, Inside};
 ghost use Rattle.sdp_area.specs.Area.{timesAt, repeatsAt};
 ghost use Rattle.sdp_put.specs.Out.{Put};
 ghost use Rattle.sdp_decode.specs.Rows.{each, eachAt};
 ghost use Rattle.sdp_decode.specs.Decode.{timeOf, repeatOf, mediaOf, timesIn, repeatsIn, offsetsIn, zonesIn, decode};
 ghost use Rattle.sdp_row.specs.Written.{repeatLine, timeLines, timesLines, zonesLine, mediaLines, contactLines, closingLines};
-ghost use Rattle.sdp_table_row.specs.Rows.{rowText};
+ghost use Rattle.sdp_table_row.specs.Rows.{width, rowText};
 ghost use Rattle.sdp_tables.specs.Tables.{own, NeverFall, Parted};
 use sdp_area::ATTRIBUTES;
 use sdp_area::BANDWIDTHS;
@@ -23,8 +25,8 @@ use sdp_area::PHONES;
 use sdp_area::REPEATS;
 use sdp_area::TIMES;
 use sdp_area::ZONES;
-use sdp_decode::num2;
-use sdp_decode::num8;
+use sdp_cells::get2;
+use sdp_cells::get8;
 use sdp_put::put_all;
 use sdp_put::put_time;
 use sdp_put::put_two;
@@ -46,10 +48,10 @@ fn put_rows(
     base: usize,
     w: usize,
 ) -> usize
-    requires { ⌜ (base < 20000) × (w < 40) ⌝ }
+    requires { ⌜ (w ≡ width table) × Inside (now area) base w ⌝ }
     ensures { λ r. ⌜ Put (now (out .entry)) at (eachAt (rowText (now (text .entry)) (now (area .entry)) table) w (num 2 (now (area .entry)) base) 1 (base + 2)) (now (out .exit)) r ⌝ }
 {
-    let count = num2(area, base);
+    let count = get2(area, base);
     let mut p = base + 2;
     let mut i: usize = 0;
     let mut q = at;
@@ -63,7 +65,7 @@ fn put_rows(
 
 // Of the rows lo to hi of the table at base, the first whose owner is n or a later one, by halves.
 fn first_of(area: &[u8], base: usize, w: usize, n: usize, lo: usize, hi: usize) -> usize
-    requires { ⌜ (base < 20000) × (w < 40) × (lo ≤ hi) × (hi < 65536) × (hi ≤ num 2 (now area) base) ⌝ }
+    requires { ⌜ (2 ≤ w) × Inside (now area) base w × (lo ≤ hi) × (hi ≤ num 2 (now area) base) ⌝ }
     requires { ⌜ NeverFall (now area) base w ⌝ }
     ensures { λ r. ⌜ Parted (now (area .entry)) base w n lo hi r ⌝ }
 {
@@ -71,7 +73,7 @@ fn first_of(area: &[u8], base: usize, w: usize, n: usize, lo: usize, hi: usize) 
         return lo;
     }
     let mid = lo + (hi - lo) / 2;
-    if num2(area, base + 2 + mid * w) < n {
+    if get2(area, base + 2 + mid * w) < n {
         return first_of(area, base, w, n, mid + 1, hi);
     }
     first_of(area, base, w, n, lo, mid)
@@ -88,11 +90,11 @@ fn put_mine_of(
     w: usize,
     n: usize,
 ) -> usize
-    requires { ⌜ (base < 20000) × (w < 40) ⌝ }
+    requires { ⌜ (w ≡ width table) × Inside (now area) base w ⌝ }
     requires { ⌜ NeverFall (now area) base w ⌝ }
     ensures { λ r. ⌜ Put (now (out .entry)) at (eachAt (own (now (area .entry)) n (rowText (now (text .entry)) (now (area .entry)) table)) w (num 2 (now (area .entry)) base) 1 (base + 2)) (now (out .exit)) r ⌝ }
 {
-    let count = num2(area, base);
+    let count = get2(area, base);
     if count == 0 {
         return at;
     }
@@ -100,7 +102,7 @@ fn put_mine_of(
     let mut p = base + 2 + i * w;
     let mut q = at;
     while i < count {
-        if num2(area, p) != n {
+        if get2(area, p) != n {
             return q;
         }
         q = put_row(out, q, text, area, table, i + 1, p);
@@ -112,23 +114,25 @@ fn put_mine_of(
 
 // The r line with number k and its offsets.
 fn put_repeat(out: &mut [u8], at: usize, text: &[u8], area: &[u8], k: usize, p: usize) -> usize
-    requires { ⌜ p < 3800000 ⌝ }
+    requires { ⌜ p + 18 ≤ length (now area) ⌝ }
+    requires { ⌜ Counted (now area) ⌝ }
     requires { ⌜ owners (now area) ≡ true ⌝ }
     ensures { λ r. ⌜ Put (now (out .entry)) at (repeatLine (offsetsIn (now (area .entry))) k (repeatOf (now (area .entry)) p)) (now (out .exit)) r ⌝ }
 {
     let b = put_two(out, at, b'r', b'=');
-    let c = put_time(out, b, num8(area, p + 2));
-    let d = put_spaced_time(out, c, num8(area, p + 10));
+    let c = put_time(out, b, get8(area, p + 2) as u64);
+    let d = put_spaced_time(out, c, get8(area, p + 10) as u64);
     let e = put_mine_of(out, d, text, area, Table::Offsets, OFFSETS, 10, k);
     put_two(out, e, 13, 10)
 }
 
 // The r lines of the time n.
 fn put_repeats(out: &mut [u8], at: usize, text: &[u8], area: &[u8], n: usize) -> usize
+    requires { ⌜ Counted (now area) ⌝ }
     requires { ⌜ owners (now area) ≡ true ⌝ }
     ensures { λ r. ⌜ Put (now (out .entry)) at (eachAt (own (now (area .entry)) n (λ k p. repeatLine (offsetsIn (now (area .entry))) k (repeatOf (now (area .entry)) p))) 18 (num 2 (now (area .entry)) repeatsAt) 1 (repeatsAt + 2)) (now (out .exit)) r ⌝ }
 {
-    let count = num2(area, REPEATS);
+    let count = get2(area, REPEATS);
     if count == 0 {
         return at;
     }
@@ -136,7 +140,7 @@ fn put_repeats(out: &mut [u8], at: usize, text: &[u8], area: &[u8], n: usize) ->
     let mut p = REPEATS + 2 + i * 18;
     let mut q = at;
     while i < count {
-        if num2(area, p) != n {
+        if get2(area, p) != n {
             return q;
         }
         q = put_repeat(out, q, text, area, i + 1, p);
@@ -148,7 +152,8 @@ fn put_repeats(out: &mut [u8], at: usize, text: &[u8], area: &[u8], n: usize) ->
 
 // The t line with number k and its r lines.
 fn put_time_lines(out: &mut [u8], at: usize, text: &[u8], area: &[u8], k: usize, p: usize) -> usize
-    requires { ⌜ p < 3700000 ⌝ }
+    requires { ⌜ p + 16 ≤ length (now area) ⌝ }
+    requires { ⌜ Counted (now area) ⌝ }
     requires { ⌜ owners (now area) ≡ true ⌝ }
     ensures { λ r. ⌜ Put (now (out .entry)) at (timeLines (repeatsIn (now (area .entry))) (offsetsIn (now (area .entry))) k (timeOf (now (area .entry)) p)) (now (out .exit)) r ⌝ }
 {
@@ -157,10 +162,11 @@ fn put_time_lines(out: &mut [u8], at: usize, text: &[u8], area: &[u8], k: usize,
 }
 
 fn put_all_times(out: &mut [u8], at: usize, text: &[u8], area: &[u8]) -> usize
+    requires { ⌜ Counted (now area) ⌝ }
     requires { ⌜ owners (now area) ≡ true ⌝ }
     ensures { λ r. ⌜ Put (now (out .entry)) at (eachAt (λ k p. timeLines (repeatsIn (now (area .entry))) (offsetsIn (now (area .entry))) k (timeOf (now (area .entry)) p)) 16 (num 2 (now (area .entry)) timesAt) 1 (timesAt + 2)) (now (out .exit)) r ⌝ }
 {
-    let count = num2(area, TIMES);
+    let count = get2(area, TIMES);
     let mut p = TIMES + 2;
     let mut i: usize = 0;
     let mut q = at;
@@ -173,10 +179,11 @@ fn put_all_times(out: &mut [u8], at: usize, text: &[u8], area: &[u8]) -> usize
 }
 
 fn put_times(out: &mut [u8], at: usize, text: &[u8], area: &[u8]) -> usize
+    requires { ⌜ Counted (now area) ⌝ }
     requires { ⌜ owners (now area) ≡ true ⌝ }
     ensures { λ r. ⌜ Put (now (out .entry)) at (timesLines (repeatsIn (now (area .entry))) (offsetsIn (now (area .entry))) (timesIn (now (area .entry)))) (now (out .exit)) r ⌝ }
 {
-    if num2(area, TIMES) == 0 {
+    if get2(area, TIMES) == 0 {
         return put_all(out, at, b"t=0 0\r\n");
     }
     put_all_times(out, at, text, area)
@@ -184,6 +191,7 @@ fn put_times(out: &mut [u8], at: usize, text: &[u8], area: &[u8]) -> usize
 
 // e, p, c, b, each t with its r lines.
 pub fn put_contact(out: &mut [u8], at: usize, text: &[u8], area: &[u8]) -> usize
+    requires { ⌜ Counted (now area) ⌝ }
     requires { ⌜ owners (now area) ≡ true ⌝ }
     ensures { λ r. ⌜ Put (now (out .entry)) at (contactLines (bytesOf (now (text .entry))) (decode (now (area .entry)))) (now (out .exit)) r ⌝ }
 {
@@ -195,9 +203,10 @@ pub fn put_contact(out: &mut [u8], at: usize, text: &[u8], area: &[u8]) -> usize
 }
 
 fn put_zone_line(out: &mut [u8], at: usize, text: &[u8], area: &[u8]) -> usize
+    requires { ⌜ Counted (now area) ⌝ }
     ensures { λ r. ⌜ Put (now (out .entry)) at (zonesLine (zonesIn (now (area .entry)))) (now (out .exit)) r ⌝ }
 {
-    if num2(area, ZONES) == 0 {
+    if get2(area, ZONES) == 0 {
         return at;
     }
     let b = put_two(out, at, b'z', b'=');
@@ -207,6 +216,7 @@ fn put_zone_line(out: &mut [u8], at: usize, text: &[u8], area: &[u8]) -> usize
 
 // z, a.
 pub fn put_closing(out: &mut [u8], at: usize, text: &[u8], area: &[u8]) -> usize
+    requires { ⌜ Counted (now area) ⌝ }
     requires { ⌜ owners (now area) ≡ true ⌝ }
     ensures { λ r. ⌜ Put (now (out .entry)) at (closingLines (bytesOf (now (text .entry))) (decode (now (area .entry)))) (now (out .exit)) r ⌝ }
 {
@@ -216,7 +226,8 @@ pub fn put_closing(out: &mut [u8], at: usize, text: &[u8], area: &[u8]) -> usize
 
 // The m line with number k, and i, c, b and a of this media.
 fn put_media(out: &mut [u8], at: usize, text: &[u8], area: &[u8], k: usize, p: usize) -> usize
-    requires { ⌜ p < 3600000 ⌝ }
+    requires { ⌜ p + 24 ≤ length (now area) ⌝ }
+    requires { ⌜ Counted (now area) ⌝ }
     requires { ⌜ owners (now area) ≡ true ⌝ }
     ensures { λ r. ⌜ Put (now (out .entry)) at (mediaLines (bytesOf (now (text .entry))) (decode (now (area .entry)) .tables) k (mediaOf (now (area .entry)) p)) (now (out .exit)) r ⌝ }
 {
@@ -228,10 +239,11 @@ fn put_media(out: &mut [u8], at: usize, text: &[u8], area: &[u8], k: usize, p: u
 }
 
 pub fn put_medias(out: &mut [u8], at: usize, text: &[u8], area: &[u8]) -> usize
+    requires { ⌜ Counted (now area) ⌝ }
     requires { ⌜ owners (now area) ≡ true ⌝ }
     ensures { λ r. ⌜ Put (now (out .entry)) at (each (mediaLines (bytesOf (now (text .entry))) (decode (now (area .entry)) .tables)) 1 (decode (now (area .entry)) .tables .medias)) (now (out .exit)) r ⌝ }
 {
-    let count = num2(area, MEDIAS);
+    let count = get2(area, MEDIAS);
     let mut p = MEDIAS + 2;
     let mut i: usize = 0;
     let mut q = at;

@@ -1,14 +1,17 @@
 -- Strings, rows and owners, judged one after the other. Assumes nothing.
 use mathlib.Core.Path.{_≡_, ap, _∙_}
-use mathlib.Core.Bool.{Bool, true, false, _&&_, and-false}
+use mathlib.Core.Bool.{Bool, true, false, _&&_, _||_, and-true, and-false}
 use mathlib.Core.List.{List}
 use Prim.Native.Nat.{ℕ, suc, _+_, _-_, _≤_, _<_}
 use native.Mathlib.Omega.{arith}
 use lib.ListN.{length, take, drop}
-use borrow.Author.Tests.{le-leb, lt-leb}
+use lib.Dec.{eqb}
+use borrow.Author.Tests.{ne-eqb, le-leb, lt-leb}
 use Rattle.sdp_utf8.specs.Utf8.{isUtf8}
 use Rattle.sdp_cells.specs.Bytes.{num}
+use Rattle.sdp_area.specs.Area.{size}
 use Rattle.sdp_valid.specs.Judge.{everyAt, judged, rising, smallCounts, largeCounts, owners, fineString, fineHead, fineTables, wellFormed}
+use Rattle.sdp_valid.specs.Counted.{Counted}
 
 -- ---- a string
 module _ (a t : List ℕ) (p place len : ℕ) (e : place ≡ num 2 a p) (l : len ≡ num 2 a (p + 2)) where
@@ -22,9 +25,20 @@ module _ (a t : List ℕ) (p place len : ℕ) (e : place ≡ num 2 a p) (l : len
       let k : place + len - place ≡ len = omega arith in
       rw (← e, ← l, le-leb (place + len) (length t) h, k)
 
--- what is marked, where the rest of it was judged
-pub if-rest : (m : ℕ) (b b′ r : Bool) → r ≡ judged m b → b ≡ b′ → r ≡ judged m b′
-if-rest m b b′ r e h = rw (← h) e
+-- ---- what is marked: the mark is m, and the rest of it is judged by b
+module _ (m k : ℕ) (b : Bool) (e : k ≡ m) where
+  pub if-absent : k ≡ 0 → true ≡ judged m b
+  unfolding judged
+  if-absent z = rw (← e, z)
+
+  pub if-present : (k ≡ 0 → ⊥) → (r : Bool) → r ≡ b → (eqb k 1 && r) ≡ judged m b
+  unfolding judged
+  if-present z r q = rw (← e, ← q, ne-eqb k 0 z)
+
+-- a mark and nothing more
+pub mark-only : (m k : ℕ) → k ≡ m → (eqb k 0 || eqb k 1) ≡ judged m true
+unfolding judged
+mark-only m k e = rw (← e, and-true)
 
 -- ---- the rows that are left: n - i of them, from p on
 left-one : (n i : ℕ) → i < n → n - i ≡ suc (n - (i + 1))
@@ -84,6 +98,9 @@ module _ (a t : List ℕ) where
   unfolding wellFormed
   large-no e = rw (e, and-false)
 
-  pub counts-yes : smallCounts a ≡ true → largeCounts a ≡ true → wellFormed a t ≡ (owners a && (fineHead a t && fineTables a t))
+  pub counts-yes : Counted a → wellFormed a t ≡ (owners a && (fineHead a t && fineTables a t))
   unfolding wellFormed
-  counts-yes e f = rw (e, f)
+  counts-yes c = rw (c .small, c .large)
+
+pub counts-known : (a : List ℕ) → size ≤ length a → smallCounts a ≡ true → largeCounts a ≡ true → Counted a
+counts-known a h e f = record { whole = h; small = e; large = f }

@@ -1,2 +1,3 @@
 pub mod Judge
 pub mod Counted
+pub mod Plain

@@ -10,10 +10,10 @@ use Rattle.sdp_row.proofs.put_maybe_line.Statement.{statement}
 use Rattle.sdp_row.proofs.put_maybe_line.Tie as tie
 
 returns : tie.Need-returns
-returns c = said (absent (stringLine (bytesOf (now (c .before .before .before .before .before .args .text))) (c .before .before .before .before .before .args .letter)) spanOf _ _ _ (c .before .num2 .ensures .0) (c .if1 .taken)) (nothing _ _)
+returns c = said (absent (stringLine (bytesOf (now (c .before .before .before .before .before .args .text))) (c .before .before .before .before .before .args .letter)) spanOf _ _ _ (c .before .get2 .ensures .0) (c .if1 .taken)) (nothing _ _)
 
 returns-2 : tie.Need-returns-2
-returns-2 c = said (present (stringLine (bytesOf (now (c .before .before .before .before .before .before .before .before .before .args .text))) (c .before .before .before .before .before .before .before .before .before .args .letter)) spanOf _ _ _ (c .before .before .before .before .before .num2 .ensures .0) (c .before .before .before .before .if1 .left)) (c .before .before .put-string-line .ensures)
+returns-2 c = said (present (stringLine (bytesOf (now (c .before .before .before .before .before .before .before .before .before .args .text))) (c .before .before .before .before .before .before .before .before .before .args .letter)) spanOf _ _ _ (c .before .before .before .before .before .get2 .ensures .0) (c .before .before .before .before .if1 .left)) (c .before .before .put-string-line .ensures)
 
 pub put-maybe-line-spec : {M : Type 1} → statement M
 put-maybe-line-spec =

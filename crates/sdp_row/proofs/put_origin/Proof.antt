@@ -13,11 +13,11 @@ use Rattle.sdp_row.proofs.put_origin.Tie as tie
 
 returns : tie.Need-returns
 unfolding originLine line
-returns c = said (sym (ap (originLine (bytesOf (now (c .before .before .before .before .before .before .before .before .before .before .args .text)))) (marked-none originOf _ _ _ (c .before .before .before .before .before .before .num2 .ensures .0) (c .before .before .before .before .before .if1 .taken)))) (c .before .before .put-all .ensures)
+returns c = said (sym (ap (originLine (bytesOf (now (c .before .before .before .before .before .before .before .before .before .before .args .text)))) (marked-none originOf _ _ _ (c .before .before .before .before .before .before .get2 .ensures .0) (c .before .before .before .before .before .if1 .taken)))) (c .before .before .put-all .ensures)
 
 returns-2 : tie.Need-returns-2
 unfolding originLine line
-returns-2 c = said (sym (ap (originLine (bytesOf (now (c .before .before .before .before .before .before .before .before .before .before .before .before .before .before .before .before .before .args .text)))) (marked-some originOf _ _ _ (c .before .before .before .before .before .before .before .before .before .before .before .before .before .num2 .ensures .0) (c .before .before .before .before .before .before .before .before .before .before .before .before .if1 .left)))) (in-line (c .before .before .before .before .before .before .before .before .before .before .put-two .ensures) (c .before .before .before .before .before .before .put-origin-value .ensures) (c .before .before .put-two2 .ensures))
+returns-2 c = said (sym (ap (originLine (bytesOf (now (c .before .before .before .before .before .before .before .before .before .before .before .before .before .before .before .before .before .args .text)))) (marked-some originOf _ _ _ (c .before .before .before .before .before .before .before .before .before .before .before .before .before .get2 .ensures .0) (c .before .before .before .before .before .before .before .before .before .before .before .before .if1 .left)))) (in-line (c .before .before .before .before .before .before .before .before .before .before .put-two .ensures) (c .before .before .before .before .before .before .put-origin-value .ensures) (c .before .before .put-two2 .ensures))
 
 pub put-origin-spec : {M : Type 1} → statement M
 put-origin-spec =

@@ -10,10 +10,10 @@ use Rattle.sdp_row.proofs.put_ports.Statement.{statement}
 use Rattle.sdp_row.proofs.put_ports.Tie as tie
 
 returns : tie.Need-returns
-returns c = said (absent (λ n. (0x2f ∷ []) ++ digits n) num2 _ _ _ (c .before .num2 .ensures .0) (c .if1 .taken)) (nothing _ _)
+returns c = said (absent (λ n. (0x2f ∷ []) ++ digits n) num2 _ _ _ (c .before .get2 .ensures .0) (c .if1 .taken)) (nothing _ _)
 
 returns-2 : tie.Need-returns-2
-returns-2 c = said (present (λ n. (0x2f ∷ []) ++ digits n) num2 _ _ _ (c .before .before .before .before .before .before .before .before .before .before .num2 .ensures .0) (c .before .before .before .before .before .before .before .before .before .if1 .left)) (c .before .before .before .before .before .before .before .put-byte .ensures then said (ap digits (c .before .before .before .num22 .ensures .0)) (c .before .before .put-number .ensures))
+returns-2 c = said (present (λ n. (0x2f ∷ []) ++ digits n) num2 _ _ _ (c .before .before .before .before .before .before .before .before .before .before .get2 .ensures .0) (c .before .before .before .before .before .before .before .before .before .if1 .left)) (c .before .before .before .before .before .before .before .put-byte .ensures then said (ap digits (c .before .before .before .get22 .ensures .0)) (c .before .before .put-number .ensures))
 
 pub put-ports-spec : {M : Type 1} → statement M
 put-ports-spec =

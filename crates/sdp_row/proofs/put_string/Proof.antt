@@ -6,7 +6,7 @@ use Rattle.sdp_row.proofs.put_string.Statement.{statement}
 use Rattle.sdp_row.proofs.put_string.Tie as tie
 
 returns : tie.Need-returns
-returns c = said (string-is _ _ _ _ _ (c .before .before .before .before .before .num2 .ensures .0) (c .before .before .before .before .num22 .ensures .0)) (c .before .before .put-text .ensures)
+returns c = said (string-is _ _ _ _ _ (c .before .before .before .before .before .get2 .ensures .0) (c .before .before .before .before .get22 .ensures .0)) (c .before .before .put-text .ensures)
 
 pub put-string-spec : {M : Type 1} → statement M
 put-string-spec =

@@ -10,7 +10,7 @@ use Rattle.sdp_row.proofs.put_time_line.Statement.{statement}
 use Rattle.sdp_row.proofs.put_time_line.Tie as tie
 
 returns : tie.Need-returns
-returns c = in-line (c .before .before .before .before .before .before .before .before .before .before .before .before .before .before .before .before .put-two .ensures) (said (ap digits (c .before .before .before .before .before .before .before .before .before .before .before .before .num8 .ensures)) (c .before .before .before .before .before .before .before .before .before .before .before .put-number .ensures) then said (ap (λ (v : ℕ). spaced (digits v)) (c .before .before .before .before .before .before .before .num82 .ensures)) (c .before .before .before .before .before .before .put-spaced-number .ensures)) (c .before .before .put-two2 .ensures)
+returns c = in-line (c .before .before .before .before .before .before .before .before .before .before .before .before .before .before .before .before .put-two .ensures) (said (ap digits (c .before .before .before .before .before .before .before .before .before .before .before .before .get8 .ensures)) (c .before .before .before .before .before .before .before .before .before .before .before .put-number .ensures) then said (ap (λ (v : ℕ). spaced (digits v)) (c .before .before .before .before .before .before .before .get82 .ensures)) (c .before .before .before .before .before .before .put-spaced-number .ensures)) (c .before .before .put-two2 .ensures)
 
 pub put-time-line-spec : {M : Type 1} → statement M
 put-time-line-spec =

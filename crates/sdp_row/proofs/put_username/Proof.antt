@@ -12,11 +12,11 @@ use Rattle.sdp_row.proofs.put_username.Tie as tie
 
 returns : tie.Need-returns
 unfolding usernameText
-returns c = said (sym (ap (usernameText (bytesOf (now (c .before .before .before .before .before .before .before .before .before .args .text)))) (marked-none spanOf _ _ _ (c .before .before .before .before .before .num2 .ensures .0) (c .before .before .before .before .if1 .taken)))) (c .before .before .put-byte .ensures)
+returns c = said (sym (ap (usernameText (bytesOf (now (c .before .before .before .before .before .before .before .before .before .args .text)))) (marked-none spanOf _ _ _ (c .before .before .before .before .before .get2 .ensures .0) (c .before .before .before .before .if1 .taken)))) (c .before .before .put-byte .ensures)
 
 returns-2 : tie.Need-returns-2
 unfolding usernameText
-returns-2 c = said (sym (ap (usernameText (bytesOf (now (c .before .before .before .before .before .before .before .before .before .args .text)))) (marked-some spanOf _ _ _ (c .before .before .before .before .before .num2 .ensures .0) (c .before .before .before .before .if1 .left)))) (c .before .before .put-name .ensures)
+returns-2 c = said (sym (ap (usernameText (bytesOf (now (c .before .before .before .before .before .before .before .before .before .args .text)))) (marked-some spanOf _ _ _ (c .before .before .before .before .before .get2 .ensures .0) (c .before .before .before .before .if1 .left)))) (c .before .before .put-name .ensures)
 
 pub put-username-spec : {M : Type 1} → statement M
 put-username-spec =

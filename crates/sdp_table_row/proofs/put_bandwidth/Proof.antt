@@ -10,7 +10,7 @@ use Rattle.sdp_table_row.proofs.put_bandwidth.Tie as tie
 
 returns : tie.Need-returns
 unfolding bandwidthLine
-returns c = in-line (c .before .before .before .before .before .before .before .before .before .before .before .before .before .before .before .before .before .before .before .put-two .ensures) (c .before .before .before .before .before .before .before .before .before .before .before .before .before .before .before .put-string .ensures then c .before .before .before .before .before .before .before .before .before .before .before .put-byte .ensures then said (ap digits (c .before .before .before .before .before .before .before .num8 .ensures)) (c .before .before .before .before .before .before .put-number .ensures)) (c .before .before .put-two2 .ensures)
+returns c = in-line (c .before .before .before .before .before .before .before .before .before .before .before .before .before .before .before .before .before .before .before .put-two .ensures) (c .before .before .before .before .before .before .before .before .before .before .before .before .before .before .before .put-string .ensures then c .before .before .before .before .before .before .before .before .before .before .before .put-byte .ensures then said (ap digits (c .before .before .before .before .before .before .before .get8 .ensures)) (c .before .before .before .before .before .before .put-number .ensures)) (c .before .before .put-two2 .ensures)
 
 pub put-bandwidth-spec : {M : Type 1} → statement M
 put-bandwidth-spec =

@@ -11,10 +11,10 @@ use Rattle.sdp_table_row.proofs.put_value.Statement.{statement}
 use Rattle.sdp_table_row.proofs.put_value.Tie as tie
 
 returns : tie.Need-returns
-returns c = said (absent (λ x. (0x3a ∷ []) ++ clean (bytesOf (now (c .before .before .before .before .before .args .text)) x)) spanOf _ _ _ (c .before .num2 .ensures .0) (c .if1 .taken)) (nothing _ _)
+returns c = said (absent (λ x. (0x3a ∷ []) ++ clean (bytesOf (now (c .before .before .before .before .before .args .text)) x)) spanOf _ _ _ (c .before .get2 .ensures .0) (c .if1 .taken)) (nothing _ _)
 
 returns-2 : tie.Need-returns-2
-returns-2 c = said (present (λ x. (0x3a ∷ []) ++ clean (bytesOf (now (c .before .before .before .before .before .before .before .before .before .before .before .before .before .args .text)) x)) spanOf _ _ _ (c .before .before .before .before .before .before .before .before .before .num2 .ensures .0) (c .before .before .before .before .before .before .before .before .if1 .left)) (c .before .before .before .before .before .before .put-byte .ensures then c .before .before .put-string .ensures)
+returns-2 c = said (present (λ x. (0x3a ∷ []) ++ clean (bytesOf (now (c .before .before .before .before .before .before .before .before .before .before .before .before .before .args .text)) x)) spanOf _ _ _ (c .before .before .before .before .before .before .before .before .before .get2 .ensures .0) (c .before .before .before .before .before .before .before .before .if1 .left)) (c .before .before .before .before .before .before .put-byte .ensures then c .before .before .put-string .ensures)
 
 pub put-value-spec : {M : Type 1} → statement M
 put-value-spec =

@@ -9,7 +9,7 @@ use Rattle.sdp_table_row.proofs.put_zone.Tie as tie
 
 returns : tie.Need-returns
 unfolding zoneText
-returns c = c .before .before .before .before .before .before .before .before .before .before .before .before .before .before .before .before .put-between .ensures then said (ap digits (c .before .before .before .before .before .before .before .before .before .before .before .before .num8 .ensures)) (c .before .before .before .before .before .before .before .before .before .before .before .put-number .ensures) then c .before .before .before .before .before .before .before .put-byte .ensures then said (ap signedText (c .before .before .before .num82 .ensures)) (c .before .before .put-signed .ensures)
+returns c = c .before .before .before .before .before .before .before .before .before .before .before .before .before .before .before .before .put-between .ensures then said (ap digits (c .before .before .before .before .before .before .before .before .before .before .before .before .get8 .ensures)) (c .before .before .before .before .before .before .before .before .before .before .before .put-number .ensures) then c .before .before .before .before .before .before .before .put-byte .ensures then said (ap signedText (c .before .before .before .get82 .ensures)) (c .before .before .put-signed .ensures)
 
 pub put-zone-spec : {M : Type 1} → statement M
 put-zone-spec =

@@ -1,8 +1,8 @@
 -- `sdp_tables::put_all_times` meets its contract. Assumes nothing.
-use Rattle.sdp_tables.proofs.RowLaws.{Left, left-begin, left-turn, left-finish}
+use Rattle.sdp_valid.proofs.CountedLaws.{times-inside}
+use Rattle.sdp_tables.proofs.RowLaws.{Left, left-begin, left-here, left-turn, left-finish}
 use Rattle.sdp_row.specs.Written.{timeLines}
 use Rattle.sdp_decode.specs.Decode.{timeOf, repeatsIn, offsetsIn}
-use Rattle.sdp_cells.specs.Bytes.{num}
 use Rattle.sdp_area.specs.Area.{timesAt}
 use mathlib.Core.Path.{_≡_, refl}
 use mathlib.Core.List.{List}
@@ -18,25 +18,30 @@ abbrev lines : List ℕ → ℕ → ℕ → List ℕ
 lines a k p = timeLines (repeatsIn a) (offsetsIn a) k (timeOf a p)
 
 abbrev Inv-loop : tie.InvT-loop
-Inv-loop out₀ at text area count p₀ i₀ q₀ out p i q = (length out ≡ length out₀) × Left (lines area) 16 timesAt (num 2 area timesAt) count out₀ at out p i q
+Inv-loop out₀ at text area count p₀ i₀ q₀ out p i q = (length out ≡ length out₀) × Left (lines area) area 16 timesAt count out₀ at out p i q
 
 abbrev μ-loop : tie.MeasureT-loop
 μ-loop out₀ at text area count p₀ i₀ q₀ out p i q = count - i
 
-num2-requires : tie.Need-num2-requires Inv-loop μ-loop
-num2-requires c κs = tt
-
 loop-holds : tie.Need-loop-holds Inv-loop μ-loop
-loop-holds c = (refl, left-begin (lines (now (c .before .before .before .before .args .area))) 16 timesAt _ _ _ _ (c .num2 .ensures .0) (c .num2 .ensures .1))
+loop-holds c = let b = c .before .before .before .before in
+    (refl, left-begin (lines (now (b .args .area))) (now (b .args .area)) 16 timesAt _ _ _ (c .get2 .ensures .0) (times-inside _ (b .pre .0)))
+
+put-time-lines-requires : tie.Need-put-time-lines-requires Inv-loop μ-loop
+put-time-lines-requires c κs = let b = c .before .before .before .before .before .before .before in
+    let h = left-here _ _ _ _ _ _ _ (c .before .loop-test .taken) (c .before .before .loop .inv .1) in
+    (h, b .pre)
+
+add-p : tie.Need-add-p-2 Inv-loop μ-loop
+add-p c = let b = c .before .before .before .before .before .before .before .before .before .before in
+    let h = left-here _ _ _ _ _ _ _ (c .before .before .before .before .loop-test .taken) (c .before .before .before .before .before .loop .inv .1) in
+    omega (arith, h, b .good)
 
 loop-again : tie.Need-loop-again Inv-loop μ-loop
-loop-again c = (omega arith, left-turn (lines (now (c .before .before .before .before .before .before .before .before .before .before .args .area))) 16 timesAt _ _ _ _ (omega arith) (c .before .before .before .before .loop-test .taken) (c .before .before .before .before .before .loop .inv .1) (c .before .before .put-time-lines .ensures))
-
-same-length : tie.Need-same-length Inv-loop μ-loop
-same-length c = c .before .loop .inv .0
+loop-again c = (omega arith, left-turn _ _ _ _ _ _ _ (c .before .before .before .before .loop-test .taken) (c .before .before .before .before .before .loop .inv .1) (c .before .before .put-time-lines .ensures))
 
 returns : tie.Need-returns Inv-loop μ-loop
-returns c = left-finish (lines (now (c .before .before .before .before .before .before .args .area))) 16 timesAt _ _ _ _ (c .loop-test .left) (c .before .loop .inv .1)
+returns c = left-finish _ _ _ _ _ _ _ (c .loop-test .left) (c .before .loop .inv .1)
 
 pub put-all-times-spec : {M : Type 1} → statement M
 put-all-times-spec =
@@ -44,14 +49,14 @@ put-all-times-spec =
     (tie.spec
     Inv-loop
     μ-loop
-    num2-requires
+    (λ c κs. omega (arith, c .before .before .before .pre .0 .whole))
     (λ c. omega arith)
     loop-holds
     (λ c. omega arith)
-    (λ c κs. (omega (arith, c .before .before .loop .inv .1 .few, c .before .before .loop .inv .1 .near), c .before .before .before .before .before .before .before .pre))
-    (λ c. omega arith)
+    put-time-lines-requires
+    add-p
     (λ c. omega arith)
     (λ c. omega arith)
     loop-again
-    same-length
+    (λ c. c .before .loop .inv .0)
     returns)

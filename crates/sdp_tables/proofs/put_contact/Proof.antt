@@ -1,10 +1,11 @@
 -- `sdp_tables::put_contact` meets its contract. Assumes nothing.
+use Rattle.sdp_valid.proofs.CountedLaws.{emails-inside, phones-inside, bandwidths-inside}
 use Rattle.sdp_tables.proofs.OwnerLaws.{bandwidths-rise}
 use Rattle.sdp_decode.proofs.RowLaws.{each-rows}
 use Rattle.sdp_put.proofs.OutLaws.{_then_, said}
 use Rattle.sdp_row.specs.Written.{contactLines}
 use Rattle.sdp_decode.specs.Decode.{spanOf, bandwidthOf, decode}
-use native.Mathlib.Omega.{arith}
+use mathlib.Core.Path.{refl}
 use borrow.Author.Needs.{needs}
 use Rattle.sdp_tables.proofs.put_contact.Statement.{statement}
 use Rattle.sdp_tables.proofs.put_contact.Tie as tie
@@ -17,10 +18,10 @@ pub put-contact-spec : {M : Type 1} → statement M
 put-contact-spec =
     tie.close
     (tie.spec
+    (λ c κs. (refl, emails-inside _ (c .before .before .before .before .pre .0)))
+    (λ c κs. (refl, phones-inside _ (c .before .before .before .before .before .before .before .before .pre .0)))
     (λ c κs. search needs)
-    (λ c κs. search needs)
-    (λ c κs. search needs)
-    (λ c κs. ((omega arith, omega arith), bandwidths-rise _ (c .before .before .before .before .before .before .before .before .before .before .before .before .before .before .before .before .pre)))
+    (λ c κs. let b = c .before .before .before .before .before .before .before .before .before .before .before .before .before .before .before .before in ((refl, bandwidths-inside _ (b .pre .0)), bandwidths-rise _ (b .pre .1)))
     (λ c κs. search needs)
     (λ c. search needs)
     returns)

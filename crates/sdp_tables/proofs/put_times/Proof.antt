@@ -11,11 +11,11 @@ use Rattle.sdp_tables.proofs.put_times.Tie as tie
 
 returns : tie.Need-returns
 unfolding line
-returns c = said (times-none _ _ _ _ (c .before .before .before .before .before .before .num2 .ensures .0) _ _ (c .before .before .before .before .before .if1 .taken)) (c .before .before .put-all .ensures)
+returns c = said (times-none _ _ _ _ (c .before .before .before .before .before .before .get2 .ensures .0) _ _ (c .before .before .before .before .before .if1 .taken)) (c .before .before .put-all .ensures)
 
 returns-2 : tie.Need-returns-2
 unfolding line
-returns-2 c = said (each-rows (timeLines _ _) timeOf 16 _ _ _ _ ∙ times-some _ _ _ _ (c .before .before .before .before .before .num2 .ensures .0) _ _ (c .before .before .before .before .if1 .left)) (c .before .before .put-all-times .ensures)
+returns-2 c = said (each-rows (timeLines _ _) timeOf 16 _ _ _ _ ∙ times-some _ _ _ _ (c .before .before .before .before .before .get2 .ensures .0) _ _ (c .before .before .before .before .if1 .left)) (c .before .before .put-all-times .ensures)
 
 pub put-times-spec : {M : Type 1} → statement M
 put-times-spec =

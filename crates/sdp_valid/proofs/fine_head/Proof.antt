@@ -2,31 +2,26 @@
 use mathlib.Core.Path.{ap₂}
 use mathlib.Core.Bool.{_&&_}
 use Rattle.sdp_valid.specs.Judge.{fineHead}
-use Rattle.sdp_valid.proofs.JudgeLaws.{if-rest}
 use borrow.Author.Needs.{needs}
 use Rattle.sdp_valid.proofs.fine_head.Statement.{statement}
 use Rattle.sdp_valid.proofs.fine_head.Tie as tie
 
 returns : tie.Need-returns
 unfolding fineHead
-returns c = ap₂ _&&_ (if-rest _ _ _ _ (c .before .before .before .before .before .before .fine-if .ensures) (c .before .before .before .before .before .before .before .fine-origin .ensures))
-    (ap₂ _&&_ (c .before .before .before .before .before .fine-string .ensures)
-    (ap₂ _&&_ (c .before .before .before .before .fine-maybe .ensures)
-    (ap₂ _&&_ (c .before .before .before .fine-maybe2 .ensures)
-    (ap₂ _&&_ (if-rest _ _ _ _ (c .before .fine-if2 .ensures) (c .before .before .fine-connection .ensures))
+returns c = ap₂ _&&_ (c .before .before .before .before .before .fine-session-origin .ensures)
+    (ap₂ _&&_ (c .before .before .before .before .fine-string .ensures)
+    (ap₂ _&&_ (c .before .before .before .fine-maybe .ensures)
+    (ap₂ _&&_ (c .before .before .fine-maybe2 .ensures)
+    (ap₂ _&&_ (c .before .fine-session-connection .ensures)
     (c .fine-key .ensures)))))
 
 pub fine-head-spec : {M : Type 1} → statement M
 fine-head-spec =
     tie.close
     (tie.spec
-    (λ c. search needs)
     (λ c κs. search needs)
     (λ c κs. search needs)
     (λ c κs. search needs)
-    (λ c κs. search needs)
-    (λ c κs. search needs)
-    (λ c. search needs)
     (λ c κs. search needs)
     (λ c κs. search needs)
     (λ c κs. search needs)

@@ -9,7 +9,7 @@ use Rattle.sdp_valid.proofs.fine_media.Tie as tie
 returns : tie.Need-returns
 unfolding fineMedia
 returns c = ap₂ _&&_ (c .before .before .before .before .before .fine-string .ensures)
-    (ap₂ _&&_ (c .before .before .before .before .fine-if .ensures)
+    (ap₂ _&&_ (c .before .before .before .before .fine-mark .ensures)
     (ap₂ _&&_ (c .before .before .before .fine-string2 .ensures)
     (ap₂ _&&_ (c .before .before .fine-string3 .ensures)
     (ap₂ _&&_ (c .before .fine-maybe .ensures)

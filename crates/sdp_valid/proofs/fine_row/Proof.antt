@@ -1,7 +1,39 @@
 -- `sdp_valid::fine_row` meets its contract. Assumes nothing.
+use native.Mathlib.Omega.{arith}
+use Rattle.sdp_valid.proofs.CountedLaws.{kind-inside}
 use borrow.Author.Needs.{needs}
 use Rattle.sdp_valid.proofs.fine_row.Statement.{statement}
 use Rattle.sdp_valid.proofs.fine_row.Tie as tie
+
+fine-string-requires : tie.Need-fine-string-requires
+fine-string-requires c κs =
+    let b = c .before .before .before .before in
+    let h = kind-inside _ _ _ _ (c .enum-told .given .1) (b .pre .1) in
+    (b .pre .0, omega (arith, h))
+
+fine-connection-requires : tie.Need-fine-connection-requires
+fine-connection-requires c κs =
+    let b = c .before .before .before .before in
+    let h = kind-inside _ _ _ _ (c .enum-told2 .given .1) (b .pre .1) in
+    (b .pre .0, omega (arith, h))
+
+fine-string-requires-2 : tie.Need-fine-string-requires-2
+fine-string-requires-2 c κs =
+    let b = c .before .before .before .before in
+    let h = kind-inside _ _ _ _ (c .enum-told3 .given .1) (b .pre .1) in
+    (b .pre .0, omega (arith, h))
+
+fine-pair-requires : tie.Need-fine-pair-requires
+fine-pair-requires c κs =
+    let b = c .before .before .before .before in
+    let h = kind-inside _ _ _ _ (c .enum-told4 .given .1) (b .pre .1) in
+    (b .pre .0, omega (arith, h))
+
+fine-media-requires : tie.Need-fine-media-requires
+fine-media-requires c κs =
+    let b = c .before .before .before .before in
+    let h = kind-inside _ _ _ _ (c .enum-told5 .given .1) (b .pre .1) in
+    (b .pre .0, omega (arith, h))
 
 returns : tie.Need-returns
 returns c = rw (c .before .enum-told .given .1) (c .fine-string .ensures)
@@ -23,18 +55,18 @@ fine-row-spec =
     tie.close
     (tie.spec
     (λ c. search needs)
-    (λ c κs. search needs)
+    fine-string-requires
     (λ c. search needs)
     (λ c. search needs)
-    (λ c κs. search needs)
+    fine-connection-requires
     (λ c. search needs)
     (λ c. search needs)
-    (λ c κs. search needs)
+    fine-string-requires-2
     (λ c. search needs)
     (λ c. search needs)
-    (λ c κs. search needs)
+    fine-pair-requires
     (λ c. search needs)
-    (λ c κs. search needs)
+    fine-media-requires
     returns
     returns-2
     returns-3

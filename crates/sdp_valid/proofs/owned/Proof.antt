@@ -5,7 +5,7 @@ use Rattle.sdp_valid.proofs.owned.Statement.{statement}
 use Rattle.sdp_valid.proofs.owned.Tie as tie
 
 returns : tie.Need-returns
-returns c = rising-most _ _ _ _ _ _ _ _ (c .rising .ensures) (c .before .num2 .ensures .0)
+returns c = rising-most _ _ _ _ _ _ _ _ (c .rising .ensures) (c .before .get2 .ensures .0)
 
 pub owned-spec : {M : Type 1} → statement M
 owned-spec =

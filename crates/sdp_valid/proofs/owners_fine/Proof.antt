@@ -2,9 +2,25 @@
 use mathlib.Core.Path.{ap₂}
 use mathlib.Core.Bool.{_&&_}
 use Rattle.sdp_valid.specs.Judge.{owners}
-use borrow.Author.Needs.{needs}
+use native.Mathlib.Omega.{arith}
+use Rattle.sdp_valid.proofs.CountedLaws.{connections-inside, bandwidths-inside, repeats-inside, offsets-inside, attributes-inside}
 use Rattle.sdp_valid.proofs.owners_fine.Statement.{statement}
 use Rattle.sdp_valid.proofs.owners_fine.Tie as tie
+
+owned-requires : tie.Need-owned-requires
+owned-requires c κs = let h = c .before .pre in ((omega arith, connections-inside _ h), omega (arith, h .whole))
+
+owned-requires-2 : tie.Need-owned-requires-2
+owned-requires-2 c κs = let h = c .before .before .pre in ((omega arith, bandwidths-inside _ h), omega (arith, h .whole))
+
+owned-requires-3 : tie.Need-owned-requires-3
+owned-requires-3 c κs = let h = c .before .before .before .pre in ((omega arith, repeats-inside _ h), omega (arith, h .whole))
+
+owned-requires-4 : tie.Need-owned-requires-4
+owned-requires-4 c κs = let h = c .before .before .before .before .pre in ((omega arith, offsets-inside _ h), omega (arith, h .whole))
+
+owned-requires-5 : tie.Need-owned-requires-5
+owned-requires-5 c κs = let h = c .before .before .before .before .before .pre in ((omega arith, attributes-inside _ h), omega (arith, h .whole))
 
 returns : tie.Need-returns
 unfolding owners
@@ -18,9 +34,9 @@ pub owners-fine-spec : {M : Type 1} → statement M
 owners-fine-spec =
     tie.close
     (tie.spec
-    (λ c κs. search needs)
-    (λ c κs. search needs)
-    (λ c κs. search needs)
-    (λ c κs. search needs)
-    (λ c κs. search needs)
+    owned-requires
+    owned-requires-2
+    owned-requires-3
+    owned-requires-4
+    owned-requires-5
     returns)

@@ -1,0 +1,1 @@
+// No functions: what the length call and the fill say of each other, as a law over the definitions of writing.
