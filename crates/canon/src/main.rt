@@ -12,7 +12,8 @@ use sdp_put::put_all;
 use sdp_put::put_byte;
 use sdp_put::put_number;
 use sdp_read::read;
-use sdp_write::write;
+use sdp_write::fill;
+use sdp_write::length;
 
 // A call is made again while signals interrupt it, at most so many times.
 const TRIES: u64 = 1000000;
@@ -119,8 +120,8 @@ fn refusal(out: &mut [u8], a: Answer) -> usize
     put_byte(out, g, 10)
 }
 
-// Puts what is to be printed for a text into out, and answers its length. In an area of full size and so much room every
-// text that is read is written.
+// Puts what is to be printed for a text into out, and answers its length. In an area of full size every text that is read
+// has a length, there is so much room for it, and it is written into just that many bytes.
 fn canon(text: &[u8], area: &mut [u8], out: &mut [u8]) -> usize
     requires { ⌜ (size ≤ length (now area)) × (roomOfAny ≤ length (now out)) ⌝ }
     ensures { λ r. ⌜ Holds (printed (now (text .entry)) (now (area .entry))) (now (out .exit)) r ⌝ }
@@ -129,8 +130,9 @@ fn canon(text: &[u8], area: &mut [u8], out: &mut [u8]) -> usize
     if a.number != 0 {
         return refusal(out, a);
     }
-    let w = write(text, area, out);
-    w.len as usize
+    let n = length(text, area).len as usize;
+    fill(text, area, &mut out[..n]);
+    n
 }
 
 // One byte more than a text may have tells that it is too long. The area has sdp_area's SIZE, and out the room that canon

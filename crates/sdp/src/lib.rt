@@ -6,7 +6,7 @@ ghost use Rattle.sdp_number.specs.Number.{wholeNumber, typedTime};
 ghost use Rattle.sdp_lines.specs.Lines.{cutAt};
 ghost use Rattle.sdp_area.specs.Area.{size};
 ghost use Rattle.sdp_read.specs.Run.{readText};
-ghost use Rattle.sdp_write.specs.Write.{fillText};
+ghost use Rattle.sdp_write.specs.Write.{lengthText, fillText};
 ghost use Rattle.sdp_order.specs.Order.{orderOf, verdictOf};
 ghost use Rattle.sdp_hours.specs.Starts.{startsText};
 ghost use Rattle.sdp_starts.specs.Returned.{returned};
@@ -83,9 +83,17 @@ pub extern "C" fn sdp_read(text: &[u8], area: &mut [u8]) -> Answer
     sdp_read::read(text, area)
 }
 
-// Writes the session of a record area, whose strings stand in the text, into out. docs/FFI.md has the answers.
+// The length of the written form of the session of a record area, whose strings stand in the text. docs/FFI.md has the answers.
 #[no_mangle]
-pub extern "C" fn sdp_write(text: &[u8], area: &[u8], out: &mut [u8]) -> Answer
+pub extern "C" fn sdp_length(text: &[u8], area: &[u8]) -> Answer
+    ensures { λ r. ⌜ r ≡ lengthText (now (text .entry)) (now (area .entry)) ⌝ }
+{
+    sdp_write::length(text, area)
+}
+
+// Writes that form into out, where there is room for it.
+#[no_mangle]
+pub extern "C" fn sdp_fill(text: &[u8], area: &[u8], out: &mut [u8]) -> Answer
     ensures { λ r. ⌜ r ≡ fillText (now (text .entry)) (now (area .entry)) (now (out .entry)) .answer ⌝ }
     ensures { λ r. ⌜ now (out .exit) ≡ fillText (now (text .entry)) (now (area .entry)) (now (out .entry)) .out ⌝ }
 {

@@ -44,6 +44,7 @@ use Rattle.sdp_lists.proofs.RepeatHead.parse.Reads as sdpListsRepeatHeadParse
 use Rattle.sdp_lists.proofs.repeat_offset.Reads as sdpListsRepeatOffset
 use Rattle.sdp_lists.proofs.Zone.parse.Reads as sdpListsZoneParse
 use Rattle.sdp_cells.proofs.get2.Reads as sdpCellsGet2
+use Rattle.sdp_cells.proofs.get8.Reads as sdpCellsGet8
 use Rattle.sdp_cells.proofs.put_words.Reads as sdpCellsPutWords
 use Rattle.sdp_cells.proofs.push_words.Reads as sdpCellsPushWords
 use Rattle.sdp_cells.proofs.marked.Reads as sdpCellsMarked
@@ -78,16 +79,18 @@ use Rattle.sdp_read.proofs.read.Reads as sdpReadRead
 use Rattle.sdp_put.proofs.put_byte.Reads as sdpPutPutByte
 use Rattle.sdp_put.proofs.put_two.Reads as sdpPutPutTwo
 use Rattle.sdp_put.proofs.dropped.Reads as sdpPutDropped
+use Rattle.sdp_put.proofs.put_all.Reads as sdpPutPutAll
 use Rattle.sdp_put.proofs.put_text.Reads as sdpPutPutText
+use Rattle.sdp_put.proofs.text_len.Reads as sdpPutTextLen
 use Rattle.sdp_put.proofs.put_number.Reads as sdpPutPutNumber
 use Rattle.sdp_put.proofs.put_time.Reads as sdpPutPutTime
 use Rattle.sdp_put.proofs.put_offset.Reads as sdpPutPutOffset
-use Rattle.sdp_put.proofs.put_all.Reads as sdpPutPutAll
 use Rattle.sdp_decode.proofs.num2.Reads as sdpDecodeNum2
 use Rattle.sdp_decode.proofs.num8.Reads as sdpDecodeNum8
 use Rattle.sdp_valid.proofs.judge.Reads as sdpValidJudge
 use Rattle.sdp_unfit.proofs.unfit.Reads as sdpUnfitUnfit
 use Rattle.sdp_room.proofs.room_for.Reads as sdpRoomRoomFor
+use Rattle.sdp_length.proofs.length_of.Reads as sdpLengthLengthOf
 use Rattle.sdp_row.proofs.put_string.Reads as sdpRowPutString
 use Rattle.sdp_row.proofs.put_string_line.Reads as sdpRowPutStringLine
 use Rattle.sdp_row.proofs.put_maybe_line.Reads as sdpRowPutMaybeLine
@@ -101,7 +104,8 @@ use Rattle.sdp_table_row.proofs.put_row.Reads as sdpTableRowPutRow
 use Rattle.sdp_tables.proofs.put_contact.Reads as sdpTablesPutContact
 use Rattle.sdp_tables.proofs.put_closing.Reads as sdpTablesPutClosing
 use Rattle.sdp_tables.proofs.put_medias.Reads as sdpTablesPutMedias
-use Rattle.sdp_write.proofs.write.Reads as sdpWriteWrite
+use Rattle.sdp_write.proofs.length.Reads as sdpWriteLength
+use Rattle.sdp_write.proofs.fill.Reads as sdpWriteFill
 use Rattle.sdp_window.proofs.run_in_part.Reads as sdpWindowRunInPart
 use Rattle.sdp_listing.proofs.put_run.Reads as sdpListingPutRun
 use Rattle.sdp_starts.proofs.starts_in.Reads as sdpStartsStartsIn
@@ -118,7 +122,8 @@ use Rattle.sdp.proofs.sdp_number64.Reads as sdpSdpNumber64
 use Rattle.sdp.proofs.sdp_typed_time.Reads as sdpSdpTypedTime
 use Rattle.sdp.proofs.sdp_cut.Reads as sdpSdpCut
 use Rattle.sdp.proofs.sdp_read.Reads as sdpSdpRead
-use Rattle.sdp.proofs.sdp_write.Reads as sdpSdpWrite
+use Rattle.sdp.proofs.sdp_length.Reads as sdpSdpLength
+use Rattle.sdp.proofs.sdp_fill.Reads as sdpSdpFill
 use Rattle.sdp.proofs.sdp_letter_order.Reads as sdpSdpLetterOrder
 use Rattle.sdp.proofs.sdp_starts.Reads as sdpSdpStarts
 use Rattle.sdp.proofs.sdp_area_size.Reads as sdpSdpAreaSize
@@ -251,6 +256,9 @@ sdp-lists-Zone-parse κs a z z′ e e′ p q = same p q
 pub sdp-cells-get2 : OneAnswer sdpCellsGet2.Learnt
 sdp-cells-get2 κs a z z′ e e′ p q = same (p .0) (q .0)
 
+pub sdp-cells-get8 : OneAnswer sdpCellsGet8.Learnt
+sdp-cells-get8 κs a z z′ e e′ p q = same p q
+
 pub sdp-cells-put-words : OneState (λ κs e. now (e .0)) sdpCellsPutWords.Learnt
 sdp-cells-put-words κs a z z′ e e′ p q = (refl, same p q)
 
@@ -361,8 +369,14 @@ sdp-put-put-two κs a z z′ e e′ l k p q = same-put l k p q
 pub sdp-put-dropped : OneAnswer sdpPutDropped.Learnt
 sdp-put-dropped κs a z z′ e e′ p q = same p q
 
+pub sdp-put-put-all : OnePut (λ κs a. now (a .0)) (λ κs a. a .1 .0) (λ κs e. now (e .0)) sdpPutPutAll.Learnt
+sdp-put-put-all κs a z z′ e e′ l k p q = same-put l k p q
+
 pub sdp-put-put-text : OnePut (λ κs a. now (a .0)) (λ κs a. a .1 .0) (λ κs e. now (e .0)) sdpPutPutText.Learnt
 sdp-put-put-text κs a z z′ e e′ l k p q = same-put l k p q
+
+pub sdp-put-text-len : OneAnswer sdpPutTextLen.Learnt
+sdp-put-text-len κs a z z′ e e′ p q = same (p .0) (q .0)
 
 pub sdp-put-put-number : OnePut (λ κs a. now (a .0)) (λ κs a. a .1 .0) (λ κs e. now (e .0)) sdpPutPutNumber.Learnt
 sdp-put-put-number κs a z z′ e e′ l k p q = same-put l k p q
@@ -372,9 +386,6 @@ sdp-put-put-time κs a z z′ e e′ l k p q = same-put l k p q
 
 pub sdp-put-put-offset : OnePut (λ κs a. now (a .0)) (λ κs a. a .1 .0) (λ κs e. now (e .0)) sdpPutPutOffset.Learnt
 sdp-put-put-offset κs a z z′ e e′ l k p q = same-put l k p q
-
-pub sdp-put-put-all : OnePut (λ κs a. now (a .0)) (λ κs a. a .1 .0) (λ κs e. now (e .0)) sdpPutPutAll.Learnt
-sdp-put-put-all κs a z z′ e e′ l k p q = same-put l k p q
 
 -- ---- sdp_decode
 pub sdp-decode-num2 : OneAnswer sdpDecodeNum2.Learnt
@@ -394,6 +405,10 @@ sdp-unfit-unfit κs a z z′ e e′ p q = same p q
 -- ---- sdp_room
 pub sdp-room-room-for : OneAnswer sdpRoomRoomFor.Learnt
 sdp-room-room-for κs a z z′ e e′ p q = same (p .0) (q .0)
+
+-- ---- sdp_length
+pub sdp-length-length-of : OneAnswer sdpLengthLengthOf.Learnt
+sdp-length-length-of κs a z z′ e e′ p q = same (p .0) (q .0)
 
 -- ---- sdp_row
 pub sdp-row-put-string : OnePut (λ κs a. now (a .0)) (λ κs a. a .1 .0) (λ κs e. now (e .0)) sdpRowPutString.Learnt
@@ -438,8 +453,11 @@ pub sdp-tables-put-medias : OnePut (λ κs a. now (a .0)) (λ κs a. a .1 .0) (�
 sdp-tables-put-medias κs a z z′ e e′ l k p q = same-put l k p q
 
 -- ---- sdp_write
-pub sdp-write-write : OneState (λ κs e. now (e .1 .1 .0)) sdpWriteWrite.Learnt
-sdp-write-write κs a z z′ e e′ p q = (same (p .0) (q .0), same (p .1) (q .1))
+pub sdp-write-length : OneAnswer sdpWriteLength.Learnt
+sdp-write-length κs a z z′ e e′ p q = same p q
+
+pub sdp-write-fill : OneState (λ κs e. now (e .1 .1 .0)) sdpWriteFill.Learnt
+sdp-write-fill κs a z z′ e e′ p q = (same (p .0) (q .0), same (p .1) (q .1))
 
 -- ---- sdp_window
 pub sdp-window-run-in-part : OneAnswer sdpWindowRunInPart.Learnt
@@ -496,8 +514,11 @@ sdp-sdp-cut κs a z z′ e e′ p q = same p q
 pub sdp-sdp-read : OneState (λ κs e. now (e .1 .0)) sdpSdpRead.Learnt
 sdp-sdp-read κs a z z′ e e′ p q = (same (p .0) (q .0), same (p .1) (q .1))
 
-pub sdp-sdp-write : OneState (λ κs e. now (e .1 .1 .0)) sdpSdpWrite.Learnt
-sdp-sdp-write κs a z z′ e e′ p q = (same (p .0) (q .0), same (p .1) (q .1))
+pub sdp-sdp-length : OneAnswer sdpSdpLength.Learnt
+sdp-sdp-length κs a z z′ e e′ p q = same p q
+
+pub sdp-sdp-fill : OneState (λ κs e. now (e .1 .1 .0)) sdpSdpFill.Learnt
+sdp-sdp-fill κs a z z′ e e′ p q = (same (p .0) (q .0), same (p .1) (q .1))
 
 pub sdp-sdp-letter-order : OneAnswer sdpSdpLetterOrder.Learnt
 sdp-sdp-letter-order κs a z z′ e e′ p q = same p q

@@ -51,8 +51,7 @@ writes : (t : List ℕ) (s : Session Span) (w : List ℕ) → ltb 32768 (length 
 unfolding sessionOf
 writes t s w p e f a o h k =
     let r = read-then-write t a o (ap (λ x. x .answer .number) (accepts t s p e a h)) in
-    let same : r .session ≡ s = ap sessionOf (sym (r .read) ∙ e) in
-    (
+    let same : r .session ≡ s = ap sessionOf (sym (r .read) ∙ e) in (
       r .known ∙ (ap (λ x. answer 0 (length (written (bytesOf t) x))) same ∙ ap (λ x. answer 0 (length x)) f),
       r .outcome ∙ (ap (λ x. fill (written (bytesOf t) x) o) same ∙ (ap (λ x. fill x o) f ∙ fills w o k)),
     )

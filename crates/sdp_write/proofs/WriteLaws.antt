@@ -1,28 +1,33 @@
--- The whole: the answers by cases, and what the two passes leave. Assumes nothing.
+-- The whole: the answers by cases, and what is put. Assumes nothing.
 use mathlib.Core.Path.{_≡_, refl, sym, ap, _∙_}
-use mathlib.Core.Bool.{Bool, true, false, cond, _&&_}
+use mathlib.Core.Bool.{Bool, true, false, cond}
 use mathlib.Core.List.{List, _++_}
-use Prim.Native.Nat.{ℕ, _+_, _≤_, _<_, _^_}
+use Prim.Native.Nat.{ℕ, _≤_, _<_, _^_}
 use native.Mathlib.Omega.{arith}
 use lib.ListN.{length, drop}
 use lib.Seq.{take-at}
 use lib.Dec.{ltb, eqb}
-use borrow.Author.Tests.{lt-ltb, le-ltb, ne-eqb, eqb-false}
+use borrow.Author.Tests.{lt-ltb, le-ltb, ltb-true, ltb-false, ne-eqb, eqb-false}
 use Rattle.sdp_lines.specs.declared.Answer.{Answer}
-use Rattle.sdp_put.specs.Out.{put, Put}
-use Rattle.sdp_put.proofs.OutLaws.{put-out, put-room}
-use Rattle.sdp_bytes.proofs.ScanLaws.{and-left, and-right}
-use Rattle.sdp_valid.specs.Judge as judge
-use Rattle.sdp_valid.specs.Judge.{owners, smallCounts, largeCounts, fineHead, fineTables}
+use Rattle.sdp_put.specs.Out.{Put}
+use Rattle.sdp_put.proofs.OutLaws.{put-room}
 use Rattle.sdp_unfit.specs.Unfit.{unfit}
-use Rattle.sdp_unfit.proofs.UnfitLaws.{fit-formed}
-use Rattle.sdp_write.specs.Write.{Outcome, answer, textOf, wrote, fill, fillText}
+use Rattle.sdp_write.specs.Write.{Outcome, answer, textOf, lengthText, wrote, fill, fillText}
 
 -- what an answer and an output must be, by a case of the outcome
 pub settled : (r : Answer) (o′ : List ℕ) (x y : Outcome) → y ≡ x → r ≡ x .answer → o′ ≡ x .out → (r ≡ y .answer) × (o′ ≡ y .out)
 settled r o′ x y e p q = (p ∙ sym (ap (λ (z : Outcome). z .answer) e), q ∙ sym (ap (λ (z : Outcome). z .out) e))
 
 -- ---- the answers
+module _ (t a : List ℕ) where
+  pub no-length : (n : ℕ) → n ≡ unfit t a → (n ≡ 0 → ⊥) → lengthText t a ≡ answer n 0
+  unfolding lengthText
+  no-length n e h = rw (← e, ne-eqb n 0 h)
+
+  pub its-length : unfit t a ≡ 0 → (n : ℕ) → n ≡ length (textOf t a) → lengthText t a ≡ answer 0 n
+  unfolding lengthText
+  its-length f n e = rw (f, ← e)
+
 module _ (t a o : List ℕ) where
   pub not-written : (n : ℕ) → n ≡ unfit t a → (n ≡ 0 → ⊥) → fillText t a o ≡ record { answer = answer n 0; out = o }
   unfolding fillText
@@ -53,30 +58,31 @@ wrote-text t a o = go (eqb (unfit t a) 0) refl
     go true e n = wrote-fill (textOf t a) o n
     go false e n = absurd (eqb-false (unfit t a) 0 e n)
 
--- the owners of a session that fits
-pub well-owned : (a t : List ℕ) → unfit t a ≡ 0 → owners a ≡ true
-unfolding judge.wellFormed
-well-owned a t f = and-left (owners a) (fineHead a t && fineTables a t) (and-right (largeCounts a) _ (and-right (smallCounts a) _ (fit-formed t a f)))
+-- ---- what stands above full, and whether anything does
+module _ (full m r : ℕ) (e : r ≡ cond (ltb full m) m 0) where
+  pub above-some : (r ≡ 0 → ⊥) → (r ≡ m) × (full < m)
+  above-some = go (ltb full m) refl e
+    where
+      go : (b : Bool) → ltb full m ≡ b → r ≡ cond b m 0 → (r ≡ 0 → ⊥) → (r ≡ m) × (full < m)
+      go true t e n = (e, ltb-true full m t)
+      go false t e n = absurd (n e)
 
--- ---- one pass, where there is room
-pub fits : (o o₁ w : List ℕ) (end room : ℕ) → length w ≤ room → room ≤ length o → length o < 2 ^ 63 → Put o 0 w o₁ end
-    → (end ≡ length w) × (end ≤ length o) × (o₁ ≡ w ++ drop end o)
-fits o o₁ w end room short enough far one =
+  pub above-none : r ≡ 0 → m ≤ full
+  above-none = go (ltb full m) refl e
+    where
+      go : (b : Bool) → ltb full m ≡ b → r ≡ cond b m 0 → r ≡ 0 → m ≤ full
+      go true t e n = absurd (omega (arith, e, ltb-true full m t))
+      go false t e n = ltb-false full m t
+
+pub is-above : (full m : ℕ) → full < m → m ≡ cond (ltb full m) m 0
+is-above full m h = rw (lt-ltb full m h)
+
+pub not-above : (full m : ℕ) → m ≤ full → 0 ≡ cond (ltb full m) m 0
+not-above full m h = rw (le-ltb full m h)
+
+-- ---- put where there is room
+pub fits : (o o₁ w : List ℕ) (end : ℕ) → length w ≤ length o → length o < 2 ^ 63 → Put o 0 w o₁ end → (end ≡ length w) × (o₁ ≡ w ++ drop end o)
+fits o o₁ w end room far one =
     let f = one .puts (omega arith) (omega arith) in
     let e : end ≡ length w = omega (arith, f .1) in
-    (e, omega arith, f .0 ∙ put-room w o (omega arith) ∙ ap (λ (k : ℕ). w ++ drop k o) (sym e))
-
--- ---- the two passes
-module _ (o o₁ w : List ℕ) (end : ℕ) (short : length w < 2 ^ 62) (fits : length o < 2 ^ 63) (count : Put o (length o) w o₁ end) where
-  pub counted : (o₁ ≡ o) × (end ≡ length o + length w)
-  counted =
-      let f = count .puts (omega arith) (omega arith) in
-      (f .0 ∙ put-out w o (length o) (omega arith), omega (arith, f .1))
-
-  pub filled : (o₂ : List ℕ) (r n : ℕ) → n ≡ length w → n ≤ length o → Put o₁ 0 w o₂ r → o₂ ≡ w ++ drop n o
-  filled o₂ r n e h fill =
-      let same = counted .0 in
-      fill .puts (omega (arith, ap length same)) (omega arith) .0
-      ∙ ap (λ (l : List ℕ). put l 0 w) same
-      ∙ put-room w o (omega arith)
-      ∙ ap (λ (k : ℕ). w ++ drop k o) (sym e)
+    (e, f .0 ∙ put-room w o room ∙ ap (λ (k : ℕ). w ++ drop k o) (sym e))

@@ -139,11 +139,12 @@ fn part_out(s: &[u8], at: usize, len: usize) {
     io::write_all(STDOUT_FILENO, &s[at..end]);
 }
 
-// Both answers of the writer, to an output without room and to one with room, and then what it wrote.
+// The answers of the writer: its length, to an output without room and to one with room; and then what it wrote.
 fn both_out(s: &[u8], area: &[u8], out: &mut [u8]) {
+    answer_out(sdp::sdp_length(s, area));
     let mut short = [0u8; 1];
-    answer_out(sdp::sdp_write(s, area, &mut short));
-    let a = sdp::sdp_write(s, area, out);
+    answer_out(sdp::sdp_fill(s, area, &mut short));
+    let a = sdp::sdp_fill(s, area, out);
     let n = a.len as usize;
     answer_out(a);
     line_out();

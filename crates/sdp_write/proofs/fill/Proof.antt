@@ -1,9 +1,8 @@
 -- `sdp_write::fill` meets its contract. Assumes nothing.
-use Rattle.sdp_write.proofs.WriteLaws.{well-owned, settled, not-written, out-short, all-written, fits, counted, filled}
-use Rattle.sdp_room.proofs.RoomLaws.{written-room}
+use Rattle.sdp_write.proofs.WriteLaws.{settled, not-written, out-short, all-written, above-some, above-none, fits}
 use Rattle.sdp_write.specs.Write.{textOf}
-use mathlib.Core.Path.{_≡_, refl, sym, _∙_}
-use Prim.Native.Nat.{_-_}
+use Rattle.sdp_unfit.proofs.UnfitLaws.{fit-counted, fit-owned}
+use mathlib.Core.Path.{refl, sym, _∙_}
 use native.Mathlib.Omega.{arith}
 use lib.ListN.{length}
 use denote.Ref.{now}
@@ -14,51 +13,30 @@ use Rattle.sdp_write.proofs.fill.Tie as tie
 returns : tie.Need-returns
 returns c = settled _ _ _ _ (not-written _ _ _ _ (c .before .before .unfit .ensures) (c .before .if1 .taken)) (c .told .ensures) refl
 
--- there is room for sure
-returns-2 : tie.Need-returns-2
-returns-2 c = let m = c .before .before .before .before .before .before in
-    let b = m .before .before .before .before .before .before in
-    let t = now (b .args .text) in
-    let a = now (b .args .area) in
-    let o = now (b .args .out) in
-    let w = written-room t a (λ i. omega (arith, m .before .before .before .before .shared-slice-known2 .given i)) in
-    let f = fits o _ (textOf t a) (c .before .before .before .put-session .result) (m .room-for .result) (omega (arith, w, m .room-for .ensures .0)) (c .before .before .before .before .before .if2 .taken) (omega arith) (c .before .before .before .put-session .ensures) in
-    settled _ _ _ _ (all-written t a o (sym (m .before .before .unfit .ensures) ∙ m .before .if1 .left) (c .before .before .before .put-session .result) (f .0) (f .1)) (c .told2 .ensures) (f .2)
+above-requires : tie.Need-above-requires
+above-requires c κs = let f = sym (c .before .unfit .ensures) ∙ c .if1 .left in (fit-counted _ _ f, fit-owned _ _ f)
 
-sub-n : tie.Need-sub-n
-sub-n c = let m = c .before .before .before .before .before in
-    let b = m .before .before .before .before .before .before in
-    let t = now (b .args .text) in
-    let a = now (b .args .area) in
-    let o = now (b .args .out) in
-    let w = written-room t a (λ i. omega (arith, m .before .before .before .before .shared-slice-known2 .given i)) in
-    let n = counted o (c .before .before .put-session2 .last .0) (textOf t a) (c .before .before .put-session2 .result) (omega (arith, w, m .room-for .ensures .0, m .room-for .ensures .1)) (omega arith) (c .before .before .put-session2 .ensures) in
-    omega (arith, n .1)
+returns-2 : tie.Need-returns-2
+returns-2 c =
+    let k = c .before .before .before in
+    let b = k .before .before .before .before .before in
+    let n = above-some (length (now (b .args .out))) (length (textOf (now (b .args .text)) (now (b .args .area)))) _ (c .before .before .above .ensures) (c .before .if2 .taken) in
+    settled _ _ _ _ (out-short _ _ _ (sym (k .before .unfit .ensures) ∙ k .if1 .left) _ (n .0) (omega (arith, n .0, n .1))) (c .told2 .ensures) refl
+
+put-session-requires : tie.Need-put-session-requires
+put-session-requires c κs = let k = c .before .before .before in let f = sym (k .before .unfit .ensures) ∙ k .if1 .left in (fit-counted _ _ f, fit-owned _ _ f)
 
 returns-3 : tie.Need-returns-3
-returns-3 c = let m = c .before .before .before .before .before .before .before in
-    let b = m .before .before .before .before .before .before in
+returns-3 c =
+    let p = c .before .before .before in
+    let k = p .before .before .before .before in
+    let b = k .before .before .before .before .before in
     let t = now (b .args .text) in
     let a = now (b .args .area) in
     let o = now (b .args .out) in
-    let w = written-room t a (λ i. omega (arith, m .before .before .before .before .shared-slice-known2 .given i)) in
-    let p = c .before .before .before .before in
-    let n = counted o (p .put-session2 .last .0) (textOf t a) (p .put-session2 .result) (omega (arith, w, m .room-for .ensures .0, m .room-for .ensures .1)) (omega arith) (p .put-session2 .ensures) in
-    let k : p .put-session2 .result - length o ≡ length (textOf t a) = omega (arith, n .1) in
-    settled _ _ _ _ (out-short t a o (sym (m .before .before .unfit .ensures) ∙ m .before .if1 .left) (p .put-session2 .result - length o) k (c .before .if3 .taken)) (c .told3 .ensures) (n .0)
-
-returns-4 : tie.Need-returns-4
-returns-4 c = let m = c .before .before .before .before .before .before .before .before .before .before .before in
-    let b = m .before .before .before .before .before .before in
-    let t = now (b .args .text) in
-    let a = now (b .args .area) in
-    let o = now (b .args .out) in
-    let w = written-room t a (λ i. omega (arith, m .before .before .before .before .shared-slice-known2 .given i)) in
-    let p = c .before .before .before .before .before .before .before .before in
-    let n = counted o (p .put-session2 .last .0) (textOf t a) (p .put-session2 .result) (omega (arith, w, m .room-for .ensures .0, m .room-for .ensures .1)) (omega arith) (p .put-session2 .ensures) in
-    let k : p .put-session2 .result - length o ≡ length (textOf t a) = omega (arith, n .1) in
-    settled _ _ _ _ (all-written t a o (sym (m .before .before .unfit .ensures) ∙ m .before .if1 .left) (p .put-session2 .result - length o) k (c .before .before .before .before .before .if3 .left)) (c .told4 .ensures)
-    (filled o (p .put-session2 .last .0) (textOf t a) (p .put-session2 .result) (omega (arith, w, m .room-for .ensures .0, m .room-for .ensures .1)) (omega arith) (p .put-session2 .ensures) (c .before .before .before .put-session3 .last .0) (c .before .before .before .put-session3 .result) (p .put-session2 .result - length o) k (c .before .before .before .before .before .if3 .left) (c .before .before .before .put-session3 .ensures))
+    let room = above-none (length o) (length (textOf t a)) _ (p .before .before .before .above .ensures) (p .before .before .if2 .left) in
+    let f = fits o _ (textOf t a) (p .put-session .result) room (omega arith) (p .put-session .ensures) in
+    settled _ _ _ _ (all-written t a o (sym (k .before .unfit .ensures) ∙ k .if1 .left) (p .put-session .result) (f .0) (omega (arith, f .0, room))) (c .told3 .ensures) (f .1)
 
 pub fill-spec : {M : Type 1} → statement M
 fill-spec =
@@ -67,17 +45,10 @@ fill-spec =
     (λ c κs. search needs)
     (λ c κs. search needs)
     returns
+    above-requires
     (λ c κs. search needs)
-    (λ c κs. let m = c .before .before in well-owned _ _ (sym (m .before .before .unfit .ensures) ∙ m .before .if1 .left))
-    (λ c κs. search needs)
-    (λ c. search needs)
     returns-2
-    (λ c κs. let m = c .before .before in well-owned _ _ (sym (m .before .before .unfit .ensures) ∙ m .before .if1 .left))
-    sub-n
+    put-session-requires
     (λ c κs. search needs)
     (λ c. search needs)
-    returns-3
-    (λ c κs. let m = c .before .before .before .before .before .before .before in well-owned _ _ (sym (m .before .before .unfit .ensures) ∙ m .before .if1 .left))
-    (λ c κs. search needs)
-    (λ c. search needs)
-    returns-4)
+    returns-3)

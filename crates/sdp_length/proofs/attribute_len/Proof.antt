@@ -1,0 +1,23 @@
+-- `sdp_length::attribute_len` meets its contract. Assumes nothing.
+use Rattle.sdp_length.proofs.LineLaws.{attribute-line}
+use native.Mathlib.Omega.{arith}
+use denote.Ref.{now}
+use borrow.Author.Needs.{needs}
+use Rattle.sdp_length.proofs.attribute_len.Statement.{statement}
+use Rattle.sdp_length.proofs.attribute_len.Tie as tie
+
+returns : tie.Need-returns
+returns c = let b = c .before .before .before .before in
+    (omega (arith, attribute-line (now (b .args .text)) (now (b .args .area)) (b .args .p)), omega arith)
+
+pub attribute-len-spec : {M : Type 1} → statement M
+attribute-len-spec =
+    tie.close
+    (tie.spec
+    (λ c. search needs)
+    (λ c κs. search needs)
+    (λ c. search needs)
+    (λ c. search needs)
+    (λ c κs. search needs)
+    (λ c. search needs)
+    returns)
