@@ -2,17 +2,17 @@
 use Prim.Native.Nat.{ℕ, _≤_, _<_, _^_}
 use native.Mathlib.Omega.{arith}
 use mathlib.Core.Path.{_≡_, refl, sym, ap, _∙_}
-use mathlib.Core.List.{List, [], _∷_, _++_}
+use mathlib.Core.List.{List, [], _∷_, _++_, append-assoc}
 use lib.ListN.{length, take, drop, length-append}
-use lib.Seq.{take-at}
+use lib.Seq.{take-at, length-take-le}
 use borrow.Author.Tests.{eq-eqb, ne-eqb}
 use Rattle.sdp_lines.specs.declared.Answer.{Answer}
 use Rattle.sdp_put.specs.Digits.{digits}
 use Rattle.sdp_put.specs.Out.{Put}
 use Rattle.sdp_put.proofs.OutLaws.{put-room}
 use Rattle.sdp_read.specs.Run.{readText}
-use Rattle.sdp_write.specs.Write.{Outcome, textOf, fillText}
-use Rattle.sdp_same.specs.Same.{filled}
+use Rattle.sdp_write.specs.Write.{Outcome, answer, textOf, lengthText, fillText}
+use Rattle.sdp_fills.proofs.FillLaws.{length-then-fill}
 use Rattle.sdp_bound.specs.Bound.{roomOfAny}
 use Rattle.sdp_bound.proofs.RoomLaws.{room}
 use Rattle.sdp_room.proofs.LengthLaws.{digits-20}
@@ -47,18 +47,35 @@ told o o′ bs r short long small p =
 number-of : {x y : Answer} → x ≡ y → y .number ≡ x .number
 number-of e = sym (ap (λ (z : Answer). z .number) e)
 
-module _ (t a o′ : List ℕ) (x : Answer) (ex : x ≡ readText t a .answer) where
-  pub read-refused : (r : ℕ) → (x .number ≡ 0 → ⊥) → Holds (refusedLine x) o′ r → Holds (printed t a) o′ r
-  read-refused r n h = said (rw (ne-eqb (readText t a .answer .number) 0 (λ z. n (sym (number-of ex) ∙ z))) (ap refusedLine ex)) h
+module _ (t a : List ℕ) (x : Answer) (ex : x ≡ readText t a .answer) where
+  pub read-refused : (o′ : List ℕ) (r : ℕ) → (x .number ≡ 0 → ⊥) → Holds (refusedLine x) o′ r → Holds (printed t a) o′ r
+  read-refused o′ r n h = said (rw (ne-eqb (readText t a .answer .number) 0 (λ z. n (sym (number-of ex) ∙ z))) (ap refusedLine ex)) h
 
-  pub all-written : x .number ≡ 0 → (a′ : List ℕ) → a′ ≡ readText t a .area → (o : List ℕ) → roomOfAny ≤ length o → (w : Answer) → w ≡ fillText t a′ o .answer
-      → o′ ≡ fillText t a′ o .out → Holds (printed t a) o′ (w .len)
-  all-written z a′ ea o big w ew eo =
-      let s : List ℕ = textOf t (readText t a .area) in
-      let h : readText t a .answer .number ≡ 0 = number-of ex ∙ z in
-      let e : fillText t a′ o ≡ filled s o = ap (λ (b : List ℕ). fillText t b o) ea ∙ room t a h .written o big in
-      let p : s ≡ printed t a = rw (eq-eqb (readText t a .answer .number) 0 h) in
-      said p
-      (begins s (drop (length s) o) o′ (w .len)
-      (ap (λ (y : Answer). y .len) (ew ∙ ap (λ (y : Outcome). y .answer) e))
-      (eo ∙ ap (λ (y : Outcome). y .out) e))
+  -- the text is read, and l is the answer of the length call
+  module _ (z : x .number ≡ 0) (a′ : List ℕ) (ea : a′ ≡ readText t a .area) (l : Answer) (el : l ≡ lengthText t a′) where
+    accepted : readText t a .answer .number ≡ 0
+    accepted = number-of ex ∙ z
+
+    abbrev form : List ℕ
+    form = textOf t (readText t a .area)
+
+    known : l ≡ answer 0 (length form)
+    known = el ∙ ap (lengthText t) ea ∙ room t a accepted .known
+
+    len-of : l .len ≡ length form
+    len-of = ap (λ (y : Answer). y .len) known
+
+    pub len-fits : (o : List ℕ) → roomOfAny ≤ length o → l .len ≤ length o
+    len-fits o big = omega (arith, len-of, room t a accepted .short)
+
+    -- so many bytes of the output were filled
+    pub all-written : (o o₁ : List ℕ) (n : ℕ) → n ≡ l .len → n ≤ length o → o₁ ≡ fillText t a′ (take n o) .out → Holds (printed t a) (o₁ ++ drop n o) n
+    all-written o o₁ n e h eo =
+        let c : lengthText t (readText t a .area) ≡ l = sym (el ∙ ap (lengthText t) ea) in
+        let k : lengthText t (readText t a .area) .len ≡ n = ap (λ (y : Answer). y .len) c ∙ sym e in
+        let f = length-then-fill t (readText t a .area) .needs (ap (λ (y : Answer). y .number) (c ∙ known)) .enough (take n o) (omega (arith, k, length-take-le n o h)) in
+        let w = eo ∙ ap (λ (b : List ℕ). fillText t b (take n o) .out) ea ∙ ap (λ (y : Outcome). y .out) f in
+        let p : form ≡ printed t a = rw (eq-eqb (readText t a .answer .number) 0 accepted) in
+        said p
+        (begins form _ (o₁ ++ drop n o) n (omega (arith, e, len-of))
+        (ap (λ (y : List ℕ). y ++ drop n o) w ∙ append-assoc form _ (drop n o)))

@@ -104,28 +104,12 @@ fn store8(out: &mut [u8], at: usize, x: usize)
     out[at + 7] = (h % 256) as u8;
 }
 
-// All of s where there is room, byte by byte.
-fn copy_short(out: &mut [u8], at: usize, s: &[u8]) -> usize
-    requires { ⌜ at + length (now s) ≤ length (now out) ⌝ }
-    ensures { λ r. ⌜ Put (now (out .entry)) at (now (s .entry)) (now (out .exit)) r ⌝ }
-{
-    let mut i: usize = 0;
-    while i < s.len() {
-        out[at + i] = s[i];
-        i += 1;
-    }
-    at + i
-}
-
 // All of s where there is room, by eights: the last of them ends where s ends, and may lie over the one before it.
 fn copy(out: &mut [u8], at: usize, s: &[u8]) -> usize
-    requires { ⌜ at + length (now s) ≤ length (now out) ⌝ }
+    requires { ⌜ (8 ≤ length (now s)) × (at + length (now s) ≤ length (now out)) ⌝ }
     ensures { λ r. ⌜ Put (now (out .entry)) at (now (s .entry)) (now (out .exit)) r ⌝ }
 {
     let n = s.len();
-    if n < 8 {
-        return copy_short(out, at, s);
-    }
     let mut i: usize = 0;
     while i + 8 < n {
         store8(out, at + i, get8(s, i));
@@ -135,7 +119,7 @@ fn copy(out: &mut [u8], at: usize, s: &[u8]) -> usize
     at + n
 }
 
-// As much of s as there is room for, byte by byte.
+// What there is room for of s, byte by byte.
 fn put_some(out: &mut [u8], at: usize, s: &[u8]) -> usize
     ensures { λ r. ⌜ Put (now (out .entry)) at (now (s .entry)) (now (out .exit)) r ⌝ }
 {
@@ -156,6 +140,9 @@ pub fn put_all(out: &mut [u8], at: usize, s: &[u8]) -> usize
         return past(at, s.len());
     }
     if out.len() - at < s.len() {
+        return put_some(out, at, s);
+    }
+    if s.len() < 8 {
         return put_some(out, at, s);
     }
     copy(out, at, s)
@@ -179,10 +166,13 @@ fn quiet(s: &[u8]) -> bool
     eight(&s[n - 8..], 14, 255)
 }
 
-// The bytes of s that are not left out.
+// The bytes of s that are not left out. A short s is passed once.
 fn put_clean(out: &mut [u8], at: usize, s: &[u8]) -> usize
     ensures { λ r. ⌜ Put (now (out .entry)) at (clean (now (s .entry))) (now (out .exit)) r ⌝ }
 {
+    if s.len() < 8 {
+        return put_rest(out, at, s);
+    }
     if quiet(s) {
         return put_all(out, at, s);
     }

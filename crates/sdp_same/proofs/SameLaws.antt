@@ -24,7 +24,7 @@ use Rattle.sdp_row.specs.Written.{line, originLine, nameLine, stringLine, optio
 use Rattle.sdp_unfit.specs.Unfit.{unfit}
 use Rattle.sdp_unfit.proofs.UnfitLaws.{fit}
 use Rattle.sdp_write.specs.Write as writer
-use Rattle.sdp_write.specs.Write.{Outcome, answer, textOf, lengthText, fill, fillText}
+use Rattle.sdp_write.specs.Write.{Outcome, textOf, lengthText, fill, fillText}
 use Rattle.sdp_same.specs.Fits.{nameOf, named}
 use Rattle.sdp_same.specs.Sound.{FineIn, Sound}
 use Rattle.sdp_same.specs.Same.{ReadThenWritten, filled}
@@ -91,7 +91,7 @@ module _ (t : List ℕ) (short : length t ≤ 32768) (s : Session Span) (sound :
       let l : size ≤ length (encode s ++ x) = omega (arith, length-append (encode s) x, length-encode s) in
       fit t (encode s ++ x) l short (well-formed t short s sound x)
 
-  pub length-is : (x : List ℕ) → lengthText t (encode s ++ x) ≡ answer 0 (length (written (bytesOf t) s))
+  pub length-is : (x : List ℕ) → lengthText t (encode s ++ x) ≡ writer.answer 0 (length (written (bytesOf t) s))
   unfolding writer.lengthText
   length-is x = rw (fits x, text-is x)
 

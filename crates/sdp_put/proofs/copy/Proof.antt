@@ -23,17 +23,17 @@ loop-holds c = (refl, omega arith, refl, refl)
 loop-again : tie.Need-loop-again Inv-loop μ-loop
 loop-again c =
     let l = c .before .before .before .before .before .before in
-    let b = l .before .before .before .before in
-    let e = stored-more (now (b .args .out)) (l .loop .out) _ (b .args .s .now) (λ i. omega (arith, l .before .before .shared-slice-known .given i)) (b .args .at) (l .loop .i) (l .loop .i) _ (c .before .before .before .get8 .ensures) (l .loop .inv .3) (c .before .before .store8 .ensures) refl (omega arith) in
+    let b = l .before .before .before in
+    let e = stored-more (now (b .args .out)) (l .loop .out) _ (b .args .s .now) (λ i. omega (arith, l .before .shared-slice-known .given i)) (b .args .at) (l .loop .i) (l .loop .i) _ (c .before .before .before .get8 .ensures) (l .loop .inv .3) (c .before .before .store8 .ensures) refl (omega arith) in
     (l .loop .inv .0, omega arith, ap length e ∙ length-put _ _ _, e)
 
-returns-2 : tie.Need-returns-2 Inv-loop μ-loop
-returns-2 c =
+returns : tie.Need-returns Inv-loop μ-loop
+returns c =
     let l = c .before .before .before .before .before .before in
-    let b = l .before .before .before .before in
+    let b = l .before .before .before in
     record {
       puts = λ h k. (
-        stored-last (now (b .args .out)) (l .loop .out) _ (b .args .s .now) (λ i. omega (arith, l .before .before .shared-slice-known .given i)) (b .args .at) (l .loop .i) _ _ (c .before .before .before .get82 .ensures) (l .loop .inv .3) (c .before .before .store82 .ensures) (omega arith) (omega arith) (omega arith) (omega arith),
+        stored-last (now (b .args .out)) (l .loop .out) _ (b .args .s .now) (λ i. omega (arith, l .before .shared-slice-known .given i)) (b .args .at) (l .loop .i) _ _ (c .before .before .before .get82 .ensures) (l .loop .inv .3) (c .before .before .store82 .ensures) (omega arith) (omega arith) (omega arith) (omega arith),
         omega arith,
       );
     }
@@ -44,9 +44,6 @@ copy-spec =
     (tie.spec
     Inv-loop
     μ-loop
-    (λ c κs. omega arith)
-    (λ c. omega arith)
-    (λ c. c .before .before .copy-short .ensures)
     loop-holds
     (λ c. omega arith)
     (λ c. omega arith)
@@ -56,8 +53,10 @@ copy-spec =
     (λ c. omega arith)
     loop-again
     (λ c. omega arith)
+    (λ c. omega arith)
+    (λ c. omega arith)
     (λ c κs. omega arith)
     (λ c κs. omega arith)
     (λ c. omega arith)
     (λ c. omega arith)
-    returns-2)
+    returns)
