@@ -3,6 +3,7 @@ use mathlib.Core.Path.{_≡_, refl, ap, ap₂}
 use mathlib.Core.List.{List, [], _++_}
 use Prim.Native.Nat.{ℕ, zero, suc, _+_, _-_, _≤_, _<_}
 use native.Mathlib.Omega.{arith}
+use lib.ListN.{length}
 use Rattle.sdp_decode.specs.Rows.{rowsAt, each, eachAt}
 
 module _ {Y : Type 0} (f : ℕ → ℕ → List Y) (w : ℕ) where
@@ -26,3 +27,9 @@ pub each-rows : {X Y : Type 0} (g : ℕ → X → List Y) (rd : List ℕ → ℕ
 unfolding eachAt each rowsAt
 each-rows g rd w zero a k p = refl
 each-rows {X} {Y} g rd w (suc n) a k p = ap (λ (l : List Y). g k (rd a p) ++ l) (each-rows g rd w n a (k + 1) (p + w))
+
+-- as many as the count says
+pub length-rows : {X : Type 0} (rd : List ℕ → ℕ → X) (w n : ℕ) (a : List ℕ) (p : ℕ) → length (rowsAt rd w n a p) ≡ n
+unfolding rowsAt
+length-rows rd w zero a p = refl
+length-rows rd w (suc n) a p = ap suc (length-rows rd w n a (p + w))

@@ -1,6 +1,6 @@
 -- Times without repeats, and how many a session has at most. Assumes nothing.
-use Prim.Native.Nat.{ℕ, zero, suc, _+_, _-_, _≤_}
-use mathlib.Core.Path.{_≡_, refl, sym, ap}
+use Prim.Native.Nat.{ℕ, suc, _+_, _-_, _≤_}
+use mathlib.Core.Path.{_≡_, refl, sym}
 use mathlib.Core.Bool.{Bool, true, false, cond, not, _&&_, _||_}
 use mathlib.Core.List.{List, [], _∷_, _++_}
 use native.Mathlib.Omega.{arith}
@@ -12,7 +12,8 @@ use Rattle.sdp_bytes.proofs.ScanLaws.{and-left, and-right}
 use Rattle.sdp_area.specs.Session.{Time, Offset, Zone}
 use Rattle.sdp_area.specs.Area.{emailsAt, phonesAt, connectionsAt, bandwidthsAt, timesAt}
 use Rattle.sdp_decode.specs.Rows as rows
-use Rattle.sdp_decode.specs.Rows.{rowsAt, each}
+use Rattle.sdp_decode.specs.Rows.{each}
+use Rattle.sdp_decode.proofs.RowLaws.{length-rows}
 use Rattle.sdp_decode.specs.Decode as decoded
 use Rattle.sdp_decode.specs.Decode.{num2, timeOf, decode}
 use Rattle.sdp_valid.specs.Judge as judge
@@ -79,11 +80,6 @@ length-only from to i (t ∷ ts) = go (startsOnce from to t) _ (timesOnly from t
     go false x l h = omega (arith, h)
 
 -- ---- those of a well-formed session
-length-rows : {X : Type 0} (rd : List ℕ → ℕ → X) (w n : ℕ) (a : List ℕ) (p : ℕ) → length (rowsAt rd w n a p) ≡ n
-unfolding rows.rowsAt
-length-rows rd w zero a p = refl
-length-rows rd w (suc n) a p = ap suc (length-rows rd w n a (p + w))
-
 pub few-times : (a t : List ℕ) → wellFormed a t ≡ true → length (decode a .tables .times) ≤ mostTimes
 unfolding judge.wellFormed judge.smallCounts decoded.decode
 few-times a t h =

@@ -1,5 +1,5 @@
 -- Where owners were judged, each row has an owner that is there. Assumes nothing.
-use mathlib.Core.Path.{_≡_, refl, ap, _∙_}
+use mathlib.Core.Path.{_≡_, refl, _∙_}
 use mathlib.Core.Bool.{true, _&&_}
 use mathlib.Core.List.{List}
 use Prim.Native.Nat.{ℕ, zero, suc, _+_, _≤_}
@@ -17,14 +17,10 @@ use Rattle.sdp_decode.specs.Rows as rows
 use Rattle.sdp_decode.specs.Rows.{rowsAt, table}
 use Rattle.sdp_decode.specs.Decode
 use Rattle.sdp_decode.specs.Decode.{mediaConnectionOf, bandwidthOf, timeOf, repeatOf, offsetOf, attributeOf, mediaOf, offsetsIn, decode}
+use Rattle.sdp_decode.proofs.RowLaws.{length-rows}
 use Rattle.sdp_room.proofs.SumLaws.{Rows, strayFrom, stray, stray-none, stray-next}
 use Rattle.sdp_room.proofs.CostLaws
 use Rattle.sdp_room.proofs.CostLaws.{connectionRows, bandwidthRows, attributeRows, repeatRows, offsetRows, lost}
-
-length-rows : {X : Type 0} (rd : List ℕ → ℕ → X) (w n : ℕ) (a : List ℕ) (p : ℕ) → length (rowsAt rd w n a p) ≡ n
-unfolding rows.rowsAt
-length-rows rd w zero a p = refl
-length-rows rd w (suc n) a p = ap suc (length-rows rd w n a (p + w))
 
 module _ (a : List ℕ) {X : Type 0} (r : Rows X) (rd : List ℕ → ℕ → X) (w : ℕ) (first : (p : ℕ) → r .owner (rd a p) ≡ num 2 a p) where
   rows-owned : (low most n k lo p : ℕ) → low ≤ lo → rising a w most n lo p ≡ true → strayFrom r k low most (rowsAt rd w n a p) ≡ 0

@@ -20,12 +20,7 @@ use Rattle.sdp_room.proofs.SumLaws.{sum, rows-sum}
 use Rattle.sdp_room.proofs.LengthLaws.{length-line}
 use Rattle.sdp_room.proofs.CostLaws
 use Rattle.sdp_room.proofs.CostLaws.{timeCost, timesCost}
-use Rattle.sdp_length.specs.declared.Kind.{Kind}
-use Rattle.sdp_length.specs.Length.{widthOf, timeLength, zoneLength}
-
--- a row of a known kind lies in an area of n bytes
-pub kind-inside : (kind k : Kind) (p n : ℕ) → kind ≡ k → p + widthOf kind ≤ n → p + widthOf k ≤ n
-kind-inside kind k p n e h = rw (← e) h
+use Rattle.sdp_length.specs.Length.{timeLength, zoneLength}
 
 -- f of each row is g at its place
 pub rows-at : {X : Type 0} (f : X → ℕ) (g : ℕ → ℕ) (rd : List ℕ → ℕ → X) (a : List ℕ) → ((p : ℕ) → f (rd a p) ≡ g p)

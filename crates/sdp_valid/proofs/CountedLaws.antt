@@ -12,8 +12,7 @@ use Rattle.sdp_bytes.proofs.ScanLaws.{and-left, and-right}
 use Rattle.sdp_cells.specs.Bytes.{num}
 use Rattle.sdp_area.specs.Area.{emailsAt, phonesAt, connectionsAt, bandwidthsAt, timesAt, repeatsAt, offsetsAt, zonesAt, attributesAt, mediasAt}
 use Rattle.sdp_valid.specs.Judge
-use Rattle.sdp_valid.specs.Counted.{Counted, Inside, widthOf}
-use Rattle.sdp_valid.specs.declared.Row.{Row}
+use Rattle.sdp_valid.specs.Counted.{Counted, Inside}
 
 -- ---- five counts, each with its limit
 five : (k l m n o : ℕ) (k′ l′ m′ n′ o′ : ℕ)
@@ -70,9 +69,9 @@ module _ (a : List ℕ) (c : Counted a) where
   pub medias-inside : Inside a mediasAt 36
   medias-inside = omega (arith, c .whole, large .4)
 
--- ---- a row whose kind is known lies in the area
-pub kind-inside : (k k′ : Row) (p end : ℕ) → k ≡ k′ → p + widthOf k ≤ end → p + widthOf k′ ≤ end
-kind-inside k k′ p end e h = rw (← e) h
+-- ---- a row whose kind is known lies in the area; the kinds of rows have their widths
+pub kind-inside : {K : Type 0} (width : K → ℕ) (k k′ : K) (p end : ℕ) → k ≡ k′ → p + width k ≤ end → p + width k′ ≤ end
+kind-inside width k k′ p end e h = rw (← e) h
 
 -- ---- the rows that are left: n - i of them, from p on, before the end
 -- all rows at first

@@ -1,5 +1,6 @@
 -- `sdp_length::row_len` meets its contract. Assumes nothing.
-use Rattle.sdp_length.proofs.TableLaws.{kind-inside}
+use Rattle.sdp_length.specs.Length.{widthOf}
+use Rattle.sdp_valid.proofs.CountedLaws.{kind-inside}
 use native.Mathlib.Omega.{arith}
 use borrow.Author.Needs.{needs}
 use Rattle.sdp_length.proofs.row_len.Statement.{statement}
@@ -37,24 +38,24 @@ row-len-spec =
     tie.close
     (tie.spec
     (λ c. search needs)
-    (λ c κs. kind-inside _ _ _ _ (c .enum-told .given .1) (c .before .before .before .before .pre))
+    (λ c κs. kind-inside widthOf _ _ _ _ (c .enum-told .given .1) (c .before .before .before .before .pre))
     (λ c. search needs)
     (λ c. search needs)
-    (λ c κs. let h = kind-inside _ _ _ _ (c .enum-told2 .given .1) (c .before .before .before .before .pre) in omega (arith, h))
+    (λ c κs. let h = kind-inside widthOf _ _ _ _ (c .enum-told2 .given .1) (c .before .before .before .before .pre) in omega (arith, h))
     (λ c. search needs)
-    (λ c κs. kind-inside _ _ _ _ (c .enum-told3 .given .1) (c .before .before .before .before .pre))
+    (λ c κs. kind-inside widthOf _ _ _ _ (c .enum-told3 .given .1) (c .before .before .before .before .pre))
     (λ c. search needs)
-    (λ c κs. kind-inside _ _ _ _ (c .enum-told4 .given .1) (c .before .before .before .before .pre))
+    (λ c κs. kind-inside widthOf _ _ _ _ (c .enum-told4 .given .1) (c .before .before .before .before .pre))
     (λ c. search needs)
-    (λ c κs. kind-inside _ _ _ _ (c .enum-told5 .given .1) (c .before .before .before .before .pre))
+    (λ c κs. kind-inside widthOf _ _ _ _ (c .enum-told5 .given .1) (c .before .before .before .before .pre))
     (λ c. search needs)
-    (λ c κs. kind-inside _ _ _ _ (c .enum-told6 .given .1) (c .before .before .before .before .pre))
+    (λ c κs. kind-inside widthOf _ _ _ _ (c .enum-told6 .given .1) (c .before .before .before .before .pre))
     (λ c. search needs)
-    (λ c κs. kind-inside _ _ _ _ (c .enum-told7 .given .1) (c .before .before .before .before .pre))
+    (λ c κs. kind-inside widthOf _ _ _ _ (c .enum-told7 .given .1) (c .before .before .before .before .pre))
     (λ c. search needs)
-    (λ c κs. kind-inside _ _ _ _ (c .enum-told8 .given .1) (c .before .before .before .before .pre))
+    (λ c κs. kind-inside widthOf _ _ _ _ (c .enum-told8 .given .1) (c .before .before .before .before .pre))
     (λ c. search needs)
-    (λ c κs. kind-inside _ _ _ _ (c .enum-told9 .given .1) (c .before .before .before .before .pre))
+    (λ c κs. kind-inside widthOf _ _ _ _ (c .enum-told9 .given .1) (c .before .before .before .before .pre))
     returns
     returns-2
     returns-3

@@ -1,4 +1,5 @@
 -- `sdp_room::row_room` meets its contract. Assumes nothing.
+use Rattle.sdp_valid.specs.Counted.{widthOf}
 use native.Mathlib.Omega.{arith}
 use Rattle.sdp_valid.proofs.CountedLaws.{kind-inside}
 use borrow.Author.Needs.{needs}
@@ -6,22 +7,22 @@ use Rattle.sdp_room.proofs.row_room.Statement.{statement}
 use Rattle.sdp_room.proofs.row_room.Tie as tie
 
 get2-requires : tie.Need-get2-requires
-get2-requires c κs = let h = kind-inside _ _ _ _ (c .enum-told .given .1) (c .before .before .before .pre) in omega (arith, h)
+get2-requires c κs = let h = kind-inside widthOf _ _ _ _ (c .enum-told .given .1) (c .before .before .before .pre) in omega (arith, h)
 
 connection-room-requires : tie.Need-connection-room-requires
-connection-room-requires c κs = let h = kind-inside _ _ _ _ (c .enum-told2 .given .1) (c .before .before .before .pre) in omega (arith, h)
+connection-room-requires c κs = let h = kind-inside widthOf _ _ _ _ (c .enum-told2 .given .1) (c .before .before .before .pre) in omega (arith, h)
 
 get2-requires-2 : tie.Need-get2-requires-2
-get2-requires-2 c κs = let h = kind-inside _ _ _ _ (c .enum-told3 .given .1) (c .before .before .before .pre) in omega (arith, h)
+get2-requires-2 c κs = let h = kind-inside widthOf _ _ _ _ (c .enum-told3 .given .1) (c .before .before .before .pre) in omega (arith, h)
 
 get2-requires-3 : tie.Need-get2-requires-3
-get2-requires-3 c κs = let h = kind-inside _ _ _ _ (c .enum-told4 .given .1) (c .before .before .before .pre) in omega (arith, h)
+get2-requires-3 c κs = let h = kind-inside widthOf _ _ _ _ (c .enum-told4 .given .1) (c .before .before .before .pre) in omega (arith, h)
 
 get2-requires-4 : tie.Need-get2-requires-4
-get2-requires-4 c κs = let h = kind-inside _ _ _ _ (c .before .enum-told4 .given .1) (c .before .before .before .before .pre) in omega (arith, h)
+get2-requires-4 c κs = let h = kind-inside widthOf _ _ _ _ (c .before .enum-told4 .given .1) (c .before .before .before .before .pre) in omega (arith, h)
 
 media-room-requires : tie.Need-media-room-requires
-media-room-requires c κs = let h = kind-inside _ _ _ _ (c .enum-told5 .given .1) (c .before .before .before .pre) in omega (arith, h)
+media-room-requires c κs = let h = kind-inside widthOf _ _ _ _ (c .enum-told5 .given .1) (c .before .before .before .pre) in omega (arith, h)
 
 returns : tie.Need-returns
 returns c = rw (c .before .enum-told .given .1) (omega arith, omega arith)

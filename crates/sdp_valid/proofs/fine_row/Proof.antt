@@ -1,4 +1,5 @@
 -- `sdp_valid::fine_row` meets its contract. Assumes nothing.
+use Rattle.sdp_valid.specs.Counted.{widthOf}
 use native.Mathlib.Omega.{arith}
 use Rattle.sdp_valid.proofs.CountedLaws.{kind-inside}
 use borrow.Author.Needs.{needs}
@@ -8,31 +9,31 @@ use Rattle.sdp_valid.proofs.fine_row.Tie as tie
 fine-string-requires : tie.Need-fine-string-requires
 fine-string-requires c κs =
     let b = c .before .before .before .before in
-    let h = kind-inside _ _ _ _ (c .enum-told .given .1) (b .pre .1) in
+    let h = kind-inside widthOf _ _ _ _ (c .enum-told .given .1) (b .pre .1) in
     (b .pre .0, omega (arith, h))
 
 fine-connection-requires : tie.Need-fine-connection-requires
 fine-connection-requires c κs =
     let b = c .before .before .before .before in
-    let h = kind-inside _ _ _ _ (c .enum-told2 .given .1) (b .pre .1) in
+    let h = kind-inside widthOf _ _ _ _ (c .enum-told2 .given .1) (b .pre .1) in
     (b .pre .0, omega (arith, h))
 
 fine-string-requires-2 : tie.Need-fine-string-requires-2
 fine-string-requires-2 c κs =
     let b = c .before .before .before .before in
-    let h = kind-inside _ _ _ _ (c .enum-told3 .given .1) (b .pre .1) in
+    let h = kind-inside widthOf _ _ _ _ (c .enum-told3 .given .1) (b .pre .1) in
     (b .pre .0, omega (arith, h))
 
 fine-pair-requires : tie.Need-fine-pair-requires
 fine-pair-requires c κs =
     let b = c .before .before .before .before in
-    let h = kind-inside _ _ _ _ (c .enum-told4 .given .1) (b .pre .1) in
+    let h = kind-inside widthOf _ _ _ _ (c .enum-told4 .given .1) (b .pre .1) in
     (b .pre .0, omega (arith, h))
 
 fine-media-requires : tie.Need-fine-media-requires
 fine-media-requires c κs =
     let b = c .before .before .before .before in
-    let h = kind-inside _ _ _ _ (c .enum-told5 .given .1) (b .pre .1) in
+    let h = kind-inside widthOf _ _ _ _ (c .enum-told5 .given .1) (b .pre .1) in
     (b .pre .0, omega (arith, h))
 
 returns : tie.Need-returns
