@@ -10,11 +10,11 @@
 
 #include <assert.h>
 #include <errno.h>
+#include <stdlib.h>
 
 static uint8_t text[SDP_LONGEST + 1]; /* one byte more, so that a text that is too long is seen */
 static size_t text_len;
 static uint8_t area[SDP_AREA_SIZE];
-static uint8_t out[SDP_ROOM];
 static struct sdp_starts starts;
 
 /* Numbers of the area, lower byte first. */
@@ -129,9 +129,15 @@ int main(int argc, char **argv) {
     if (answer.number != SDP_DONE) return refused(answer);
     print_session();
 
-    answer = sdp_write(text, text_len, area, sizeof area, out, sizeof out);
+    /* the length, then memory of just that size, then the text */
+    answer = sdp_length(text, text_len, area, sizeof area);
+    if (answer.number != SDP_DONE) return refused(answer);
+    uint8_t *out = malloc(answer.len);
+    if (out == NULL) return failed("the written form");
+    answer = sdp_fill(text, text_len, area, sizeof area, out, answer.len);
     if (answer.number != SDP_DONE) return refused(answer);
     fwrite(out, 1, answer.len, stdout);
+    free(out);
     if (fflush(stdout) != 0 || ferror(stdout)) return failed("standard output");
     return 0;
 }

@@ -10,7 +10,9 @@
  *     struct sdp_answer answer = sdp_read(text, text_len, area, sizeof area);
  *     if (answer.number != 0) ...                        // refused: sdp_words.h makes a sentence of the answer
  *     ...                                                // the area holds the session: see "The area" below
- *     answer = sdp_write(text, text_len, area, sizeof area, out, sizeof out);
+ *     answer = sdp_length(text, text_len, area, sizeof area);
+ *     uint8_t *out = malloc(answer.len);                 // or lend SDP_ROOM bytes, and don't ask for the length
+ *     answer = sdp_fill(text, text_len, area, sizeof area, out, answer.len);
  *     if (answer.number == 0) ...                        // the first answer.len bytes of out are the written text
  *     static struct sdp_starts starts;
  *     starts = sdp_starts(text, text_len, area, sizeof area, from, to);
@@ -18,7 +20,7 @@
  *
  * Memory. Every function takes bytes with their length, and answers for all contents, all lengths and all numbers.
  * Bytes need no zero behind them and no alignment. What is const must not change during the call. What is not const, the
- * area of sdp_read and the out of sdp_write, must not overlap another argument, and nothing else may touch it during the
+ * area of sdp_read and the out of sdp_fill, must not overlap another argument, and nothing else may touch it during the
  * call. With length 0 a pointer may be anything: it is not used. No function keeps a pointer, allocates, or has state
  * of its own, so threads may call them at the same time on memory of their own.
  *
@@ -66,19 +68,19 @@ enum sdp_refusal {
     SDP_SECOND_KEY = 19,           /* never any more: k lines are ignored. Nor are the fields 25 and 26 given */
     SDP_REPEAT_WITHOUT_TIME = 20,  /* an r line with no t line before it */
     SDP_TABLE_FULL = 21,           /* gives line, and the table as field: 1 emails .. 10 medias, as in "The area" */
-    SDP_OUTPUT_TOO_SHORT = 22,     /* gives as len the bytes that an output needs */
+    SDP_OUTPUT_TOO_SHORT = 22,     /* by sdp_fill alone; gives as len the bytes that an output needs */
     SDP_BAD_SESSION = 23,          /* the area holds no session for this text */
     SDP_ZONES_FALL = 28,           /* an adjustment time of the z line is below the one before it */
     SDP_TOO_MANY_STARTS = 29       /* more than SDP_MOST_STARTS in the window */
 };
 
-/* What sdp_read and sdp_write say. What a number doesn't give is 0. */
+/* What sdp_read, sdp_length and sdp_fill say. What a number doesn't give is 0. */
 struct sdp_answer {
     uint64_t number; /* enum sdp_refusal */
     uint64_t line;   /* from 1 */
     uint64_t field;
     uint64_t place;  /* from 0 */
-    uint64_t len;    /* on success of sdp_write the written length */
+    uint64_t len;    /* on success of sdp_length and sdp_fill the length of the written text */
 };
 
 /* A number that was read: number is 0 and value has it; or number is 8 or 9 as above, and value is 0. */
@@ -120,20 +122,29 @@ struct sdp_starts {
  * has no use are ignored, whatever follows the =; k lines too, which RFC 8866 calls obsolete: they leave no key. */
 struct sdp_answer sdp_read(const uint8_t *text, size_t text_len, uint8_t *area, size_t area_len);
 
-/* Writes the session of an area, given the text that it was read from. On 0 the first len bytes of out are the written
- * text, each line ended by CR LF, with no zero byte behind. After a refusal (2, 1, 23, 22, judged in this order) out is
- * unchanged. With out_len 0 it answers 22 and the length that is needed. An area that sdp_read filled is never refused
- * with 23, given the same text. A key is never written. One that an earlier release left in the area is judged as all else
- * there: 23 where its marks are neither 0 nor 1, or its strings don't stand in the text or are not UTF-8. */
-struct sdp_answer sdp_write(const uint8_t *text, size_t text_len, const uint8_t *area, size_t area_len,
-                            uint8_t *out, size_t out_len);
+/* Writing takes two calls: sdp_length says how long the written text is, the caller finds memory, sdp_fill writes it there.
+ * Who has SDP_ROOM bytes to lend needs only the second.
+ *
+ * How many bytes the session of an area is written with, given the text that it was read from. On 0 len is the length,
+ * which is never 0. The refusals are 2, 1 and 23, judged in this order; their len is 0. An area that sdp_read filled is
+ * never refused with 23 by either call, given the same text. */
+struct sdp_answer sdp_length(const uint8_t *text, size_t text_len, const uint8_t *area, size_t area_len);
+
+/* Writes the session of an area into out, given the text that it was read from. On 0 the first len bytes of out are the
+ * written text, each line ended by CR LF, with no zero byte behind. After a refusal out is unchanged, all of it: 2, 1 and 23
+ * as sdp_length answers them, then 22 where out is too short, with the length that is needed as len. Into as many bytes as
+ * sdp_length answered it is never 22. A key is never written. One that an earlier release left in the area is judged by
+ * both calls as all else there: 23 where its marks are neither 0 nor 1, or its strings don't stand in the text or are not
+ * UTF-8. */
+struct sdp_answer sdp_fill(const uint8_t *text, size_t text_len, const uint8_t *area, size_t area_len,
+                           uint8_t *out, size_t out_len);
 
 /* When the session of an area starts, given the text that it was read from: every start that is not before from and is
  * before to, in rising order; of equal instants the lower time first, then the lower repeat. A time without repeats starts
  * once, at its start. A repeat starts at its time's start + k * interval + offset, for each of its offsets (0 where it has
  * none) and each k from 0 on; only for k = 0 where the interval is 0. What is at or after a stop that isn't 0 is left out.
  * Then the offset of the last zone whose adjustment time is not after it is added to a repeat's start, with its sign. A
- * start of 0 lists nothing. Where from >= to the list is empty. The refusals are 2, 1 and 23 as for sdp_write, then 28 and
+ * start of 0 lists nothing. Where from >= to the list is empty. The refusals are 2, 1 and 23 as for sdp_fill, then 28 and
  * 29, judged in this order. */
 struct sdp_starts sdp_starts(const uint8_t *text, size_t text_len, const uint8_t *area, size_t area_len,
                              uint64_t from, uint64_t to);
@@ -144,7 +155,7 @@ size_t sdp_area_size(void);
 /* Whether the letters of the text's lines run in the order of RFC 8866: v o s i? u? e* p* c? b*, then one or more of
  * (t, then optionally (r+ z?)), then k? a*, then any number of (m i? c* b* k? a*). Values are not judged, and sdp_read takes
  * other orders too. But it takes only one z line: a text with one behind the r lines of each of two times is in order, and
- * is refused with 17. sdp_write puts z behind all times: what it writes, within SDP_LONGEST bytes, is in order if there are
+ * is refused with 17. sdp_fill puts z behind all times: what it writes, within SDP_LONGEST bytes, is in order if there are
  * no zones, and otherwise exactly when the last time has a repeat. */
 struct sdp_order sdp_letter_order(const uint8_t *text, size_t text_len);
 

@@ -1,4 +1,4 @@
-/* A sentence for each refusal of sdp_read, sdp_write and sdp_starts, such as
+/* A sentence for each refusal of sdp_read, sdp_length, sdp_fill and sdp_starts, such as
  *
  *     line 2: the start time is not a whole number below 2^64 (refusal 9)
  *

@@ -39,6 +39,11 @@ impl Case {
         if accepted != theirs.read(&text) || ours.written() != theirs.written() {
             return Err(format!("{name}: the two sides differ"));
         }
+        // the output of another is still empty
+        let mut exact = Ours::default();
+        if exact.keep(&text) && (exact.exact(&text) != exact.length(&text) || exact.written() != theirs.written()) {
+            return Err(format!("{name}: the length and the filling differ from the crate"));
+        }
         Ok(Some(Case { name, text, accepted }))
     }
 }

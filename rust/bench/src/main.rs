@@ -7,6 +7,7 @@ use bench::sides::{Ours, Side, Theirs, Work};
 use bench::stack::{self, Lent};
 use bench::starts;
 use bench::table;
+use bench::two;
 use generate::hostile;
 use std::collections::BTreeMap;
 use std::hint::black_box;
@@ -45,6 +46,16 @@ fn calls(cases: &[Case]) {
                 marked(|| side.call(work, &case.text));
                 said += &format!("{} {} {} {}\n", case.name, case.text.len(), work.name(), side.name());
             }
+        }
+    }
+    // writing in two calls, which ours alone has
+    let mut ours = Ours::default();
+    for case in cases.iter().filter(|case| case.accepted) {
+        ours.keep(&case.text);
+        for work in two::WORKS {
+            two::call(&mut ours, work, &case.text);
+            marked(|| two::call(&mut ours, work, &case.text));
+            said += &format!("{} {} {work} {}\n", case.name, case.text.len(), ours.name());
         }
     }
     print!("{said}");
@@ -97,15 +108,15 @@ fn order_calls(cases: &[order::Case]) {
     print!("{said}");
 }
 
-/// The least nanoseconds of a call in many short runs, two calls in turn: so other work of the machine does least harm.
-/// `run` makes a call of one of the two so many times.
-fn least(mut run: impl FnMut(usize, u32) -> Duration) -> [f64; 2] {
+/// The least nanoseconds of a call in many short runs, all calls in turn: so other work of the machine does least harm.
+/// `run` makes one of the calls so many times.
+fn least<const CALLS: usize>(mut run: impl FnMut(usize, u32) -> Duration) -> [f64; CALLS] {
     const RUNS: usize = 100;
     const RUN: Duration = Duration::from_micros(200);
-    let mut least = [f64::INFINITY; 2];
-    let mut many = [1u32; 2];
+    let mut least = [f64::INFINITY; CALLS];
+    let mut many = [1u32; CALLS];
     for _ in 0..RUNS {
-        for at in 0..2 {
+        for at in 0..CALLS {
             loop {
                 let taken = run(at, many[at]);
                 if taken >= RUN {
@@ -119,21 +130,40 @@ fn least(mut run: impl FnMut(usize, u32) -> Duration) -> [f64; 2] {
     least
 }
 
-/// Of the two sides.
+/// Of the two sides; and of writing in two calls, in turn with the sides' writing.
 fn times(cases: &[Case]) {
     let mut both = sides();
+    let mut ours = Ours::default();
     for case in cases {
+        ours.keep(&case.text);
         for &work in works(case) {
-            let least = least(|at, many| {
+            let mut run = |at: usize, many: u32| {
+                if let Some(work) = at.checked_sub(2).map(|at| two::WORKS[at]) {
+                    let start = Instant::now();
+                    for _ in 0..many {
+                        black_box(two::call(&mut ours, work, &case.text));
+                    }
+                    return start.elapsed();
+                }
                 both[at].keep(&case.text);
                 let start = Instant::now();
                 for _ in 0..many {
                     black_box(both[at].call(work, &case.text));
                 }
                 start.elapsed()
-            });
-            for (side, least) in both.iter().zip(least) {
+            };
+            let (of_sides, of_two) = match work {
+                Work::Write => {
+                    let [ours, theirs, length, exact] = least::<4>(run);
+                    ([ours, theirs], Some([length, exact]))
+                }
+                _ => (least::<2>(&mut run), None),
+            };
+            for (side, least) in both.iter().zip(of_sides) {
                 println!("{} {} {} {} {least:.1}", case.name, case.text.len(), work.name(), side.name());
+            }
+            for (work, least) in two::WORKS.iter().zip(of_two.into_iter().flatten()) {
+                println!("{} {} {work} {} {least:.1}", case.name, case.text.len(), ours.name());
             }
         }
     }
@@ -144,7 +174,7 @@ fn list_times(cases: &[starts::Case]) {
     let mut ours = Ours::default();
     for case in cases {
         ours.keep(&case.text);
-        let least = least(|at, many| {
+        let least = least::<2>(|at, many| {
             let start = Instant::now();
             for _ in 0..many {
                 call(&mut ours, starts::WORKS[at], case);

@@ -80,6 +80,29 @@ impl Ours {
         compare::read(text, &mut self.area)
     }
 
+    /// How many bytes what was kept is written with; 0 where that is refused.
+    pub fn length(&mut self, text: &[u8]) -> usize {
+        let answer = compare::length(text, &self.area);
+        if answer.number == 0 {
+            answer.len as usize
+        } else {
+            0
+        }
+    }
+
+    /// Fills the first so many bytes of the output: how many were written; 0 where that is refused.
+    fn fill(&mut self, text: &[u8], room: usize) -> usize {
+        let answer = compare::fill(text, &self.area, &mut self.out[..room]);
+        self.len = if answer.number == 0 { answer.len as usize } else { 0 };
+        self.len
+    }
+
+    /// Writes what was kept in two calls: the length, and then just so many bytes.
+    pub fn exact(&mut self, text: &[u8]) -> usize {
+        let len = self.length(text);
+        self.fill(text, len)
+    }
+
     /// Lists the starts of what was kept: how many, or the refusal.
     pub fn list(&mut self, text: &[u8], window: &Range<u64>) -> Result<usize, u64> {
         *self.list = compare::starts(text, &self.area, window.start, window.end);
@@ -104,9 +127,7 @@ impl Side for Ours {
     }
 
     fn write(&mut self, text: &[u8]) -> usize {
-        let answer = compare::write(text, &self.area, &mut self.out);
-        self.len = if answer.number == 0 { answer.len as usize } else { 0 };
-        self.len
+        self.fill(text, ROOM)
     }
 
     fn both(&mut self, text: &[u8]) -> usize {

@@ -52,11 +52,19 @@ impl Lent {
 
 type Measured = fn(&[u8], &mut Lent) -> usize;
 
-/// Every function of the archive. Writing is called twice: with room for all, and with none, where it only counts.
-pub const CALLS: [(&str, Measured); 12] = [
+/// Every function of the archive. The filling is called three times: with room for all, with just as much as is needed, and
+/// with none.
+pub const CALLS: [(&str, Measured); 14] = [
     ("sdp_area_size", |_, _| used(compare::area_size)),
     ("sdp_cut", |text, _| used(|| compare::cut(text, 0, 1))),
+    ("sdp_fill", |text, lent| used(|| compare::fill(text, &lent.area, &mut lent.out))),
+    ("sdp_fill", |text, lent| {
+        let needed = compare::length(text, &lent.area).len as usize;
+        used(|| compare::fill(text, &lent.area, &mut lent.out[..needed]))
+    }),
+    ("sdp_fill", |text, lent| used(|| compare::fill(text, &lent.area, &mut []))),
     ("sdp_is_token", |text, _| used(|| compare::is_token(text))),
+    ("sdp_length", |text, lent| used(|| compare::length(text, &lent.area))),
     ("sdp_letter_order", |text, _| used(|| compare::letter_order(text))),
     ("sdp_number16", |text, _| used(|| compare::number16(text))),
     ("sdp_number64", |text, _| used(|| compare::number64(text))),
@@ -64,6 +72,4 @@ pub const CALLS: [(&str, Measured); 12] = [
     ("sdp_starts", |text, lent| used(|| compare::starts(text, &lent.area, 0, u64::MAX))),
     ("sdp_typed_time", |text, _| used(|| compare::typed_time(text))),
     ("sdp_utf8_end", |text, _| used(|| compare::utf8_end(text))),
-    ("sdp_write", |text, lent| used(|| compare::write(text, &lent.area, &mut lent.out))),
-    ("sdp_write", |text, lent| used(|| compare::write(text, &lent.area, &mut []))),
 ];

@@ -1,9 +1,11 @@
 //! The tables that are printed.
 use crate::cost::{geometric_mean, rows, Cost, Row};
 use crate::sides::Work;
+use crate::two;
 use std::fmt::Write;
 
-/// For each work a row for each text, with the instructions and, where they were taken, the nanoseconds.
+/// For each work a row for each text, with the instructions and, where they were taken, the nanoseconds. And writing in two
+/// calls.
 pub fn texts(counts: &[Cost], times: Option<&[Cost]>) -> Result<String, String> {
     let mut out = String::new();
     for work in Work::ALL {
@@ -22,7 +24,7 @@ pub fn texts(counts: &[Cost], times: Option<&[Cost]>) -> Result<String, String> 
         }
         means(&mut out, &counted, timed.as_deref());
     }
-    Ok(out)
+    Ok(out + &two::table(counts, times)? + "\n")
 }
 
 fn means(out: &mut String, counted: &[Row], timed: Option<&[Row]>) {
@@ -55,7 +57,7 @@ fn means(out: &mut String, counted: &[Row], timed: Option<&[Row]>) {
     out.push('\n');
 }
 
-/// Only the means, one line for each work.
+/// Only the means, one line for each work, and the lines of writing in two calls.
 pub fn short(counts: &[Cost]) -> Result<String, String> {
     let mut out = String::new();
     for work in Work::ALL {
@@ -76,7 +78,7 @@ pub fn short(counts: &[Cost]) -> Result<String, String> {
             worst.name
         );
     }
-    Ok(out)
+    Ok(out + &two::table(counts, None)?)
 }
 
 /// The cost for each byte, of texts of doubling size.
@@ -103,7 +105,7 @@ pub fn growth(counts: &[Cost]) -> Result<String, String> {
 const GOAL: f64 = 0.5;
 
 /// What must hold of the ratios, and what doesn't: reading, writing, and both cost less than the crate on each accepted
-/// text, and in the mean no more than the goal.
+/// text, and in the mean no more than the goal; writing in two calls costs less than the crate's on each.
 pub fn direction(counts: &[Cost]) -> Result<Vec<String>, String> {
     let mut wrong = Vec::new();
     for work in Work::ALL {
@@ -115,5 +117,6 @@ pub fn direction(counts: &[Cost]) -> Result<Vec<String>, String> {
         let slower = rows.iter().filter(|row| row.ratio() >= 1.0);
         wrong.extend(slower.map(|row| format!("{}, {}: the ratio is {:.3}", work.title(), row.name, row.ratio())));
     }
+    wrong.extend(two::direction(counts)?);
     Ok(wrong)
 }

@@ -4,6 +4,7 @@ use bench::order;
 use bench::sides::Work;
 use bench::starts::{self, Case};
 use bench::table::{direction, growth, short, texts};
+use bench::two;
 
 const GOOD: &str = "\
 nothing 0 none none 3
@@ -22,6 +23,10 @@ b 20 read crate 103
 b 20 write crate 203
 b 20 both crate 303
 c 30 read crate 103
+a 10 length ours 83
+a 10 exact ours 153
+b 20 length ours 23
+b 20 exact ours 103
 ";
 
 #[test]
@@ -57,6 +62,37 @@ fn what_is_printed() {
     assert!(grown.lines().all(|line| line.len() <= 100), "{grown}");
 }
 
+/// Each of the two works beside one filling and beside the crate, by instructions and then by time.
+#[test]
+fn the_two_calls() {
+    let counted = counts(GOOD).unwrap();
+    let slower = GOOD.replace("exact ours 153", "exact ours 806");
+    let timed = costs(&slower.lines().skip(2).collect::<Vec<_>>().join("\n")).unwrap();
+    let head = "writing in two calls beside               ratios of      mean  highest\n";
+    let by_instructions = "\
+        the length alone     one fill with room   instructions  0.283    0.400 (b)\n\
+        the length alone     the crate's writing  instructions  0.200    0.400 (a)\n\
+        length, then fill    one fill with room   instructions  0.866    2.000 (b)\n\
+        length, then fill    the crate's writing  instructions  0.612    0.750 (a)\n";
+    assert_eq!(two::table(&counted, None).unwrap(), head.to_string() + by_instructions);
+    let both = two::table(&counted, Some(&timed)).unwrap();
+    let by_time = both.strip_prefix(&(head.to_string() + by_instructions)[..]).unwrap();
+    assert_eq!(by_time.lines().count(), 4, "{by_time}");
+    assert!(by_time.ends_with(" time          1.419    3.970 (a)\n"), "{by_time}");
+    assert!(texts(&counted, Some(&timed)).unwrap().ends_with(&format!("\n{both}\n")));
+    assert!(short(&counted).unwrap().ends_with(&format!("\n{head}{by_instructions}")));
+    // what was refused has none of them, and what was written has each once
+    for (from, to, why) in [
+        ("b 20 length ours 23\n", "", "no length"),
+        ("a 10 exact ours 153\n", "", "no filling"),
+        ("b 20 exact ours 103\n", "b 20 exact ours 103\nb 20 exact ours 104\n", "two of them"),
+    ] {
+        let bad = counts(&GOOD.replace(from, to)).unwrap();
+        assert!(texts(&bad, None).is_err() && short(&bad).is_err(), "{why}");
+        assert_eq!(direction(&bad).is_err(), !from.contains("length"), "{why}");
+    }
+}
+
 #[test]
 fn the_direction() {
     let of = |lines: &str| direction(&counts(lines).unwrap()).unwrap();
@@ -70,6 +106,10 @@ fn the_direction() {
     assert_eq!(of(&slow_read), ["reading: the geometric mean is 0.707", "reading, a: the ratio is 1.000"]);
     let slow_both = good.replace("b 20 both ours 103", "b 20 both ours 603");
     assert_eq!(of(&slow_both), ["reading and writing: the geometric mean is 0.906", "reading and writing, b: the ratio is 2.000"]);
+    let slow_two = good.replace("a 10 exact ours 153", "a 10 exact ours 203");
+    assert_eq!(of(&slow_two), ["length, then fill, a: the ratio is 1.000"]);
+    let slow_two = good.replace("b 20 exact ours 103", "b 20 exact ours 253");
+    assert_eq!(of(&slow_two), ["length, then fill, b: the ratio is 1.250"]);
     let slow_mean = good.replace("b 20 write ours 53", "b 20 write ours 123");
     assert_eq!(of(&slow_mean), ["writing: the geometric mean is 0.548"]);
     let none: String = GOOD.lines().take(2).map(|line| format!("{line}\n")).collect();

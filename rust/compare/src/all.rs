@@ -4,21 +4,21 @@ use crate::bench::smallest;
 use crate::listing::{windows, Listing};
 use crate::starts::tables;
 use crate::whole::Whole;
-use crate::{read, starts, write, Answer, Starts};
+use crate::writing::{self, Fill, Length};
+use crate::{read, starts, Answer, Starts};
 use generate::Random;
 
 type Reader = fn(&[u8], &mut [u8]) -> Answer;
-type Writer = fn(&[u8], &[u8], &mut [u8]) -> Answer;
 type Lister = fn(&[u8], &[u8], u64, u64) -> Starts;
 
 pub struct All {
-    pub whole: Whole<Reader, Writer>,
+    pub whole: Whole<Reader, Length, Fill>,
     pub listing: Listing<Lister>,
 }
 
 impl Default for All {
     fn default() -> Self {
-        All { whole: Whole::new(read, write), listing: Listing::new(starts) }
+        All { whole: Whole::new(read, writing::ours()), listing: Listing::new(starts) }
     }
 }
 

@@ -1,5 +1,5 @@
-//! One text through reading, writing and reading back, each step beside the crate. Reader and writer are parameters, so
-//! that the comparison can be tested with some that are known to be wrong.
+//! One text through reading, writing and reading back, each step beside the crate. The reader and the two calls of the
+//! writer are parameters, so that the comparison can be tested with some that are known to be wrong.
 use crate::area::{decode, Seen, Time};
 use crate::bench::{smallest, Bench};
 use crate::writing::{folded, kept_lines, Outcome, Writing};
@@ -20,9 +20,9 @@ pub struct Counts {
     pub nearest: Option<usize>,
 }
 
-pub struct Whole<R, W> {
+pub struct Whole<R, L, F> {
     bench: Bench<R>,
-    writing: Writing<W>,
+    writing: Writing<L, F>,
     pub counts: Counts,
 }
 
@@ -34,11 +34,16 @@ fn meaning(text: &[u8], area: &[u8]) -> Result<Seen<Vec<u8>>, String> {
     Ok(seen)
 }
 
-impl<R: Fn(&[u8], &mut [u8]) -> Answer, W: Fn(&[u8], &[u8], &mut [u8]) -> Answer> Whole<R, W> {
-    pub fn new(reader: R, writer: W) -> Self {
+impl<R, L, F> Whole<R, L, F>
+where
+    R: Fn(&[u8], &mut [u8]) -> Answer,
+    L: Fn(&[u8], &[u8]) -> Answer,
+    F: Fn(&[u8], &[u8], &mut [u8]) -> Answer,
+{
+    pub fn new(reader: R, writing: Writing<L, F>) -> Self {
         Whole {
             bench: Bench::new(reader),
-            writing: Writing::new(writer),
+            writing,
             counts: Counts::default(),
         }
     }

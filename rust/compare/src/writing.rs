@@ -1,8 +1,10 @@
 //! One area through a writer, and through the judge and the crate's writer, which gets the session without its keys. The
-//! writer is a parameter, so that the comparison can be tested with writers that are known to be wrong.
+//! writer's two calls, the length and the filling, are parameters, so that the comparison can be tested with writers that
+//! are known to be wrong.
 use crate::area::{self, Part, PARTS, SIZE};
 use crate::judge::{self, Fault};
-use crate::{theirs, Answer};
+use crate::{fill, length, theirs, Answer};
+use generate::sessions::LONGEST;
 use oracle::{fold, leaf, written};
 use std::collections::BTreeSet;
 
@@ -13,8 +15,17 @@ pub enum Outcome {
     Bad(BTreeSet<Fault>),
 }
 
-pub struct Writing<W> {
-    writer: W,
+pub struct Writing<L, F> {
+    length: L,
+    fill: F,
+}
+
+pub type Length = fn(&[u8], &[u8]) -> Answer;
+pub type Fill = fn(&[u8], &[u8], &mut [u8]) -> Answer;
+
+/// The archive's writer.
+pub fn ours() -> Writing<Length, Fill> {
+    Writing::new(length, fill)
 }
 
 /// What the output holds before a call: no byte of it is ASCII, as most of what is written is.
@@ -74,9 +85,22 @@ pub fn by_the_crate(text: &[u8], area: &[u8]) -> Result<Vec<u8>, String> {
     theirs::session(&seen.strings(text)?).map(|session| written(&session))
 }
 
-impl<W: Fn(&[u8], &[u8], &mut [u8]) -> Answer> Writing<W> {
-    pub fn new(writer: W) -> Self {
-        Writing { writer }
+impl<L: Fn(&[u8], &[u8]) -> Answer, F: Fn(&[u8], &[u8], &mut [u8]) -> Answer> Writing<L, F> {
+    pub fn new(length: L, fill: F) -> Self {
+        Writing { length, fill }
+    }
+
+    /// One call for the length. The answer must be `due`; text and area must be as they were. Gives the length.
+    fn ask(&self, text: &[u8], area: &[u8], due: Answer) -> Result<usize, String> {
+        let (kept_text, kept_area) = (text.to_vec(), area.to_vec());
+        let answer = (self.length)(text, area);
+        if answer != due {
+            return Err(format!("the length: ours {answer:?}, due {due:?}"));
+        }
+        if text != kept_text || area != kept_area {
+            return Err("the length: the text or the area was changed".into());
+        }
+        Ok(answer.len as usize)
     }
 
     /// One call with an output of `room` bytes. The answer must be `due`, and the output `out` and then what was there
@@ -85,7 +109,7 @@ impl<W: Fn(&[u8], &[u8], &mut [u8]) -> Answer> Writing<W> {
         let (kept_text, kept_area) = (text.to_vec(), area.to_vec());
         let before = pattern(room);
         let mut output = before.clone();
-        let answer = (self.writer)(text, area, &mut output);
+        let answer = (self.fill)(text, area, &mut output);
         let at = format!("with {room} bytes of output");
         if answer != due {
             return Err(format!("{at}: ours {answer:?}, due {due:?}"));
@@ -102,37 +126,68 @@ impl<W: Fn(&[u8], &[u8], &mut [u8]) -> Answer> Writing<W> {
         Ok(())
     }
 
-    /// One call with an output of just the length that is needed, which must then hold `due`.
+    /// The length, which must be that of `due`, and then the filling of just so many bytes, which must then hold `due`. One
+    /// byte less is too short.
     pub fn exact(&self, text: &[u8], area: &[u8], due: &[u8]) -> Result<(), String> {
-        self.call(text, area, due.len(), refusal(0, due.len()), due)
+        let len = self.ask(text, area, refusal(0, due.len()))?;
+        self.call(text, area, len, refusal(0, len), due)?;
+        self.call(text, area, len - 1, refusal(22, len), b"")
     }
 
-    /// Both sides on one area of `SIZE` bytes or more, with a text that isn't too long: into outputs that are empty,
-    /// short, exact and longer, and so long that one pass is enough.
+    /// What both calls judge before the session: an area that is too short, with this text and with one that is too long, and
+    /// that one with the whole area. Text and area must be as they were, which is looked at once: they are long.
+    fn limits(&self, text: &[u8], area: &[u8]) -> Result<(), String> {
+        let mut long = text.to_vec();
+        long.resize(LONGEST + 1, b'\n');
+        let (kept_text, kept_area) = (long.clone(), area.to_vec());
+        let short = &area[..SIZE - 1];
+        for (text, area, number) in [(text, short, 2), (&long, short, 2), (&long, area, 1)] {
+            let mut output = pattern(9);
+            let answers = [(self.length)(text, area), (self.fill)(text, area, &mut output)];
+            let at = format!("with {} bytes of text and {} of area", text.len(), area.len());
+            if answers != [refusal(number, 0); 2] {
+                return Err(format!("{at}: ours {answers:?}, due {number} of both"));
+            }
+            if output != pattern(9) {
+                return Err(format!("{at}: {number}, and the output was changed"));
+            }
+        }
+        if long != kept_text || text != &kept_text[..text.len()] || area != kept_area {
+            return Err("2 or 1, and the text or the area was changed".into());
+        }
+        Ok(())
+    }
+
+    /// Both sides on one area of `SIZE` bytes or more, with a text that isn't too long: the length, the filling of just so
+    /// many bytes, and outputs that are empty, short and longer, and so long that one pass is enough.
     pub fn compare(&self, text: &[u8], area: &[u8]) -> Result<Outcome, String> {
         let faults = judge::faults(text, area);
         let due = by_the_crate(text, area);
         match (faults.is_empty(), due) {
             (true, Ok(due)) => {
                 let len = due.len();
-                for room in [0, 1, len / 2, len - 1] {
+                self.exact(text, area, &due)?;
+                for room in [0, 1, len / 2] {
                     self.call(text, area, room, refusal(22, len), b"")?;
                 }
                 let one_pass = one_pass_from(area);
                 if one_pass < len {
                     return Err(format!("{len} bytes are written, and {one_pass} are said to be enough"));
                 }
-                for room in [len, len + 1, len + 77, one_pass] {
+                for room in [len + 1, len + 77, one_pass] {
                     if room <= len + 77 || room <= LONG_OUTPUT {
                         self.call(text, area, room, refusal(0, len), &due)?;
                     }
                 }
+                self.limits(text, area)?;
                 Ok(Outcome::Written(due))
             }
             (false, Err(_)) => {
+                self.ask(text, area, refusal(23, 0))?;
                 for room in [0, 9, 1_000] {
                     self.call(text, area, room, refusal(23, 0), b"")?;
                 }
+                self.limits(text, area)?;
                 Ok(Outcome::Bad(faults))
             }
             // the judge and the decoder were written apart

@@ -4,18 +4,14 @@ use compare::area::{all_zero, decode, Key, Seen, Time, SIZE};
 use compare::bench::Bench;
 use compare::judge::{cells, faults, judge, two, Fault, Kind};
 use compare::made::{keyed, put_two};
-use compare::writing::{folded, is_key, Outcome, Writing};
-use compare::{read, starts, theirs, write, Answer};
+use compare::writing::{folded, is_key, ours, Outcome};
+use compare::{read, starts, theirs, Answer};
 use generate::random::count;
 use generate::sessions::{self, LONGEST};
 use generate::Random;
 use oracle::{keys, written, Session};
 use std::fs;
 use std::path::Path;
-
-fn writing() -> Writing<fn(&[u8], &[u8], &mut [u8]) -> Answer> {
-    Writing::new(write)
-}
 
 /// The area of an accepted text as it is read today.
 fn today(text: &[u8]) -> Option<Vec<u8>> {
@@ -68,8 +64,8 @@ fn holds(text: &[u8], kept: &[u8], today: &[u8]) -> usize {
     }
     assert!(judge(text, kept), "{:?}", faults(text, kept));
     // written as the area of today is, into outputs of all kinds, and as the crate writes the session without its keys
-    let Outcome::Written(out) = writing().same(text, kept) else { panic!("a kept area is refused") };
-    assert_eq!(Outcome::Written(out.clone()), writing().same(text, today));
+    let Outcome::Written(out) = ours().same(text, kept) else { panic!("a kept area is refused") };
+    assert_eq!(Outcome::Written(out.clone()), ours().same(text, today));
     let seen = strings(text, kept);
     let mut by_the_crate = Vec::new();
     keys::without_keys(&theirs::session(&seen).unwrap()).write(&mut by_the_crate).unwrap();
@@ -104,7 +100,7 @@ fn stored_areas() {
         keys += count;
         let session = Session::parse(&text).unwrap();
         assert_eq!(theirs::comparable(strings(&text, &kept)), theirs::of(&session), "{name}");
-        let Outcome::Written(out) = writing().same(&text, &kept) else { panic!("{name} is refused") };
+        let Outcome::Written(out) = ours().same(&text, &kept) else { panic!("{name} is refused") };
         assert_eq!(folded(&out), written(&session), "{name}");
         assert_ne!(without_keys(theirs::of(&session)), theirs::of(&session), "{name}");
         // what the other tests make is what that release left
@@ -150,11 +146,11 @@ fn broken_keys() {
     for (name, text, kept) in stored() {
         let end = text.len();
         let text = [&text[..], b"\xc3\xa9\xff"].concat(); // a character, and a byte that is none
-        let Outcome::Written(due) = writing().same(&text, &kept) else { panic!("{name} is refused") };
+        let Outcome::Written(due) = ours().same(&text, &kept) else { panic!("{name} is refused") };
         let mut broken = |at: usize, change: &[(usize, usize)], why: Fault| {
             let mut area = kept.clone();
             change.iter().for_each(|(offset, value)| put_two(&mut area, at + offset, *value));
-            assert_eq!(writing().same(&text, &area), Outcome::Bad([why].into()), "{name} at {at}: {change:?}");
+            assert_eq!(ours().same(&text, &area), Outcome::Bad([why].into()), "{name} at {at}: {change:?}");
             assert_eq!(starts(&text, &area, 0, 1).number, 23, "{name} at {at}: {change:?}");
             refused += 1;
         };
@@ -183,7 +179,7 @@ fn broken_keys() {
         }
         // absent by its mark, with noise behind it; and another good string
         let mut same = |area: &[u8]| {
-            assert_eq!(writing().same(&text, area), Outcome::Written(due.clone()), "{name}");
+            assert_eq!(ours().same(&text, area), Outcome::Written(due.clone()), "{name}");
             taken += 1;
         };
         for mark in of_keys().filter(|cell| cell.kind == Kind::Mark && cell.judged) {

@@ -5,7 +5,7 @@ mod order;
 use compare::area::{decode, SIZE};
 use compare::judge::{cleaned, judge, part};
 use compare::made::{self, at, put_two, DAMAGES};
-use compare::{letter_order, read, write, Answer, Order};
+use compare::{fill, length, letter_order, read, Answer, Order};
 use generate::random::{count, from_env};
 use generate::sessions::{self, LONGEST};
 use generate::{every_string, hours, texts, Random};
@@ -464,15 +464,15 @@ impl Written {
     /// The theorem `written-order` on one area that can be written. Document 02, P6: "a written text within 32,768
     /// bytes passes if it has no zones, and otherwise exactly when its last time has a repeat".
     fn add(&mut self, counts: &mut Counts, text: &[u8], area: &[u8]) {
-        let needed = write(text, area, &mut []);
-        assert_eq!(needed.number, 22);
+        let needed = length(text, area);
+        assert_eq!(needed.number, 0);
         let len = needed.len as usize;
         if len > LONGEST {
             self.too_long += 1;
             return;
         }
         let mut written = vec![0; len];
-        assert_eq!(write(text, area, &mut written), Answer { len: len as u64, ..ACCEPTED });
+        assert_eq!(fill(text, area, &mut written), needed);
         let seen = decode(&cleaned(area)).unwrap();
         let last = seen.times.len() as u64;
         let repeated = seen.repeats.iter().any(|repeat| repeat.owner == last);
@@ -552,11 +552,12 @@ fn written_at_the_limit() {
         }
         put_two(&mut area, at("repeats", 0, "owner"), 1);
         put_two(&mut area, at("description", 0, "mark"), 1);
-        let without = write(&text, &area, &mut []).len as usize;
+        let without = length(&text, &area).len as usize;
         for len in [LONGEST, LONGEST + 1] {
             put_two(&mut area, at("description", 0, "description") + 2, len - without);
             let mut written = vec![0; len];
-            assert_eq!(write(&text, &area, &mut written), Answer { len: len as u64, ..ACCEPTED });
+            assert_eq!(length(&text, &area), Answer { len: len as u64, ..ACCEPTED });
+            assert_eq!(fill(&text, &area, &mut written), Answer { len: len as u64, ..ACCEPTED });
             assert_eq!(counts.add(&written), due && len == LONGEST, "{rows:?}");
         }
     }

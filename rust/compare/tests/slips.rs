@@ -77,7 +77,10 @@ fn area(number: u64) -> (Vec<u8>, Vec<u8>) {
 #[test]
 fn no_slip_of_the_writer_no_difference() {
     let writer = PlainWriter { slip: "" };
-    let writing = Writing::new(|text: &[u8], area: &[u8], out: &mut [u8]| writer.write(text, area, out));
+    let writing = Writing::new(
+        |text: &[u8], area: &[u8]| writer.length(text, area),
+        |text: &[u8], area: &[u8], out: &mut [u8]| writer.fill(text, area, out),
+    );
     let (mut good, mut bad) = (0, 0);
     for number in 0..count(4_000) {
         let (text, area) = area(number);
@@ -96,7 +99,10 @@ fn each_slip_of_the_writer_is_found() {
     let mut latest = 0;
     for slip in slips {
         let writer = PlainWriter { slip };
-        let writing = Writing::new(|text: &[u8], area: &[u8], out: &mut [u8]| writer.write(text, area, out));
+        let writing = Writing::new(
+            |text: &[u8], area: &[u8]| writer.length(text, area),
+            |text: &[u8], area: &[u8], out: &mut [u8]| writer.fill(text, area, out),
+        );
         let found = (0..4_000).find(|number| {
             let (text, area) = area(*number);
             writing.compare(&text, &area).is_err()
@@ -178,24 +184,30 @@ fn the_nearest_slips_are_shown() {
 fn slips_on_written_forms_are_found() {
     let text = b"v=0\ns=Desk 4\nt=+60 0\n";
     let is_written = |text: &[u8]| text.ends_with(b"\r\n");
-    for (wrong_reader, wrong_writer, due) in [
-        (false, false, None),
-        (true, false, Some("read back")),
-        (false, true, Some("written once more")),
+    for (wrong, due) in [
+        ("nothing", None),
+        ("the reader", Some("read back")),
+        ("the length", Some("written once more: the length")),
+        ("the filling", Some("written once more: with 47 bytes of output")),
     ] {
         let reader = |text: &[u8], area: &mut [u8]| {
             let mut answer = Plain { slip: "" }.read(text, area);
-            answer.field += u64::from(wrong_reader && is_written(text));
+            answer.field += u64::from(wrong == "the reader" && is_written(text));
             answer
         };
-        let writer = |text: &[u8], area: &[u8], out: &mut [u8]| {
-            let answer = PlainWriter { slip: "" }.write(text, area, out);
-            if wrong_writer && is_written(text) && answer.number == 0 {
+        let length = |text: &[u8], area: &[u8]| {
+            let mut answer = PlainWriter { slip: "" }.length(text, area);
+            answer.len += u64::from(wrong == "the length" && is_written(text) && answer.number == 0);
+            answer
+        };
+        let fill = |text: &[u8], area: &[u8], out: &mut [u8]| {
+            let answer = PlainWriter { slip: "" }.fill(text, area, out);
+            if wrong == "the filling" && is_written(text) && answer.number == 0 {
                 out[0] = b'V';
             }
             answer
         };
-        let mut whole = Whole::new(reader, writer);
+        let mut whole = Whole::new(reader, Writing::new(length, fill));
         match (whole.compare(text), due) {
             (Ok(_), None) => assert_eq!((whole.counts.accepted, whole.counts.read_back), (1, 1)),
             (Err(why), Some(due)) => {

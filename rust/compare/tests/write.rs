@@ -7,8 +7,8 @@ use compare::area::{
 use compare::judge::{cells, faults, judge, two, Fault, Kind, FAULTS};
 use compare::made::{self, at, put_eight, put_two, DAMAGES};
 use compare::whole::Whole;
-use compare::writing::{is_key, kept_lines, one_pass_from, Outcome, Writing};
-use compare::{read, theirs, write, Answer};
+use compare::writing::{is_key, kept_lines, one_pass_from, ours, Fill, Length, Outcome};
+use compare::{fill, length, read, theirs, Answer};
 use generate::fields::BROKEN;
 use generate::random::count;
 use generate::sessions::{self, LONGEST};
@@ -16,10 +16,6 @@ use generate::{texts, Random};
 use oracle::written;
 use std::collections::BTreeMap;
 use std::fs;
-
-fn writing() -> Writing<fn(&[u8], &[u8], &mut [u8]) -> Answer> {
-    Writing::new(write)
-}
 
 fn only(number: u64, len: usize) -> Answer {
     Answer {
@@ -36,8 +32,8 @@ fn area_of(text: &[u8]) -> Option<Vec<u8>> {
 }
 
 /// Texts through both readers and both writers; what was written is read back.
-fn both_sides() -> Whole<fn(&[u8], &mut [u8]) -> Answer, fn(&[u8], &[u8], &mut [u8]) -> Answer> {
-    Whole::new(read, write)
+fn both_sides() -> Whole<fn(&[u8], &mut [u8]) -> Answer, Length, Fill> {
+    Whole::new(read, ours())
 }
 
 // ---- what was read
@@ -166,7 +162,7 @@ struct Classes {
 
 impl Classes {
     fn add(&mut self, text: &[u8], area: &[u8]) {
-        match writing().same(text, area) {
+        match ours().same(text, area) {
             Outcome::Written(_) => {
                 self.good += 1;
                 self.noisy += u64::from(decode(area).is_err());
@@ -494,7 +490,7 @@ fn hard_strings() {
 
 /// A session's whole text, written by ours and compared with the crate.
 fn whole(text: &[u8], area: &[u8]) -> String {
-    match writing().same(text, area) {
+    match ours().same(text, area) {
         Outcome::Written(bytes) => String::from_utf8(bytes).unwrap(),
         Outcome::Bad(faults) => panic!("{faults:?}"),
     }
@@ -562,7 +558,7 @@ fn times_and_zones() {
         put_eight(&mut area, at("repeats", 0, "duration"), value.wrapping_add(60));
         put_eight(&mut area, at("offsets", 0, "value"), *value);
         put_eight(&mut area, at("offsets", 1, "value"), value.wrapping_add(1));
-        writing().same(b"", &area);
+        ours().same(b"", &area);
         compared += 1;
     }
     // with the answers in document 01's words
@@ -693,11 +689,15 @@ fn the_longest_output() {
     }
     assert!(judge(&text, &area), "{:?}", faults(&text, &area));
     let due = compare::writing::by_the_crate(&text, &area).unwrap();
-    assert_eq!(write(&text, &area, &mut []), only(22, due.len()));
+    assert_eq!(length(&text, &area), only(0, due.len()));
+    assert_eq!(fill(&text, &area, &mut []), only(22, due.len()));
     let mut out = vec![b'.'; due.len() + 3];
-    assert_eq!(write(&text, &area, &mut out[..due.len() - 1]), only(22, due.len()));
+    assert_eq!(fill(&text, &area, &mut out[..due.len() - 1]), only(22, due.len()));
     assert!(out.iter().all(|byte| *byte == b'.'));
-    assert_eq!(write(&text, &area, &mut out), only(0, due.len()));
+    assert_eq!(fill(&text, &area, &mut out[..due.len()]), only(0, due.len()));
+    assert!(out[..due.len()] == due[..] && out[due.len()..] == b"..."[..]);
+    out.fill(b'.');
+    assert_eq!(fill(&text, &area, &mut out), only(0, due.len()));
     assert!(out[..due.len()] == due[..] && out[due.len()..] == b"..."[..]);
     println!("write: the longest output has {} bytes", due.len());
     assert!(due.len() > 40_000_000);
@@ -705,7 +705,7 @@ fn the_longest_output() {
 
 // ---- the order of refusals, and the lent memory
 
-/// 2, then 1, then 23, then 22, whatever else holds.
+/// 2, then 1, then 23, of the length and of the filling, then 22 of the filling alone, whatever else holds.
 #[test]
 fn the_order_of_refusals() {
     let (text, good) = rich();
@@ -724,21 +724,23 @@ fn the_order_of_refusals() {
                 let mut lent = area.clone();
                 lent.resize(SIZE + 50, 0xff);
                 lent.truncate(size);
+                let asked = if size < SIZE {
+                    only(2, 0)
+                } else if text.len() > LONGEST {
+                    only(1, 0)
+                } else if area == &bad {
+                    only(23, 0)
+                } else {
+                    only(0, needed)
+                };
+                let (text_before, area_before) = (text.clone(), lent.clone());
+                assert_eq!(length(text, &lent), asked, "area {size}, text {}", text.len());
+                assert!(*text == text_before && lent == area_before);
                 for room in [0, 1, needed - 1, needed, needed + 1, needed + 1_000] {
-                    let due = if size < SIZE {
-                        only(2, 0)
-                    } else if text.len() > LONGEST {
-                        only(1, 0)
-                    } else if area == &bad {
-                        only(23, 0)
-                    } else if room < needed {
-                        only(22, needed)
-                    } else {
-                        only(0, needed)
-                    };
-                    let (text_before, area_before) = (text.clone(), lent.clone());
+                    // what the length is refused with, the filling is too
+                    let due = if asked.number == 0 && room < needed { only(22, needed) } else { asked };
                     let mut out = vec![0xa5; room];
-                    assert_eq!(write(text, &lent, &mut out), due, "area {size}, text {}, output {room}", text.len());
+                    assert_eq!(fill(text, &lent, &mut out), due, "area {size}, text {}, output {room}", text.len());
                     let done = if due.number == 0 { needed } else { 0 };
                     assert!(out[done..].iter().all(|byte| *byte == 0xa5));
                     assert!(done == 0 || out[..done] == *whole(text, &good).as_bytes());
@@ -755,11 +757,12 @@ fn the_order_of_refusals() {
 /// Outputs of these lengths: too short is 22 and leaves the output as it was.
 fn into_outputs(text: &[u8], area: &[u8], rooms: impl Iterator<Item = usize>) -> usize {
     let due = whole(text, area).into_bytes();
+    assert_eq!(length(text, area), only(0, due.len()));
     let mut tried = 0;
     for room in rooms {
         let before: Vec<u8> = (0..room).map(|at| (at * 31) as u8 | 0x80).collect();
         let mut out = before.clone();
-        let answer = write(text, area, &mut out);
+        let answer = fill(text, area, &mut out);
         if room < due.len() {
             assert_eq!((answer, &out), (only(22, due.len()), &before), "{room} bytes of output");
         } else {

@@ -7,8 +7,8 @@
 //! - `c` the cuts of a text, a line for each: kind, number, line, letter, place and length;
 //! - `l` the letter order: 0, and 1 for yes or 0 for no;
 //! - `r` reading a text: number, line, field, place and length, and then the counts of the ten tables, 0 when refused;
-//! - `w` writing what was read: the answers to an output without room and to one with room, and behind that line what was
-//!   written; or the answer of the reader when it refuses;
+//! - `w` writing what was read: the answers of the length, of the filling of an output without room and of one with room,
+//!   and behind that line what was written; or the answer of the reader when it refuses;
 //! - `o` the value of an o line, whose address is set as its username: 1 for present, and the fields;
 //! - `m` the value of an m line, whose first format is set as its number of ports, or 0 if it is no number: the fields,
 //!   with 1 for present before the number of ports.
@@ -77,7 +77,8 @@ fn answer(out: &mut String, kind: u8, bytes: &[u8]) {
             Ok(session) => {
                 let text = String::from_utf8(written(&session)).unwrap();
                 let len = text.len() as u64;
-                line('w', &[22, 0, 0, 0, len, 0, 0, 0, 0, len]);
+                let answers = [0, 22, 0].map(|number| [number, 0, 0, 0, len]);
+                line('w', &answers.concat());
                 out.push_str(&text);
             }
             Err(refusal) => line('w', &refused(refusal)),

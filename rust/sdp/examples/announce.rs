@@ -3,7 +3,7 @@
 // or 2 where something can't be read or written.
 //
 //     cargo run --release --example announce -- FILE
-use sdp::{Area, Session, ROOM};
+use sdp::{Area, Session};
 use std::io::{self, Read, Write};
 use std::process::ExitCode;
 use std::{env, fs};
@@ -51,9 +51,7 @@ fn print(session: Session, out: &mut impl Write) -> io::Result<()> {
             }
         }
     }
-    let mut room = [0; ROOM];
-    let written = session.write(&mut room).expect("what was read is written, and has room");
-    out.write_all(written)?;
+    session.write_to(out)?;
     out.flush()
 }
 

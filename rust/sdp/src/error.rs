@@ -1,7 +1,7 @@
 //! Why a text was refused, or why a session was not written.
 use crate::ffi::Answer;
 use crate::words;
-use std::fmt;
+use std::{fmt, io};
 
 /// A refusal: its number, what it names, and by [`Display`](fmt::Display) a sentence. docs/REFUSALS.md has them all.
 ///
@@ -74,3 +74,17 @@ impl fmt::Debug for Error {
 }
 
 impl std::error::Error for Error {}
+
+/// For programs that have [`io::Error`]s to tell of: one of the kind `InvalidData`, with the refusal in it.
+///
+/// ```
+/// let mut area = sdp::Area::new();
+/// let error = std::io::Error::from(sdp::read(b"v=1", &mut area).unwrap_err());
+/// let refusal: Option<&sdp::Error> = error.get_ref().and_then(|inside| inside.downcast_ref());
+/// assert_eq!(refusal.map(sdp::Error::number), Some(7));
+/// ```
+impl From<Error> for io::Error {
+    fn from(error: Error) -> Self {
+        io::Error::new(io::ErrorKind::InvalidData, error)
+    }
+}

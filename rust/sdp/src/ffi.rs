@@ -1,5 +1,6 @@
-//! The eleven functions of the archive libsdp.a as they are, over slices that are lent. [`crate::read`],
-//! [`crate::Session::write`] and [`crate::Session::starts`] are these with types around them.
+//! The twelve functions of the archive libsdp.a as they are, over slices that are lent. [`crate::read`],
+//! [`crate::Session::written_len`], [`crate::Session::write`] and [`crate::Session::starts`] are these with types around
+//! them.
 //!
 //! All `unsafe` of the crate is here. Each call is safe for every slice and every number: a Rattle `&[u8]` is a pointer
 //! and a length, the archive reads and writes only within what it is lent, and keeps no pointer (docs/FFI.md). A test
@@ -51,7 +52,7 @@ pub struct Answer {
     pub field: u64,
     /// for 7: where the version's value starts
     pub place: u64,
-    /// for 7: the bytes of the version's value; of a writer: the written length, and with 22 the length needed
+    /// for 7: the bytes of the version's value; of [`length`] and [`fill`]: the written length, and with 22 the length needed
     pub len: u64,
 }
 
@@ -99,7 +100,8 @@ mod raw {
         pub fn sdp_cut(text: *const u8, len: usize, place: usize, line: usize) -> Piece;
         pub fn sdp_read(text: *const u8, text_len: usize, area: *mut u8, area_len: usize) -> Answer;
         pub fn sdp_area_size() -> usize;
-        pub fn sdp_write(
+        pub fn sdp_length(text: *const u8, text_len: usize, area: *const u8, area_len: usize) -> Answer;
+        pub fn sdp_fill(
             text: *const u8,
             text_len: usize,
             area: *const u8,
@@ -162,20 +164,35 @@ pub fn area_size() -> usize {
     unsafe { raw::sdp_area_size() }
 }
 
+/// How many bytes the session that the area holds, with its strings in the text, is written with.
+#[inline]
+pub fn length(text: &[u8], area: &[u8]) -> Answer {
+    unsafe { raw::sdp_length(text.as_ptr(), text.len(), area.as_ptr(), area.len()) }
+}
+
 /// Writes the session that the area holds, with its strings in the text, to the output that is lent. Keys that an earlier
 /// release left in the area are judged, and not written.
 #[inline]
-pub fn write(text: &[u8], area: &[u8], out: &mut [u8]) -> Answer {
-    unsafe {
-        raw::sdp_write(
-            text.as_ptr(),
-            text.len(),
-            area.as_ptr(),
-            area.len(),
-            out.as_mut_ptr(),
-            out.len(),
-        )
+pub fn fill(text: &[u8], area: &[u8], out: &mut [u8]) -> Answer {
+    unsafe { raw::sdp_fill(text.as_ptr(), text.len(), area.as_ptr(), area.len(), out.as_mut_ptr(), out.len()) }
+}
+
+/// The same behind what a vector has, into its spare capacity, which is not set to anything first. On 0 the vector is longer
+/// by the written bytes, else it is as it was: 22 where its capacity is too small.
+#[inline]
+pub fn fill_spare(text: &[u8], area: &[u8], out: &mut Vec<u8>) -> Answer {
+    let spare = out.spare_capacity_mut();
+    let (start, room) = (spare.as_mut_ptr().cast::<u8>(), spare.len());
+    // SAFETY: the archive never reads an output, so what it is lent need not be initialised; it writes only within it.
+    let answer = unsafe { raw::sdp_fill(text.as_ptr(), text.len(), area.as_ptr(), area.len(), start, room) };
+    if answer.number == 0 {
+        let len = answer.len as usize;
+        assert!(len <= room, "what was written has room");
+        // SAFETY: the capacity holds them, as was just asked, and where the archive answers 0 with len it has written the
+        // first len bytes of the output.
+        unsafe { out.set_len(out.len() + len) };
     }
+    answer
 }
 
 /// Whether the letters of a text's lines run in order; see [`letter_order`](crate::letter_order).

@@ -12,7 +12,8 @@
 //! | `String` | `&str` that stands in the text |
 //! | `NetType`, `AddrType` | `&str`, as it was written: `in` stays `in` |
 //! | `session.origin` where no o line was | [`Session::origin`]: the same; [`Session::origin_line`] gives `None` |
-//! | `session.write(&mut output)?` | [`Session::write`] into a slice, [`Session::to_vec`], or `to_string()` |
+//! | `session.write(&mut output)?` | `session.write_to(&mut output)?`; or [`Session::to_vec`], `to_string()` |
+//! | nothing | [`Session::write`] into a slice, of the length that [`Session::written_len`] says or of [`ROOM`] bytes |
 //! | `ParserError` | [`Error`]: a number, a line, a field, and a sentence |
 //! | nothing | [`kept`]: the session of an area that was kept |
 //! | nothing | [`Session::starts`]: the instants at which the session starts within a window |
@@ -21,8 +22,9 @@
 //!
 //! The caller lends an [`Area`] of [`Area::SIZE`] bytes, which can be used again for the next text. The [`Session`]
 //! that comes back borrows area and text, and so does all that is taken out of it. Reading, walking,
-//! [`write`](Session::write) and [`starts`](Session::starts) use no heap. [`SessionBuf`] owns both, for a session that
-//! is to be kept.
+//! [`written_len`](Session::written_len), [`write`](Session::write) and [`starts`](Session::starts) use no heap.
+//! [`write_to`](Session::write_to), [`to_vec`](Session::to_vec) and `to_string()` ask for the length first, and take so
+//! many bytes. [`SessionBuf`] owns both area and text, for a session that is to be kept.
 //!
 //! A text has at most [`LONGEST`] bytes, and each table has its limit (docs/REFUSALS.md); the crate has neither.
 //!
@@ -176,11 +178,9 @@ pub fn read<'a>(text: &'a [u8], area: &'a mut Area) -> Result<Session<'a>, Error
 /// Refusal 1 for a text of more than [`LONGEST`] bytes, 23 for bytes that hold no session for this text.
 #[inline]
 pub fn kept<'a>(text: &'a [u8], area: &'a Area) -> Result<Session<'a>, Error> {
-    // a written form is never empty: of a good area the answer is 22
-    match Error::check(ffi::write(text, area.as_bytes(), &mut [])) {
-        Err(error) if error.number() != 22 => Err(error),
-        _ => Ok(Session::new(text, area)),
-    }
+    // whoever can say how long it is written has judged it
+    Error::check(ffi::length(text, area.as_bytes()))?;
+    Ok(Session::new(text, area))
 }
 
 /// Whether the letters of the text's lines run in the order of RFC 8866: `v o s i? u? e* p* c? b*`, then one or more of

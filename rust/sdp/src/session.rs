@@ -1,7 +1,7 @@
 //! The view: a session read out of the area as it is walked. The places are those of docs/AREA.md.
-use crate::{ffi, Area, Error, Starts, ROOM};
-use std::fmt;
+use crate::{ffi, Area, Error, Starts};
 use std::ops::Range;
+use std::{fmt, io};
 
 /// Where a table stands, and the bytes of a row. Two bytes before the first row have the count.
 #[derive(Clone, Copy)]
@@ -443,18 +443,60 @@ impl<'a> Session<'a> {
 
     attributes_by_name!();
 
+    /// How many bytes the session is written with: so many [`write`](Session::write) needs, and fills. It is asked before
+    /// there is memory for them.
+    ///
+    /// ```
+    /// let kept = sdp::SessionBuf::parse("v=0\ns=Desk 4\n")?;
+    /// let len = kept.session().written_len()?;
+    /// let mut out = vec![0; len]; // memory of just that size
+    /// assert_eq!(kept.session().write(&mut out)?.len(), len);
+    /// assert_eq!(kept.session().write(&mut out[1..]).unwrap_err().number(), 22);
+    /// # Ok::<(), sdp::Error>(())
+    /// ```
+    ///
+    /// # Errors
+    ///
+    /// None of a session that was read or [`kept`](crate::kept): what could be refused here was refused there.
+    #[inline]
+    pub fn written_len(&self) -> Result<usize, Error> {
+        let answer = Error::check(ffi::length(self.text, self.area.as_bytes()))?;
+        Ok(answer.len as usize)
+    }
+
     /// Writes the session into the slice, as the crate's `Session::write` does without its keys, and gives the written part
     /// of it.
     ///
-    /// [`ROOM`] bytes are enough for all that was read; an area made by hand may need more. What stands behind the written part stays as it was; after an error all of it.
+    /// [`ROOM`](crate::ROOM) bytes are enough for all that was read; an area made by hand may need more.
+    /// [`written_len`](Session::written_len) says how many are needed. What stands behind the written part stays as it was;
+    /// after an error all of it.
     ///
     /// # Errors
     ///
     /// Refusal 22 where the slice is too short; [`Error::len`] says how many bytes it needs.
     #[inline]
     pub fn write<'o>(&self, out: &'o mut [u8]) -> Result<&'o [u8], Error> {
-        let answer = Error::check(ffi::write(self.text, self.area.as_bytes(), out))?;
+        let answer = Error::check(ffi::fill(self.text, self.area.as_bytes(), out))?;
         Ok(&out[..answer.len as usize])
+    }
+
+    /// Writes the session to whatever takes bytes, called as the crate's `Session::write` is. The writer gets them all at
+    /// once, from a vector as long as they are: a file or a socket needs no buffer in front of it.
+    ///
+    /// ```
+    /// let kept = sdp::SessionBuf::parse("v=0\ns=Desk 4\n")?;
+    /// let mut output = Vec::new();
+    /// kept.session().write_to(&mut output)?;
+    /// assert!(output.ends_with(b"\r\ns=Desk 4\r\nt=0 0\r\n"));
+    /// # Ok::<(), std::io::Error>(())
+    /// ```
+    ///
+    /// # Errors
+    ///
+    /// Those of the writer, as they are. A refusal, which no session that was read or [`kept`](crate::kept) meets, would be
+    /// one with an [`Error`] in it.
+    pub fn write_to<W: io::Write + ?Sized>(&self, to: &mut W) -> io::Result<()> {
+        to.write_all(&self.filled()?)
     }
 
     /// When the session starts: every start from the window's start on and before its end, in rising order. All are
@@ -486,16 +528,16 @@ impl<'a> Session<'a> {
         Starts::check(ffi::starts(self.text, self.area.as_bytes(), window.start, window.end))
     }
 
-    /// The written form in a vector of its own.
+    /// The written form in a vector of its own, which has no more capacity than it needs.
     pub fn to_vec(&self) -> Vec<u8> {
-        let mut out = vec![0; ROOM];
-        let len = self.write(&mut out).map(|written| written.len()).unwrap_or_else(|error| {
-            out.resize(error.len() as usize, 0); // the strings of an area made by hand may overlap
-            self.write(&mut out).expect("a good session is written, and has room").len()
-        });
-        out.truncate(len);
-        out.shrink_to_fit();
-        out
+        self.filled().expect("a good session is written, and has room")
+    }
+
+    /// The length, then memory, then the text.
+    fn filled(&self) -> Result<Vec<u8>, Error> {
+        let mut out = Vec::with_capacity(self.written_len()?);
+        Error::check(ffi::fill_spare(self.text, self.area.as_bytes(), &mut out))?;
+        Ok(out)
     }
 }
 

@@ -261,7 +261,12 @@ fn all_functions_from_c() {
             format!("{}\n", parts.map(|part| part.to_string()).join(" "))
         };
         due += &answer(ffi::read(text, &mut area));
-        due += &answer(ffi::write(text, &area, &mut [0; 20]));
+        let length = ffi::length(text, &area);
+        due += &answer(length);
+        due += &answer(ffi::fill(text, &area, &mut [0; 20]));
+        let filled = ffi::fill(text, &area, &mut vec![0; length.len as usize]);
+        assert_eq!((length.number, filled), (0, length), "an area that was read, or zero, is written");
+        due += &answer(filled);
         let starts = ffi::starts(text, &area, 100, 1_000);
         refused.insert(starts.number);
         let rows = starts.at.iter().zip(&starts.time).zip(&starts.repeat);

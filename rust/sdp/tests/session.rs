@@ -1,9 +1,10 @@
 //! The view, the errors and the writing, on texts whose answers were typed by hand.
 mod page;
 use sdp::{
-    Area, Attribute, Bandwidth, Connection, Error, Key, Origin, Session, SessionBuf, Start, Starts, TimeZone, LONGEST,
+    ffi, Area, Attribute, Bandwidth, Connection, Error, Key, Origin, Session, SessionBuf, Start, Starts, TimeZone, LONGEST,
     MOST_STARTS, ROOM,
 };
+use std::io::{self, ErrorKind, Write};
 
 /// Something in every place, and absent things too; k lines, which have no use.
 const RICH: &[u8] = b"v=0\no=jdoe 42 7 in IP4 host.example\ns=Desk 4\ni=The desk\nu=http://desk.example\n\
@@ -181,9 +182,15 @@ fn an_area_made_by_hand() {
     let area = Area::from_bytes(bytes);
     let session = sdp::kept(&text, &area).unwrap();
     let empty = sdp::kept(&text, &Area::new()).unwrap().to_vec().len();
-    assert_eq!(session.to_vec().len(), empty + 512 * (30_000 + 4));
-    assert_eq!(session.to_string().into_bytes(), session.to_vec());
-    assert_eq!(session.write(&mut [0; ROOM]).unwrap_err().number(), 22);
+    let len = empty + 512 * (30_000 + 4);
+    let written = session.to_vec();
+    assert_eq!((session.written_len(), written.len(), written.capacity()), (Ok(len), len, len));
+    assert_eq!(session.to_string().into_bytes(), written);
+    let error = session.write(&mut [0; ROOM]).unwrap_err();
+    assert_eq!((error.number(), error.len()), (22, len as u64));
+    let mut output = Vec::new();
+    session.write_to(&mut output).unwrap();
+    assert_eq!(output, written);
 }
 
 /// Minus one hour is minus one hour, and so to the ends of 64 bits.
@@ -241,6 +248,7 @@ fn written() {
     let session = kept.session();
     assert_eq!(session.to_string(), due);
     assert_eq!(session.to_vec(), due.as_bytes());
+    assert_eq!(session.written_len(), Ok(due.len()));
     let mut out = [b'?'; 2_000];
     assert_eq!(session.write(&mut out), Ok(due.as_bytes()));
     assert!(out[due.len()..].iter().all(|byte| *byte == b'?'));
@@ -255,6 +263,108 @@ fn written() {
     assert!(out.iter().all(|byte| *byte == b'?'));
     // what is written is read back as the same session
     assert_eq!(read(due.as_bytes()), kept);
+}
+
+/// The length, then memory of just that size, then the text: for each text of the folder, for no lines, and for one that is
+/// written longer than a text may be.
+#[test]
+fn the_length_and_then_the_filling() {
+    let mut grows = "v=0\n".to_string() + &"a=\n".repeat(512) + &"m= 0  \n".repeat(32) + "i=";
+    grows += &"x".repeat(LONGEST - grows.len());
+    let mut texts = vec![RICH.to_vec(), b"v=0".to_vec(), grows.into_bytes()];
+    for folder in ["published", "kinds"] {
+        let files = std::fs::read_dir(page::path(&format!("texts/{folder}"))).unwrap().map(|entry| entry.unwrap().path());
+        let of_texts = files.filter(|file| file.extension().map_or(false, |end| end == "sdp"));
+        texts.extend(of_texts.map(|file| std::fs::read(file).unwrap()));
+    }
+    let (mut written, mut longest) = (0, 0);
+    for text in &texts {
+        let Ok(kept) = SessionBuf::parse(&text[..]) else { continue };
+        let session = kept.session();
+        let len = session.written_len().unwrap();
+        let mut out = vec![b'?'; len];
+        let error = session.write(&mut out[1..]).unwrap_err();
+        assert_eq!((error.number(), error.len()), (22, len as u64));
+        assert!(out.iter().all(|byte| *byte == b'?'), "a refusal leaves the slice as it was");
+        assert_eq!(session.write(&mut out).map(<[u8]>::len), Ok(len));
+        let vector = session.to_vec();
+        assert_eq!((vector.len(), vector.capacity()), (len, len), "no more memory than it needs");
+        assert_eq!(vector, out);
+        assert_eq!(session.to_string().into_bytes(), out);
+        (written, longest) = (written + 1, longest.max(len));
+    }
+    println!("session: {written} texts written into as many bytes as they need, the longest into {longest}");
+    assert!(written > 50 && longest > LONGEST && longest <= ROOM);
+}
+
+/// What `to_vec` does by: the spare capacity is filled, what stands before it stays, and a vector without room too.
+#[test]
+fn the_spare_capacity_of_a_vector() {
+    let mut area = Area::new();
+    sdp::read(RICH, &mut area).unwrap();
+    let due = sdp::kept(RICH, &area).unwrap().to_vec();
+    let mut out = Vec::with_capacity(due.len() + 100);
+    out.extend(b"before");
+    assert_eq!(ffi::fill_spare(RICH, area.as_bytes(), &mut out), ffi::length(RICH, area.as_bytes()));
+    assert_eq!(out, [b"before", &due[..]].concat());
+    let (room, full) = (out.capacity() - out.len(), out.clone());
+    assert!(room < due.len());
+    let answer = ffi::fill_spare(RICH, area.as_bytes(), &mut out);
+    assert_eq!((answer.number, answer.len as usize, &out), (22, due.len(), &full));
+    let mut none = Vec::new();
+    assert_eq!(ffi::fill_spare(RICH, area.as_bytes(), &mut none).number, 22);
+    assert_eq!(ffi::fill_spare(RICH, &area.as_bytes()[1..], &mut out).number, 2);
+    assert!(none.is_empty() && out == full);
+}
+
+/// Takes some bytes at a time, and is interrupted before each; from `most` bytes on it fails.
+struct Slow {
+    taken: Vec<u8>,
+    calls: usize,
+    most: usize,
+}
+
+impl Write for Slow {
+    fn write(&mut self, bytes: &[u8]) -> io::Result<usize> {
+        self.calls += 1;
+        if self.calls % 2 == 1 {
+            return Err(ErrorKind::Interrupted.into());
+        }
+        if self.taken.len() >= self.most {
+            return Err(io::Error::new(ErrorKind::Other, "the disk is full"));
+        }
+        let some = bytes.len().min(7);
+        self.taken.extend(&bytes[..some]);
+        Ok(some)
+    }
+
+    fn flush(&mut self) -> io::Result<()> {
+        Ok(())
+    }
+}
+
+#[test]
+fn to_a_writer() {
+    let kept = read(RICH);
+    let (session, due) = (kept.session(), kept.session().to_vec());
+    // behind what is there; and a slice, as far as it goes
+    let mut output = b"before".to_vec();
+    session.write_to(&mut output).unwrap();
+    assert_eq!(output, [b"before", &due[..]].concat());
+    let mut slice = vec![b'?'; due.len() - 1];
+    assert_eq!(session.write_to(&mut &mut slice[..]).unwrap_err().kind(), ErrorKind::WriteZero);
+    assert_eq!(slice, due[..due.len() - 1]);
+    // seven bytes at a time, by a writer of which only the trait is known
+    let slow = |most| Slow { taken: Vec::new(), calls: 0, most };
+    let mut all = slow(usize::MAX);
+    session.write_to(&mut all as &mut dyn Write).unwrap();
+    assert_eq!((all.taken, all.calls), (due.clone(), 2 * ((due.len() + 6) / 7)));
+    // the writer's own error comes as it is, and is no refusal
+    let mut some = slow(21);
+    let error = session.write_to(&mut some).unwrap_err();
+    assert_eq!((error.kind(), &error.to_string()[..]), (ErrorKind::Other, "the disk is full"));
+    assert!(error.get_ref().unwrap().downcast_ref::<Error>().is_none());
+    assert_eq!(some.taken, due[..21]);
 }
 
 /// The longest text that there is, and one byte more.
@@ -288,6 +398,10 @@ fn errors() {
     // as any error of Rust's std
     let boxed: Box<dyn std::error::Error + Send + Sync> = Box::new(error);
     assert_eq!(boxed.to_string(), "line 3: the version is not 0 (refusal 7)");
+    // and as an error of reading and writing files, which keeps it
+    let error = io::Error::from(error);
+    assert_eq!((error.kind(), &error.to_string()[..]), (ErrorKind::InvalidData, &boxed.to_string()[..]));
+    assert_eq!(error.get_ref().unwrap().downcast_ref::<Error>(), boxed.downcast_ref());
 }
 
 #[test]
@@ -446,8 +560,8 @@ fn the_readme_s_lines() -> Result<(), Error> {
     for zone in session.time_zones() {
         println!("{} s from {} on", zone.offset, zone.adjustment_time); // minus one hour is -3600
     }
-    let mut out = [0; sdp::ROOM];                       // enough for any text that was read
-    let written: &[u8] = session.write(&mut out)?;
+    let mut out = vec![0; session.written_len()?];      // or [0; sdp::ROOM]: enough for any text that was read
+    let written: &[u8] = session.write(&mut out)?;      // to a file or a socket: session.write_to(&mut file)?
     for start in &session.starts(from..to)? {           // seconds since 1900, as SDP counts; no heap
         println!("{} by time {}", start.at, start.time);
     }

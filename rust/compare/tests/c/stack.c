@@ -14,6 +14,7 @@ enum { SMALLEST = 16384, MOST = 1 << 20, BELOW = 1 << 20, PAINT = 0xa5 };
 
 static uint8_t text[2 * SDP_LONGEST], area[SDP_AREA_SIZE], noise[SDP_AREA_SIZE], out[SDP_ROOM];
 static size_t len;
+static uint64_t needed; /* bytes that what is read is written with */
 
 static uint64_t utf8_end(void) { return sdp_utf8_end(text, len); }
 static uint64_t is_token(void) { return sdp_is_token(text, len); }
@@ -23,9 +24,18 @@ static uint64_t typed_time(void) { return sdp_typed_time(text, len).number; }
 static uint64_t cut(void) { return sdp_cut(text, len, 0, 1).kind; }
 static uint64_t cut_last(void) { return sdp_cut(text, len, len > 0 ? len - 1 : 0, SIZE_MAX).kind; }
 static uint64_t read_text(void) { return sdp_read(text, len, area, sizeof area).number; }
-static uint64_t write_text(void) { return sdp_write(text, len, area, sizeof area, out, sizeof out).number; }
-static uint64_t write_short(void) { return sdp_write(text, len, area, sizeof area, out, 0).number; }
-static uint64_t write_noise(void) { return sdp_write(text, len, noise, sizeof noise, out, sizeof out).number; }
+static uint64_t length(void) {
+    struct sdp_answer answer = sdp_length(text, len, area, sizeof area);
+    needed = answer.len;
+    return answer.number;
+}
+static uint64_t length_noise(void) { return sdp_length(text, len, noise, sizeof noise).number; }
+static uint64_t fill(void) { return sdp_fill(text, len, area, sizeof area, out, sizeof out).number; }
+static uint64_t fill_exact(void) {
+    return sdp_fill(text, len, area, sizeof area, out, needed < sizeof out ? (size_t)needed : sizeof out).number;
+}
+static uint64_t fill_short(void) { return sdp_fill(text, len, area, sizeof area, out, 0).number; }
+static uint64_t fill_noise(void) { return sdp_fill(text, len, noise, sizeof noise, out, sizeof out).number; }
 static uint64_t letter_order(void) { return sdp_letter_order(text, len).yes; }
 static uint64_t area_size(void) { return sdp_area_size(); }
 static uint64_t list(const uint8_t *of, uint64_t from, uint64_t to) {
@@ -60,9 +70,12 @@ int main(void) {
         {"sdp_cut", cut, 0, 0},
         {"sdp_cut", cut_last, 0, 0},
         {"sdp_read", read_text, 0, 0},
-        {"sdp_write", write_text, 0, 0},
-        {"sdp_write", write_short, 0, 0},
-        {"sdp_write", write_noise, 0, 0},
+        {"sdp_length", length, 0, 0},
+        {"sdp_length", length_noise, 0, 0},
+        {"sdp_fill", fill, 0, 0},
+        {"sdp_fill", fill_exact, 0, 0},
+        {"sdp_fill", fill_short, 0, 0},
+        {"sdp_fill", fill_noise, 0, 0},
         {"sdp_letter_order", letter_order, 0, 0},
         {"sdp_area_size", area_size, 0, 0},
         {"sdp_starts", starts, sizeof(struct sdp_starts), 0},

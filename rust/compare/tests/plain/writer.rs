@@ -5,7 +5,7 @@ use compare::made::at;
 use compare::Answer;
 
 /// What each slip does wrong. The comparison must find every one.
-pub const SLIPS: [&str; 63] = [
+pub const SLIPS: [&str; 81] = [
     "every session is refused",
     "nothing is refused for its output",
     "an exact output is too short",
@@ -69,6 +69,24 @@ pub const SLIPS: [&str; 63] = [
     "the session's key is not judged",
     "a media's key is not judged",
     "a key's text is not judged",
+    "a length is one more",
+    "a length is one less",
+    "a length is always enough",
+    "a length counts what is dropped",
+    "a length counts the keys",
+    "a length is answered with 22",
+    "a bad session has a length",
+    "a refusal of the length has one",
+    "a length: 1 before 2",
+    "a length: 23 before 1",
+    "a length: no 1",
+    "a length: no 2",
+    "filling: 1 before 2",
+    "filling: 23 before 1",
+    "filling: 22 before 23",
+    "filling: no 1",
+    "filling: 1 leaves a byte",
+    "filling: 2 leaves a byte",
 ];
 
 pub struct PlainWriter {
@@ -89,27 +107,75 @@ impl PlainWriter {
         self.slip == slip
     }
 
-    pub fn write(&self, text: &[u8], area: &[u8], out: &mut [u8]) -> Answer {
-        if area.len() < SIZE {
-            return answer(2, 0);
-        }
-        if text.len() > 32_768 {
-            return answer(1, 0);
-        }
+    /// Whether the session can be written, and what is written then. Of an area that is too short the rest is zero.
+    fn session(&self, text: &[u8], area: &[u8]) -> (bool, Vec<u8>) {
+        let mut whole = area.to_vec();
+        whole.resize(SIZE.max(area.len()), 0);
         let mut pen = Pen {
             plain: self,
             text,
-            area,
+            area: &whole,
             out: Vec::new(),
         };
-        if !pen.good() || self.slips("every session is refused") {
-            if self.slips("a bad session leaves a byte") && !out.is_empty() {
-                out[0] = b'v';
-            }
-            return answer(23, 0);
-        }
+        let good = pen.good() && !self.slips("every session is refused");
         pen.session();
-        let (written, room) = (pen.out, out.len());
+        (good, pen.out)
+    }
+
+    /// What one of the two calls, `length` or `filling`, refuses before it looks at an output; or what is written.
+    fn judged(&self, call: &str, text: &[u8], area: &[u8]) -> Result<Vec<u8>, u64> {
+        let slips = |what: &str| self.slip.strip_prefix(call).map_or(false, |rest| rest == what);
+        let (good, written) = self.session(text, area);
+        let (short, long) = (area.len() < SIZE && !slips(": no 2"), text.len() > 32_768 && !slips(": no 1"));
+        if short && long {
+            return Err(if slips(": 1 before 2") { 1 } else { 2 });
+        }
+        if long && !good && slips(": 23 before 1") {
+            return Err(23);
+        }
+        match (short, long, good) {
+            (true, ..) => Err(2),
+            (_, true, _) => Err(1),
+            (.., false) => Err(23),
+            _ => Ok(written),
+        }
+    }
+
+    pub fn length(&self, text: &[u8], area: &[u8]) -> Answer {
+        // as long as a writer with another slip would write it
+        let by = |slip| PlainWriter { slip }.session(text, area).1.len();
+        match (self.judged("a length", text, area), self.slip) {
+            (Err(23), "a bad session has a length") => answer(0, by("")),
+            (Err(number), "a refusal of the length has one") => answer(number, by("")),
+            (Err(number), _) => answer(number, 0),
+            (Ok(written), "a length is one more") => answer(0, written.len() + 1),
+            (Ok(written), "a length is one less") => answer(0, written.len() - 1),
+            (Ok(written), "a length is always enough") => answer(0, written.len() + 100),
+            (Ok(_), "a length counts what is dropped") => answer(0, by("CR is kept")),
+            (Ok(_), "a length counts the keys") => answer(0, by("a media's key is written")),
+            (Ok(written), "a length is answered with 22") => answer(22, written.len()),
+            (Ok(written), _) => answer(0, written.len()),
+        }
+    }
+
+    pub fn fill(&self, text: &[u8], area: &[u8], out: &mut [u8]) -> Answer {
+        let room = out.len();
+        let written = match self.judged("filling", text, area) {
+            Ok(written) => written,
+            Err(number) => {
+                let left = match number {
+                    1 => self.slips("filling: 1 leaves a byte"),
+                    2 => self.slips("filling: 2 leaves a byte"),
+                    _ => self.slips("a bad session leaves a byte"),
+                };
+                if left && room > 0 {
+                    out[0] = b'v';
+                }
+                let needed = self.session(text, area).1.len();
+                let too_short = number == 23 && room < needed && self.slips("filling: 22 before 23");
+                return if too_short { answer(22, needed) } else { answer(number, 0) };
+            }
+        };
         if room < written.len() && self.slips("nothing is refused for its output") {
             out.copy_from_slice(&written[..room]);
             return answer(0, room);

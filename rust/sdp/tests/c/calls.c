@@ -20,22 +20,26 @@ static void list(struct sdp_starts s) {
 static int empty(void) {
     static uint8_t area[SDP_AREA_SIZE];
     struct sdp_answer read = sdp_read(NULL, 0, area, sizeof area), short_area = sdp_read(NULL, 0, NULL, 0);
-    struct sdp_answer written = sdp_write(NULL, 0, area, sizeof area, NULL, 0);
+    struct sdp_answer length = sdp_length(NULL, 0, area, sizeof area);
+    struct sdp_answer filled = sdp_fill(NULL, 0, area, sizeof area, NULL, 0);
     if (read.number != SDP_NO_VERSION || short_area.number != SDP_AREA_TOO_SHORT) return 2;
     /* a zero area is a session of its own, that of v=0 */
-    if (written.number != SDP_OUTPUT_TOO_SHORT || written.len != 40) return 3;
-    if (sdp_write(NULL, 0, NULL, 0, NULL, 0).number != SDP_AREA_TOO_SHORT) return 4;
-    if (sdp_utf8_end(NULL, 0) != 0 || sdp_is_token(NULL, 0)) return 5;
-    if (sdp_number16(NULL, 0).number != SDP_BAD_FORM || sdp_number64(NULL, 0).number != SDP_BAD_FORM) return 6;
-    if (sdp_typed_time(NULL, 0).number != SDP_BAD_FORM || sdp_cut(NULL, 0, 0, 1).kind != 0) return 7;
-    if (sdp_letter_order(NULL, 0).number != 0 || sdp_letter_order(NULL, 0).yes != 0) return 8;
-    if (sdp_starts(NULL, 0, NULL, 0, 0, UINT64_MAX).number != SDP_AREA_TOO_SHORT) return 9;
-    if (sdp_starts(NULL, 0, area, sizeof area, 0, UINT64_MAX).number != SDP_DONE) return 10;
+    if (length.number != SDP_DONE || length.len != 40) return 3;
+    if (filled.number != SDP_OUTPUT_TOO_SHORT || filled.len != 40) return 4;
+    if (sdp_length(NULL, 0, NULL, 0).number != SDP_AREA_TOO_SHORT) return 5;
+    if (sdp_fill(NULL, 0, NULL, 0, NULL, 0).number != SDP_AREA_TOO_SHORT) return 6;
+    if (sdp_utf8_end(NULL, 0) != 0 || sdp_is_token(NULL, 0)) return 7;
+    if (sdp_number16(NULL, 0).number != SDP_BAD_FORM || sdp_number64(NULL, 0).number != SDP_BAD_FORM) return 8;
+    if (sdp_typed_time(NULL, 0).number != SDP_BAD_FORM || sdp_cut(NULL, 0, 0, 1).kind != 0) return 9;
+    if (sdp_letter_order(NULL, 0).number != 0 || sdp_letter_order(NULL, 0).yes != 0) return 10;
+    if (sdp_starts(NULL, 0, NULL, 0, 0, UINT64_MAX).number != SDP_AREA_TOO_SHORT) return 11;
+    if (sdp_starts(NULL, 0, area, sizeof area, 0, UINT64_MAX).number != SDP_DONE) return 12;
     return 0;
 }
 
 int main(void) {
-    static uint8_t text[SDP_LONGEST], area[SDP_AREA_SIZE], out[20];
+    static uint8_t text[SDP_LONGEST], area[SDP_AREA_SIZE], out[20], exact[SDP_ROOM];
+    struct sdp_answer length;
     size_t len = fread(text, 1, sizeof text, stdin);
     struct sdp_piece p = sdp_cut(text, len, 0, 7);
     struct sdp_order order = sdp_letter_order(text, len);
@@ -49,7 +53,10 @@ int main(void) {
     printf("%" PRIu64 " %" PRIu64 " %" PRIu64 " %" PRIu64 " ", p.kind, p.number, p.line, p.letter);
     printf("%" PRIu64 " %" PRIu64 " %" PRIu64 " %" PRIu64 "\n", p.place, p.len, p.next_place, p.next_line);
     answer(sdp_read(text, len, area, sizeof area));
-    answer(sdp_write(text, len, area, sizeof area, out, sizeof out));
+    length = sdp_length(text, len, area, sizeof area);
+    answer(length);
+    answer(sdp_fill(text, len, area, sizeof area, out, sizeof out));
+    answer(sdp_fill(text, len, area, sizeof area, exact, (size_t)length.len));
     list(sdp_starts(text, len, area, sizeof area, 100, 1000));
     printf("%" PRIu64 " %" PRIu64 "\n%zu\n", order.number, order.yes, sdp_area_size());
     return empty();
