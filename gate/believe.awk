@@ -637,7 +637,7 @@ BEGIN {
         tally()
         if (page) {
             print "| `" name "` | " defs_n + types_n " | " defs_lines + types_lines " | " files_n " |"
-            if (name == "sdp_read" || name == "sdp_write" || name == "sdp_starts") rest = rest page_list(name)
+            if (name == "sdp_read" || name == "sdp_fill" || name == "sdp_starts") rest = rest page_list(name)
         } else print_list(name)
     }
     if (page) printf "%s", rest
