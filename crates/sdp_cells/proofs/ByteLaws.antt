@@ -2,11 +2,11 @@
 -- Assumes nothing.
 use mathlib.Core.Path.{_≡_, refl, sym, ap, _∙_}
 use mathlib.Core.List.{List, [], _∷_, _++_, append-assoc}
-use Prim.Native.Nat.{ℕ, zero, suc, _+_, _*_, _/_, _%_, _^_, _≤_, _<_}
+use Prim.Native.Nat.{ℕ, zero, suc, _+_, _*_, _-_, _/_, _%_, _^_, _≤_, _<_}
 use native.Mathlib.Nat.{add-suc, suc-add, add-zero, add-assoc, pow-suc, div-div-eq-div-mul}
 use native.Mathlib.Omega.{arith}
-use lib.ListN.{length, take, drop, getD, set, length-append, length-replicate, replicate-append-replicate, take-append-drop}
-use lib.Seq.{sets, sets-eq, length-sets, take-at, drop-at, drop-append-add, getD-append-add}
+use lib.ListN.{length, take, drop, getD, set, length-append, length-drop, length-replicate, replicate-append-replicate, take-append-drop}
+use lib.Seq.{sets, sets-eq, length-sets, take-all, take-at, drop-at, drop-append-add, getD-append-add, getD-drop}
 use Rattle.sdp_cells.specs.Bytes.{le, num, over, zeros}
 
 -- ---- written over a list
@@ -79,6 +79,16 @@ pub num-below : (a : List ℕ) → ((i : ℕ) → getD a i 0 < 256) → (k p : �
 unfolding num
 num-below a byte zero p = omega arith
 num-below a byte (suc k) p = omega (arith, byte p, num-below a byte k (p + 1), pow-suc 256 k)
+
+-- what the rest from i on spells
+num-drop : (a : List ℕ) (i k n : ℕ) → num k (drop i a) n ≡ num k a (i + n)
+unfolding num
+num-drop a i zero n = refl
+num-drop a i (suc k) n =
+    omega (arith, getD-drop i a n 0, num-drop a i k (n + 1), ap (num k a) (add-assoc i n 1))
+
+pub num-rest : (a : List ℕ) (i k n : ℕ) → num k (take (length a - i) (drop i a)) n ≡ num k a (i + n)
+num-rest a i k n = ap (λ (s : List ℕ). num k s n) (take-all (length a - i) (drop i a) (omega (arith, length-drop i a))) ∙ num-drop a i k n
 
 -- ---- eight bytes, two at a time
 num-cong : (k : ℕ) (a : List ℕ) {i j : ℕ} → i ≡ j → num k a i ≡ num k a j

@@ -29,15 +29,16 @@ pub fn get2(a: &[u8], at: usize) -> usize
     (a[at] as usize) + 256 * (a[at + 1] as usize)
 }
 
-// The number in the eight bytes at a place.
+// The number in the eight bytes at a place. Counted from there, they are one load of the machine.
 pub fn get8(a: &[u8], at: usize) -> usize
     requires { ⌜ at + 8 ≤ length (now a) ⌝ }
     ensures { λ r. ⌜ r ≡ num 8 (now (a .entry)) at ⌝ }
 {
-    get2(a, at)
-        + get2(a, at + 2) * 0x1_0000
-        + get2(a, at + 4) * 0x1_0000_0000
-        + get2(a, at + 6) * 0x1_0000_0000_0000
+    let s = &a[at..];
+    get2(s, 0)
+        + get2(s, 2) * 0x1_0000
+        + get2(s, 4) * 0x1_0000_0000
+        + get2(s, 6) * 0x1_0000_0000_0000
 }
 
 // Numbers of two bytes each, one after the other.
