@@ -54,10 +54,10 @@ const BESIDE: [usize; 16] = [
 /// v, s, i, u, `t=0 0` and the z line, without what they hold.
 const FIXED: usize = 28;
 
-/// From an output of so many bytes on, one pass writes; before a shorter one is written, another pass counts. Every string
+/// From an output of so many bytes on it is filled at once; before a shorter one is, the length is found. Every string
 /// counts whole, absent or not, but for those of keys, which are never written. By docs/AREA.md, and not by our code; its
 /// definition is crates/sdp_room/specs/Room.antt.
-pub fn one_pass_from(area: &[u8]) -> usize {
+pub fn at_once_from(area: &[u8]) -> usize {
     let mut sum = FIXED;
     for (part, beside) in PARTS.iter().zip(BESIDE) {
         let (rows, first) = if part.rows == 0 { (1, part.at) } else { (judge::two(area, part.at), part.at + 2) };
@@ -159,7 +159,7 @@ impl<L: Fn(&[u8], &[u8]) -> Answer, F: Fn(&[u8], &[u8], &mut [u8]) -> Answer> Wr
     }
 
     /// Both sides on one area of `SIZE` bytes or more, with a text that isn't too long: the length, the filling of just so
-    /// many bytes, and outputs that are empty, short and longer, and so long that one pass is enough.
+    /// many bytes, and outputs that are empty, short and longer, and so long that they are filled at once.
     pub fn compare(&self, text: &[u8], area: &[u8]) -> Result<Outcome, String> {
         let faults = judge::faults(text, area);
         let due = by_the_crate(text, area);
@@ -170,11 +170,11 @@ impl<L: Fn(&[u8], &[u8]) -> Answer, F: Fn(&[u8], &[u8], &mut [u8]) -> Answer> Wr
                 for room in [0, 1, len / 2] {
                     self.call(text, area, room, refusal(22, len), b"")?;
                 }
-                let one_pass = one_pass_from(area);
-                if one_pass < len {
-                    return Err(format!("{len} bytes are written, and {one_pass} are said to be enough"));
+                let at_once = at_once_from(area);
+                if at_once < len {
+                    return Err(format!("{len} bytes are written, and {at_once} are said to be enough"));
                 }
-                for room in [len + 1, len + 77, one_pass] {
+                for room in [len + 1, len + 77, at_once] {
                     if room <= len + 77 || room <= LONG_OUTPUT {
                         self.call(text, area, room, refusal(0, len), &due)?;
                     }

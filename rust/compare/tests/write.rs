@@ -7,7 +7,7 @@ use compare::area::{
 use compare::judge::{cells, faults, judge, two, Fault, Kind, FAULTS};
 use compare::made::{self, at, put_eight, put_two, DAMAGES};
 use compare::whole::Whole;
-use compare::writing::{is_key, kept_lines, one_pass_from, ours, Fill, Length, Outcome};
+use compare::writing::{is_key, kept_lines, at_once_from, ours, Fill, Length, Outcome};
 use compare::{fill, length, read, theirs, Answer};
 use generate::fields::BROKEN;
 use generate::random::count;
@@ -488,6 +488,25 @@ fn hard_strings() {
     assert_eq!((classes.good, classes.bad), (12 * 3 * 2, 0));
 }
 
+/// Of a text that is all ASCII the strings need no look. So one byte is changed, in each place: within a string, where it
+/// may make it bad, and between the strings, where it may not.
+#[test]
+fn one_byte_beyond_ascii() {
+    let text = b"v=0\ns=abc\nx=def\nm=audio 1 RTP/AVP 0\n".to_vec();
+    let area = area_of(&text).unwrap();
+    let mut classes = Classes::default();
+    for byte in [0, b'\n', 0x7f, 0x80, 0x81, 0xc2, 0xff] {
+        for place in 0..text.len() {
+            let mut text = text.clone();
+            text[place] = byte;
+            classes.add(&text, &area);
+        }
+    }
+    classes.print("one byte beyond ASCII");
+    let bad = 4 * "abcaudioRTP/AVP0".len();
+    assert_eq!((classes.good as usize, classes.bad as usize), (7 * text.len() - bad, bad));
+}
+
 /// A session's whole text, written by ours and compared with the crate.
 fn whole(text: &[u8], area: &[u8]) -> String {
     match ours().same(text, area) {
@@ -774,7 +793,7 @@ fn into_outputs(text: &[u8], area: &[u8], rooms: impl Iterator<Item = usize>) ->
     tried
 }
 
-/// An output of every length, from none to twice that from which on one pass writes: the switch between one pass and two
+/// An output of every length, from none to twice that from which on the length isn't asked for: the switch between the two ways
 /// is surely among them.
 #[test]
 fn outputs_of_every_length() {
@@ -807,16 +826,16 @@ fn outputs_of_every_length() {
         (Vec::new(), vec![0; SIZE]),
         (Vec::new(), noisy),
     ] {
-        let one_pass = one_pass_from(&area);
-        assert!(whole(&text, &area).len() < one_pass);
-        tried += into_outputs(&text, &area, 0..2 * one_pass);
+        let at_once = at_once_from(&area);
+        assert!(whole(&text, &area).len() < at_once);
+        tried += into_outputs(&text, &area, 0..2 * at_once);
     }
     println!("write: outputs of {tried} lengths");
     assert!(tried > 5_000);
 }
 
 /// Every string in turn is so long that all else is little beside it. If one weren't counted in the room that is surely
-/// enough, or not wholly, one pass would be taken for an output that is too short.
+/// enough, or not wholly, the length would not be asked for before an output that is too short.
 #[test]
 fn outputs_beside_a_long_string() {
     let (mut text, area) = rich();
@@ -827,14 +846,14 @@ fn outputs_beside_a_long_string() {
         let mut long = area.clone();
         put_two(&mut long, cell.at, place);
         put_two(&mut long, cell.at + 2, 5_000);
-        let (needed, one_pass) = (whole(&text, &long).len(), one_pass_from(&long));
+        let (needed, at_once) = (whole(&text, &long).len(), at_once_from(&long));
         if is_key(cell.part, cell.name) {
             // neither written nor counted
-            assert_eq!((needed, one_pass), (whole(&text, &area).len(), one_pass_from(&area)));
+            assert_eq!((needed, at_once), (whole(&text, &area).len(), at_once_from(&area)));
         } else {
-            assert!(needed > 5_000 && needed < one_pass && one_pass / 2 < needed);
+            assert!(needed > 5_000 && needed < at_once && at_once / 2 < needed);
         }
-        let rooms = [0, 1, one_pass / 2, needed - 1, needed, one_pass - 1, one_pass, one_pass + 1];
+        let rooms = [0, 1, at_once / 2, needed - 1, needed, at_once - 1, at_once, at_once + 1];
         tried += into_outputs(&text, &long, rooms.into_iter());
     }
     println!("write: outputs of {tried} lengths beside a long string");
