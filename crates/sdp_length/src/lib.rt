@@ -363,7 +363,7 @@ fn tables_len(text: &[u8], area: &[u8]) -> usize
         + rows_len(text, area, Kind::Media, MEDIAS, 36)
 }
 
-// Each row is written once, since its owner is there.
+// The length of what is written of the area: each row counts once, since its owner is there.
 pub fn length_of(text: &[u8], area: &[u8]) -> usize
     requires { ⌜ Counted (now area) ⌝ }
     requires { ⌜ owners (now area) ≡ true ⌝ }

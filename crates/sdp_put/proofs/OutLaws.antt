@@ -26,7 +26,7 @@ pub length-put : (o : List ℕ) (at : ℕ) (bs : List ℕ) → length (put o at 
 unfolding put
 length-put o at bs = length-sets o at bs
 
--- past the end nothing changes: this is how the length is found
+-- past the end nothing changes
 pub put-out : (bs o : List ℕ) (at : ℕ) → length o ≤ at → put o at bs ≡ o
 unfolding put
 put-out [] o at h = refl

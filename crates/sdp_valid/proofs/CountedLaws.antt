@@ -8,6 +8,8 @@ use native.Mathlib.Omega.{arith}
 use lib.ListN.{length}
 use lib.Dec.{leb}
 use borrow.Author.Tests.{leb-true}
+use Rattle.sdp_numbers.specs.Tables.{mostEmails, mostPhones, mostMediaConnections, mostBandwidths, mostTimes}
+use Rattle.sdp_numbers.specs.Tables.{mostRepeats, mostOffsets, mostZones, mostAttributes, mostMedias}
 use Rattle.sdp_bytes.proofs.ScanLaws.{and-left, and-right}
 use Rattle.sdp_cells.specs.Bytes.{num}
 use Rattle.sdp_area.specs.Area.{emailsAt, phonesAt, connectionsAt, bandwidthsAt, timesAt, repeatsAt, offsetsAt, zonesAt, attributesAt, mediasAt}
@@ -31,13 +33,13 @@ five k l m n o k′ l′ m′ n′ o′ h =
 
 -- ---- the ten tables
 module _ (a : List ℕ) (c : Counted a) where
-  small : (num 2 a emailsAt ≤ 16) × (num 2 a phonesAt ≤ 16) × (num 2 a connectionsAt ≤ 64) × (num 2 a bandwidthsAt ≤ 64) × (num 2 a timesAt ≤ 32)
+  small : (num 2 a emailsAt ≤ mostEmails) × (num 2 a phonesAt ≤ mostPhones) × (num 2 a connectionsAt ≤ mostMediaConnections) × (num 2 a bandwidthsAt ≤ mostBandwidths) × (num 2 a timesAt ≤ mostTimes)
   unfolding Judge.smallCounts
-  small = five (num 2 a emailsAt) (num 2 a phonesAt) (num 2 a connectionsAt) (num 2 a bandwidthsAt) (num 2 a timesAt) 16 16 64 64 32 (c .small)
+  small = five (num 2 a emailsAt) (num 2 a phonesAt) (num 2 a connectionsAt) (num 2 a bandwidthsAt) (num 2 a timesAt) mostEmails mostPhones mostMediaConnections mostBandwidths mostTimes (c .small)
 
-  large : (num 2 a repeatsAt ≤ 64) × (num 2 a offsetsAt ≤ 256) × (num 2 a zonesAt ≤ 64) × (num 2 a attributesAt ≤ 512) × (num 2 a mediasAt ≤ 32)
+  large : (num 2 a repeatsAt ≤ mostRepeats) × (num 2 a offsetsAt ≤ mostOffsets) × (num 2 a zonesAt ≤ mostZones) × (num 2 a attributesAt ≤ mostAttributes) × (num 2 a mediasAt ≤ mostMedias)
   unfolding Judge.largeCounts
-  large = five (num 2 a repeatsAt) (num 2 a offsetsAt) (num 2 a zonesAt) (num 2 a attributesAt) (num 2 a mediasAt) 64 256 64 512 32 (c .large)
+  large = five (num 2 a repeatsAt) (num 2 a offsetsAt) (num 2 a zonesAt) (num 2 a attributesAt) (num 2 a mediasAt) mostRepeats mostOffsets mostZones mostAttributes mostMedias (c .large)
 
   pub emails-inside : Inside a emailsAt 4
   emails-inside = omega (arith, c .whole, small .0)

@@ -183,7 +183,8 @@ pub fn fill(text: &[u8], area: &[u8], out: &mut [u8]) -> Answer {
 pub fn fill_spare(text: &[u8], area: &[u8], out: &mut Vec<u8>) -> Answer {
     let spare = out.spare_capacity_mut();
     let (start, room) = (spare.as_mut_ptr().cast::<u8>(), spare.len());
-    // SAFETY: the archive never reads an output, so what it is lent need not be initialised; it writes only within it.
+    // SAFETY: the archive never reads an output (a test asks its source), so what it is lent need not be initialised; it
+    // writes only within it.
     let answer = unsafe { raw::sdp_fill(text.as_ptr(), text.len(), area.as_ptr(), area.len(), start, room) };
     if answer.number == 0 {
         let len = answer.len as usize;

@@ -57,6 +57,26 @@ fn exported() -> Vec<Function> {
     all
 }
 
+/// `ffi::fill_spare` lends memory that was not set. So in the crates that are lent an output a byte of it stands only where
+/// it is stored, and nothing else is asked of it than its length.
+#[test]
+fn no_output_is_read() {
+    let mut stores = 0;
+    for name in ["sdp_put", "sdp_row", "sdp_table_row", "sdp_tables", "sdp_write"] {
+        for line in file(&format!("crates/{name}/src/lib.rt")).lines().map(str::trim) {
+            if ["//", "ghost ", "ensures ", "requires "].iter().any(|start| line.starts_with(start)) {
+                continue;
+            }
+            let stored = line.starts_with("out[") && line.contains("] = ");
+            let others = line.matches("out[").count() - usize::from(stored);
+            let asked = line.matches("out.").count() - line.matches("out.len()").count();
+            assert_eq!((others, asked, line.contains("&out")), (0, 0, false), "{name}: {line}");
+            stores += usize::from(stored);
+        }
+    }
+    assert_eq!(stores, 1 + 4 + 8, "one byte, four digits, eight bytes");
+}
+
 /// The fields of a struct that crosses to C, by the source; they all are u64, or arrays of it.
 fn source_fields(name: &str) -> Vec<(String, String)> {
     let head = format!("#[repr(C)]\npub struct {name} {{");
