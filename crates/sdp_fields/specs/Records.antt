@@ -5,8 +5,8 @@ use mathlib.Core.List.{List}
 use lib.ListN.{getD}
 use lib.Dec.{eqb}
 use Rattle.sdp_numbers.specs.Fields as fields
-use Rattle.sdp_split.specs.Split.{wordAt, firstPiece, pieceAfter, restAfter}
-use Rattle.sdp_judge.specs.Read.{Read, got, textOf, tokenOf, numberOf, choiceOf}
+use Rattle.sdp_split.specs.Split.{words, nextWord, firstPiece, pieceAfter, restAfter}
+use Rattle.sdp_judge.specs.Read.{Read, got, textOf, numberOf, choiceOf, nextText, nextToken, nextNumber}
 use Rattle.sdp_judge.specs.Read.{afterText, afterAmount, afterChoice, ending, andThen}
 use Rattle.sdp_split.specs.declared.Piece.{Piece}
 use Rattle.sdp_judge.specs.declared.MaybePiece.{MaybePiece}
@@ -23,22 +23,22 @@ usernameOf v p =
     (record { there = false; piece = record { at = 0; len = 0 } })
     (record { there = true; piece = p })
 
--- how o and c end: nettype, addrtype and address from place i on and nothing after them, the fields w, w + 1 and w + 2
-unfoldable pub addressOf : ℕ → List ℕ → ℕ → Read Connection
-addressOf w v i =
-    afterText (tokenOf w v (wordAt v i)) (λ net e.
-    afterText (tokenOf (w + 1) v (wordAt v e)) (λ kind e.
-    afterText (textOf (w + 2) v (wordAt v e)) (λ address e.
-    ending (w + 3) (wordAt v e)
+-- how o and c end: of the words that are left nettype, addrtype and address and nothing after them, the fields w, w + 1 and w + 2
+unfoldable pub addressOf : ℕ → List ℕ → List Piece → Read Connection
+addressOf w v ws =
+    nextToken w v ws (λ net ws.
+    nextToken (w + 1) v ws (λ kind ws.
+    nextText (w + 2) v ws (λ address ws.
+    ending (w + 3) (nextWord ws)
     (got (record { nettype = net; addrtype = kind; «connection_address» = address })))))
 
 -- "o: username, sess-id, version number, nettype, addrtype, address"
 unfoldable pub originOf : List ℕ → Read Origin
 originOf v =
-    afterText (textOf fields.username v (wordAt v 0)) (λ user e.
-    afterText (textOf fields.sessId v (wordAt v e)) (λ id e.
-    afterAmount (numberOf fields.sessVersion v (wordAt v e)) (λ version e.
-    andThen (addressOf fields.originNettype v e) (λ place.
+    nextText fields.username v (words v) (λ user ws.
+    nextText fields.sessId v ws (λ id ws.
+    nextNumber fields.sessVersion v ws (λ version ws.
+    andThen (addressOf fields.originNettype v ws) (λ place.
     got (record {
       username = usernameOf v user;
       «sess_id» = id;
@@ -50,7 +50,7 @@ originOf v =
 
 -- c: nettype, addrtype, connection-address
 unfoldable pub connectionOf : List ℕ → Read Connection
-connectionOf v = addressOf fields.connectionNettype v 0
+connectionOf v = addressOf fields.connectionNettype v (words v)
 
 -- b: bwtype and bandwidth, "split at every colon"
 unfoldable pub bandwidthOf : List ℕ → Read Bandwidth
@@ -63,9 +63,9 @@ bandwidthOf v =
 -- t: start-time and stop-time
 unfoldable pub timesOf : List ℕ → Read Time
 timesOf v =
-    afterAmount (numberOf fields.startTime v (wordAt v 0)) (λ start e.
-    afterAmount (numberOf fields.stopTime v (wordAt v e)) (λ stop e.
-    ending fields.timeTrailing (wordAt v e)
+    nextNumber fields.startTime v (words v) (λ start ws.
+    nextNumber fields.stopTime v ws (λ stop ws.
+    ending fields.timeTrailing (nextWord ws)
     (got (record { «start_time» = start; «stop_time» = stop }))))
 
 -- a, "at the first colon": a name, and perhaps a value

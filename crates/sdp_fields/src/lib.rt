@@ -1,7 +1,7 @@
 // Document 01, module 3: one reader for each record of fixed shape but m. parser.rs has the same names.
 ghost use mathlib.Core.Path.{_≡_};
 ghost use Prim.Native.Nat.{_≤_};
-ghost use Rattle.sdp_split.specs.Split.{Inside};
+ghost use Rattle.sdp_split.specs.Split.{wordsAt, Inside};
 ghost use Rattle.sdp_fields.specs.Records.{usernameOf, originOf, addressOf, connectionOf, bandwidthOf, timesOf, attributeOf};
 ghost use Rattle.sdp_fields.specs.Answers.{originAnswer, connectionAnswer, bandwidthAnswer, timeAnswer, attributeAnswer};
 use sdp_judge::Amount;
@@ -104,7 +104,7 @@ fn username_of(v: &[u8], p: Piece) -> MaybePiece
 // <nettype> <addrtype> <address> from place i on and nothing after them, as o and c end: the fields w, w + 1 and w + 2.
 fn word_address(v: &[u8], i: usize, w: u64) -> ConnectionRead
     requires { ⌜ w ≤ 8 ⌝ }
-    ensures { λ r. ⌜ r ≡ connectionAnswer (addressOf w (now (v .entry)) i) ⌝ }
+    ensures { λ r. ⌜ r ≡ connectionAnswer (addressOf w (now (v .entry)) (wordsAt (now (v .entry)) i)) ⌝ }
 {
     let nettype = match word_token(v, i, w) {
         Text::Got { piece, next } => Taken { piece, next },

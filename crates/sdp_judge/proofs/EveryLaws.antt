@@ -53,7 +53,7 @@ module _ {A : Type 0} (P : A → Type 0) where
       tested false p e x h = never x
 
       pub every-text : (f : Field) → ((p : Piece) (e : ℕ) → f ≡ field.Got p e → Every P (k p e)) → Every P (afterText (textOf w v f) k)
-      every-text (field.Got p e) h = tested (isUtf8 (part v p)) p e (encoding w) (h p e refl)
+      every-text (field.Got p e) h = tested (isUtf8 (part v p)) p e (encoding w v p) (h p e refl)
       every-text field.Nothing h = never _
 
       pub every-token : (f : Field) → ((p : Piece) (e : ℕ) → f ≡ field.Got p e → Every P (k p e)) → Every P (afterText (tokenOf w v f) k)
@@ -65,7 +65,7 @@ module _ {A : Type 0} (P : A → Type 0) where
     every-choice k field.Nothing h g = g
     every-choice k (field.Got p e) h g = go (isUtf8 (part v p)) (h p e refl)
       where
-        go : (b : Bool) → Every P (k (record { there = true; piece = p })) → Every P (afterChoice (cond b (choice.Got (record { there = true; piece = p })) (choice.Refused (encoding w))) k)
+        go : (b : Bool) → Every P (k (record { there = true; piece = p })) → Every P (afterChoice (cond b (choice.Got (record { there = true; piece = p })) (choice.Refused (encoding w v p))) k)
         go true h = h
         go false h = never _
 

@@ -1,8 +1,8 @@
 // Document 01, module 3: one field judged, a string, a token, a number or a time. parser.rs has the same names.
 ghost use mathlib.Core.Path.{_≡_};
-ghost use Rattle.sdp_split.specs.Split.{Within, wordAt};
-ghost use Rattle.sdp_judge.specs.Read.{wrongOf, amountOf, textOf, tokenOf, numberOf, timeOf, choiceOf, wholeOf, wholeAnswer};
-ghost use Rattle.sdp_judge.specs.Offset.{negated, signed, signedOf, offsetOf, offsetAnswer};
+ghost use Rattle.sdp_split.specs.Split.{Inside, Within, wordAt};
+ghost use Rattle.sdp_judge.specs.Read.{wrongOf, encoding, amountOf, textOf, tokenOf, numberOf, timeOf, choiceOf, wholeOf, wholeAnswer};
+ghost use Rattle.sdp_judge.specs.Offset.{negated, signed, signedOf, zoneOffset, offsetOf};
 use sdp_bytes::token::is_token;
 use sdp_number::Number;
 use sdp_number::number64;
@@ -11,6 +11,7 @@ use sdp_split::Field;
 use sdp_split::Piece;
 use sdp_split::word_at;
 use sdp_utf8::is_utf8;
+use sdp_utf8::utf8_end;
 
 // A string that may be absent.
 pub struct MaybePiece {
@@ -18,18 +19,18 @@ pub struct MaybePiece {
     pub piece: Piece,
 }
 
-// What is wrong with a field.
+// What is wrong with a field that is UTF-8.
 pub enum Fault {
-    Encoding,
     Format,
     Missing,
     Trailing,
 }
 
-// A refusal: 8 encoding, 9 format, 10 missing field, 11 trailing data, and the field's number.
+// A refusal: its number, the field's number, and for 8 the place of the bad byte in the value.
 pub struct Wrong {
     pub number: u64,
     pub field: u64,
+    pub at: usize,
 }
 
 // A string that was read, and its field's end.
@@ -67,30 +68,51 @@ pub enum WholeRead {
     Refused(Wrong),
 }
 
-pub enum OffsetRead {
-    Got(u64),
-    Refused(Wrong),
-}
-
-// The refusal of field `field`.
+// The refusal of field `field`: 9 format, 10 missing field, 11 trailing data.
 pub fn wrong_of(fault: Fault, field: u64) -> Wrong
     ensures { λ r. ⌜ r ≡ wrongOf fault field ⌝ }
 {
     match fault {
-        Fault::Encoding => Wrong { number: 8, field },
-        Fault::Format => Wrong { number: 9, field },
-        Fault::Missing => Wrong { number: 10, field },
-        Fault::Trailing => Wrong { number: 11, field },
+        Fault::Format => Wrong {
+            number: 9,
+            field,
+            at: 0,
+        },
+        Fault::Missing => Wrong {
+            number: 10,
+            field,
+            at: 0,
+        },
+        Fault::Trailing => Wrong {
+            number: 11,
+            field,
+            at: 0,
+        },
     }
 }
 
-// A number that was read, as the answer for field w.
-fn amount_of(w: u64, next: usize, n: Number) -> Amount
-    ensures { λ r. ⌜ r ≡ amountOf w next n ⌝ }
+// The refusal of a field of v that is not UTF-8, with the end of its longest well-formed beginning.
+pub fn not_utf8(v: &[u8], field: u64, p: Piece) -> Wrong
+    requires { ⌜ Inside (now v) p ⌝ }
+    ensures { λ r. ⌜ r ≡ encoding field (now (v .entry)) p ⌝ }
+{
+    let at = p.at;
+    let end = at + p.len;
+    Wrong {
+        number: 8,
+        field,
+        at: at + utf8_end(&v[at..end]),
+    }
+}
+
+// A number that was read in the piece p, as the answer for field w.
+fn amount_of(v: &[u8], w: u64, p: Piece, next: usize, n: Number) -> Amount
+    requires { ⌜ Inside (now v) p ⌝ }
+    ensures { λ r. ⌜ r ≡ amountOf w (now (v .entry)) p next n ⌝ }
 {
     match n {
         Number::Value(value) => Amount::Got { value, next },
-        Number::Encoding => Amount::Refused(wrong_of(Fault::Encoding, w)),
+        Number::Encoding => Amount::Refused(not_utf8(v, w, p)),
         Number::Format => Amount::Refused(wrong_of(Fault::Format, w)),
     }
 }
@@ -108,7 +130,7 @@ pub fn text_of(v: &[u8], w: u64, f: Field) -> Text
             if is_utf8(&v[at..end]) {
                 Text::Got { piece, next }
             } else {
-                Text::Refused(wrong_of(Fault::Encoding, w))
+                Text::Refused(not_utf8(v, w, piece))
             }
         }
     }
@@ -143,7 +165,7 @@ pub fn number_of(v: &[u8], w: u64, f: Field) -> Amount
         Field::Got { piece, next } => {
             let at = piece.at;
             let end = at + piece.len;
-            amount_of(w, next, number64(&v[at..end]))
+            amount_of(v, w, piece, next, number64(&v[at..end]))
         }
     }
 }
@@ -158,7 +180,7 @@ pub fn time_of(v: &[u8], w: u64, f: Field) -> Amount
         Field::Got { piece, next } => {
             let at = piece.at;
             let end = at + piece.len;
-            amount_of(w, next, typed_time(&v[at..end]))
+            amount_of(v, w, piece, next, typed_time(&v[at..end]))
         }
     }
 }
@@ -179,7 +201,7 @@ pub fn choice_of(v: &[u8], w: u64, f: Field) -> Choice
             if is_utf8(&v[at..end]) {
                 Choice::Got(MaybePiece { there: true, piece })
             } else {
-                Choice::Refused(wrong_of(Fault::Encoding, w))
+                Choice::Refused(not_utf8(v, w, piece))
             }
         }
     }
@@ -217,13 +239,14 @@ pub fn word_time(v: &[u8], i: usize, w: u64) -> Amount
 pub fn whole(v: &[u8], w: u64) -> WholeRead
     ensures { λ r. ⌜ r ≡ wholeAnswer (wholeOf w (now (v .entry))) ⌝ }
 {
+    let p = Piece {
+        at: 0,
+        len: v.len(),
+    };
     if is_utf8(v) {
-        return WholeRead::Got(Piece {
-            at: 0,
-            len: v.len(),
-        });
+        return WholeRead::Got(p);
     }
-    WholeRead::Refused(wrong_of(Fault::Encoding, w))
+    WholeRead::Refused(not_utf8(v, w, p))
 }
 
 // Minus m in the 64 bits of an i64.
@@ -237,34 +260,34 @@ fn negated(m: u64) -> u64
 }
 
 // Sign and magnitude, judged apart: -2^63 to 2^63 - 1.
-fn signed(negative: bool, m: u64) -> OffsetRead
-    ensures { λ r. ⌜ r ≡ offsetAnswer (signed negative m) ⌝ }
+fn signed(negative: bool, m: u64) -> Number
+    ensures { λ r. ⌜ r ≡ signed negative m ⌝ }
 {
     if negative {
         if m <= 0x8000_0000_0000_0000 {
-            return OffsetRead::Got(negated(m));
+            return Number::Value(negated(m));
         }
-        return OffsetRead::Refused(wrong_of(Fault::Format, 22));
+        return Number::Format;
     }
     if m < 0x8000_0000_0000_0000 {
-        return OffsetRead::Got(m);
+        return Number::Value(m);
     }
-    OffsetRead::Refused(wrong_of(Fault::Format, 22))
+    Number::Format
 }
 
-fn signed_of(negative: bool, n: Number) -> OffsetRead
-    ensures { λ r. ⌜ r ≡ offsetAnswer (signedOf negative n) ⌝ }
+fn signed_of(negative: bool, n: Number) -> Number
+    ensures { λ r. ⌜ r ≡ signedOf negative n ⌝ }
 {
     match n {
         Number::Value(m) => signed(negative, m),
-        Number::Encoding => OffsetRead::Refused(wrong_of(Fault::Encoding, 22)),
-        Number::Format => OffsetRead::Refused(wrong_of(Fault::Format, 22)),
+        Number::Encoding => Number::Encoding,
+        Number::Format => Number::Format,
     }
 }
 
 // A zone offset: perhaps one `-`, then a typed time.
-pub fn offset(s: &[u8]) -> OffsetRead
-    ensures { λ r. ⌜ r ≡ offsetAnswer (offsetOf (now (s .entry))) ⌝ }
+fn offset(s: &[u8]) -> Number
+    ensures { λ r. ⌜ r ≡ zoneOffset (now (s .entry)) ⌝ }
 {
     if s.len() == 0 {
         return signed_of(false, typed_time(s));
@@ -273,4 +296,19 @@ pub fn offset(s: &[u8]) -> OffsetRead
         return signed_of(true, typed_time(&s[1..]));
     }
     signed_of(false, typed_time(s))
+}
+
+// A field that is one.
+pub fn offset_of(v: &[u8], w: u64, f: Field) -> Amount
+    requires { ⌜ Within (now v) f ⌝ }
+    ensures { λ r. ⌜ r ≡ offsetOf w (now (v .entry)) f ⌝ }
+{
+    match f {
+        Field::Nothing => Amount::Refused(wrong_of(Fault::Missing, w)),
+        Field::Got { piece, next } => {
+            let at = piece.at;
+            let end = at + piece.len;
+            amount_of(v, w, piece, next, offset(&v[at..end]))
+        }
+    }
 }

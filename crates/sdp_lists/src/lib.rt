@@ -1,18 +1,13 @@
 // Document 01, module 3: the readers of r and z, whose lists are read one offset or pair at a time. parser.rs has the same names.
 ghost use mathlib.Core.Path.{_≡_};
-ghost use Rattle.sdp_split.specs.Split.{Within};
-ghost use Rattle.sdp_lists.specs.Lists.{repeatHead};
-ghost use Rattle.sdp_lists.specs.Answers.{repeatAnswer, offsetAt, zoneSecond, zoneAt};
+ghost use Rattle.sdp_lists.specs.Answers.{repeatHead, repeatAnswer, offsetAt, zoneDone, zoneAt};
 use sdp_judge::Amount;
 use sdp_judge::Counted;
-use sdp_judge::Fault;
-use sdp_judge::OffsetRead;
 use sdp_judge::Wrong;
 use sdp_judge::number_of;
-use sdp_judge::offset;
+use sdp_judge::offset_of;
 use sdp_judge::time_of;
 use sdp_judge::word_time;
-use sdp_judge::wrong_of;
 use sdp_split::Field;
 use sdp_split::word_at;
 
@@ -82,27 +77,19 @@ pub fn repeat_offset(v: &[u8], i: usize) -> RepeatOffset
     }
 }
 
-// The offset of a pair whose adjustment time is n.
-fn zone_second(v: &[u8], n: u64, f: Field) -> ZoneRead
-    requires { ⌜ Within (now v) f ⌝ }
-    ensures { λ r. ⌜ r ≡ zoneSecond n (now (v .entry)) f ⌝ }
+// A pair whose adjustment time is n.
+fn zone_of(n: u64, offset: Amount) -> ZoneRead
+    ensures { λ r. ⌜ r ≡ zoneDone n offset ⌝ }
 {
-    match f {
-        Field::Nothing => ZoneRead::Refused(wrong_of(Fault::Missing, 22)),
-        Field::Got { piece, next } => {
-            let at = piece.at;
-            let end = at + piece.len;
-            match offset(&v[at..end]) {
-                OffsetRead::Got(offset) => ZoneRead::Got {
-                    zone: Zone {
-                        adjustment_time: n,
-                        offset,
-                    },
-                    next,
-                },
-                OffsetRead::Refused(x) => ZoneRead::Refused(x),
-            }
-        }
+    match offset {
+        Amount::Got { value, next } => ZoneRead::Got {
+            zone: Zone {
+                adjustment_time: n,
+                offset: value,
+            },
+            next,
+        },
+        Amount::Refused(x) => ZoneRead::Refused(x),
     }
 }
 
@@ -116,7 +103,7 @@ impl Zone {
             return ZoneRead::Done;
         }
         match number_of(v, 21, f) {
-            Amount::Got { value, next } => zone_second(v, value, word_at(v, next)),
+            Amount::Got { value, next } => zone_of(value, offset_of(v, 22, word_at(v, next))),
             Amount::Refused(x) => ZoneRead::Refused(x),
         }
     }

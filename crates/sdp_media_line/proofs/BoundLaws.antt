@@ -30,19 +30,20 @@ module _ {A : Type 0} (P : A → Type 0) where
   every-number w Encoding k h = never _ _
   every-number w Format k h = never _ _
 
-  pub every-port : (v : List ℕ) (k : Port → ℕ → Read A) (f : Field) → ((p : Port) (e : ℕ) (x : Piece) → f ≡ field.Got x e → portOf (part v x) ≡ got p → Every P (k p e))
+  pub every-port : (v : List ℕ) (k : Port → ℕ → Read A) (f : Field) → ((p : Port) (e : ℕ) (x : Piece) → f ≡ field.Got x e → portOf v x ≡ got p → Every P (k p e))
       → Every P (afterPort v f k)
   every-port v k field.Nothing h = never _ _
-  every-port v k (field.Got x e) h = every-then P _ (portOf (part v x)) _ (λ p q. q) (λ p. h p e x refl)
+  every-port v k (field.Got x e) h = every-then P _ (portOf v x) _ (λ p q. q) (λ p. h p e x refl)
 
 -- both numbers of a port's field have 16 bits
 pub record Ports (p n : ℕ) : Type 0 where
   pub port : p < 65536
   pub num : n < 65536
 
-ports : (s : List ℕ) (p : Port) → portOf s ≡ got p → Ports (p .port) (p .«num_ports» .value)
+ports : (v : List ℕ) (x : Piece) (p : Port) → portOf v x ≡ got p → Ports (p .port) (p .«num_ports» .value)
 unfolding portOf
-ports s =
+ports v x =
+    let s = part v x in
     let before = take (indexOf 0x2f s) s in
     let after = drop (indexOf 0x2f s + 1) s in
     every-cond _ (isUtf8 s) _ _
@@ -68,7 +69,7 @@ media-within v =
     every-text _ 32 v _ (restAfter v l) (λ fmt e f.
     every-got _ _ (record {
       media = first-within 0x20 v name i n .0;
-      ports = ports (part v x) port b;
+      ports = ports v x port b;
       proto = after-within 0x20 v j proto l p .0;
       fmt = rest-within v l fmt e f .0;
     })))))

@@ -7,15 +7,13 @@ use mathlib.Core.List.{List}
 use borrow.Author.Tests.{lt-ltb}
 use lib.ListN.{length, take, drop}
 use Rattle.sdp_bytes.specs.Runs.{indexOf}
-use Rattle.sdp_utf8.specs.Utf8.{isUtf8}
 use Rattle.sdp_number.specs.Number.{wholeNumber}
 use Rattle.sdp_number.specs.declared.Number.{Number}
 use Rattle.sdp_bytes.proofs.ScanLaws.{rest-from}
-use Rattle.sdp_split.specs.Split.{part, pieceAfter}
+use Rattle.sdp_split.specs.Split.{pieceAfter}
 use Rattle.sdp_judge.specs.Read.{Read, got, refused, andThen}
-use Rattle.sdp_media_line.specs.MediaLine.{portNumber, numPorts, portOf, afterPort}
+use Rattle.sdp_media_line.specs.MediaLine.{portNumber, numPorts, portsOf, portOf, afterPort}
 use Rattle.sdp_media_line.specs.Answers.{portAnswer, withEnd, portField}
-use Rattle.sdp_judge.proofs.ReadLaws.{judged}
 use Rattle.sdp_split.specs.declared.Piece.{Piece}
 use Rattle.sdp_split.specs.declared.Field.{Field}
 use Rattle.sdp_split.specs.declared.Field.the-variants as field
@@ -32,10 +30,9 @@ pub num-is : (s : List ℕ) (i p : ℕ) (n x : Number) → i < length s → n �
 num-is s i p n x h e q = rw (lt-ltb i (length s) h, ← rest-from s (i + 1), ← e, q)
 
 -- n is what stands before the first slash, at i
-pub port-is : (s : List ℕ) (i : ℕ) (n x : Number) → isUtf8 s ≡ true → i ≡ indexOf 0x2f s → n ≡ wholeNumber 16 (take i s) → n ≡ x
-    → portOf s ≡ portNumber 28 x (λ p. numPorts s i (λ num. got (record { port = p; «num_ports» = num })))
-unfolding portOf
-port-is s i n x u e d q = rw (u, ← e, ← d, q)
+pub port-is : (s : List ℕ) (i : ℕ) (n x : Number) → i ≡ indexOf 0x2f s → n ≡ wholeNumber 16 (take i s) → n ≡ x
+    → portsOf s ≡ portNumber 28 x (λ p. numPorts s i (λ num. got (record { port = p; «num_ports» = num })))
+port-is s i n x e d q = rw (← e, ← d, q)
 
 -- the code's answer with the field's end
 abbrev ended : ℕ → PortRead → PortField
@@ -48,8 +45,8 @@ port-ended e (refused w) x q = ap (ended e) q
 
 -- r is what the code reads in the piece of the field
 pub port-field : (v : List ℕ) (f : Field) (p : Piece) (e : ℕ) → f ≡ field.Got p e
-    → (r x : PortRead) → r ≡ portAnswer (portOf (take (p .at + p .len - p .at) (drop (p .at) v))) → r ≡ x → ended e x ≡ portField v f
-port-field v f p e g r x d q = rw g (sym (port-ended e (portOf (part v p)) x (judged (λ s. portAnswer (portOf s)) v p r x d q)))
+    → (r x : PortRead) → r ≡ portAnswer (portOf v p) → r ≡ x → ended e x ≡ portField v f
+port-field v f p e g r x d q = rw g (sym (port-ended e (portOf v p) x (sym d ∙ q)))
 
 -- the same where more follows: r is the code's answer, x the case at hand
 abbrev afterEnded : {A : Type 0} → PortField → (Port → ℕ → Read A) → Read A
@@ -66,4 +63,4 @@ by-port v e k d q = after (pieceAfter 0x20 v e) ∙ ap (λ y. afterEnded y k) (s
 
     after : (f : Field) → afterPort v f k ≡ afterEnded (portField v f) k
     after field.Nothing = refl
-    after (field.Got p e) = ends e (portOf (part v p))
+    after (field.Got p e) = ends e (portOf v p)

@@ -2,7 +2,6 @@
 use Prim.Native.Nat.{ℕ}
 use mathlib.Core.List.{List}
 use Rattle.sdp_numbers.specs.Fields as fields
-use Rattle.sdp_split.specs.Split.{part}
 use Rattle.sdp_judge.specs.Read.{Read, got, refused, missing}
 use Rattle.sdp_media_line.specs.MediaLine.{portOf}
 use Rattle.sdp_media_line.specs.declared.Port.{Port}
@@ -34,4 +33,4 @@ withEnd e (refused w) = portfield.Refused w
 -- the port's field of an m line, with its end
 abbrev pub portField : List ℕ → Field → PortField
 portField v field.Nothing = portfield.Refused (missing fields.port)
-portField v (field.Got p e) = withEnd e (portOf (part v p))
+portField v (field.Got p e) = withEnd e (portOf v p)

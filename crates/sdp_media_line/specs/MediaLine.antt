@@ -12,6 +12,7 @@ use Rattle.sdp_number.specs.declared.Number.{Number}
 use Rattle.sdp_number.specs.declared.Number.the-variants.{Value, Encoding, Format}
 use Rattle.sdp_split.specs.Split.{part, firstPiece, pieceAfter, restAfter}
 use Rattle.sdp_judge.specs.Read.{Read, got, refused, encoding, format, missing, textOf, afterText, andThen}
+use Rattle.sdp_split.specs.declared.Piece.{Piece}
 use Rattle.sdp_split.specs.declared.Field.{Field}
 use Rattle.sdp_split.specs.declared.Field.the-variants as field
 use Rattle.sdp_media_line.specs.declared.MaybeNumber.{MaybeNumber}
@@ -31,18 +32,20 @@ numPorts s i k =
     (portNumber fields.numPorts (wholeNumber 16 (drop (i + 1) s)) (λ n. k (record { there = true; value = n })))
     (k (record { there = false; value = 0 }))
 
+-- the numbers of a field that is UTF-8
+abbrev pub portsOf : List ℕ → Read Port
+portsOf s =
+    portNumber fields.port (wholeNumber 16 (take (indexOf 0x2f s) s)) (λ port.
+    numPorts s (indexOf 0x2f s) (λ num. got (record { port = port; «num_ports» = num })))
+
 -- "`port` or `port/num`, cut at the first slash; the whole field's UTF-8 (8, field 29) is tested before the cut, then the port is judged, then num"
-unfoldable pub portOf : List ℕ → Read Port
-portOf s =
-    cond (isUtf8 s)
-    (portNumber fields.port (wholeNumber 16 (take (indexOf 0x2f s) s)) (λ port.
-    numPorts s (indexOf 0x2f s) (λ num. got (record { port = port; «num_ports» = num }))))
-    (refused (encoding fields.portEncoding))
+unfoldable pub portOf : List ℕ → Piece → Read Port
+portOf v p = cond (isUtf8 (part v p)) (portsOf (part v p)) (refused (encoding fields.portEncoding v p))
 
 -- the port's field; a missing one is 10 at field 28
 abbrev pub afterPort : {A : Type 0} → List ℕ → Field → (Port → ℕ → Read A) → Read A
 afterPort v field.Nothing k = refused (missing fields.port)
-afterPort v (field.Got p e) k = andThen (portOf (part v p)) (λ port. k port e)
+afterPort v (field.Got p e) k = andThen (portOf v p) (λ port. k port e)
 
 -- m: media name, port, proto, fmt
 unfoldable pub mediaOf : List ℕ → Read Media

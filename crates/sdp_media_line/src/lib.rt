@@ -1,14 +1,15 @@
 // Document 01, module 3: the reader of the m line. parser.rs has the same names.
 ghost use mathlib.Core.Path.{_≡_};
-ghost use Rattle.sdp_split.specs.Split.{Within, pieceAfter};
+ghost use Rattle.sdp_split.specs.Split.{Inside, Within, pieceAfter};
 ghost use Rattle.sdp_judge.specs.Read.{got};
-ghost use Rattle.sdp_media_line.specs.MediaLine.{numPorts, portOf, mediaOf};
+ghost use Rattle.sdp_media_line.specs.MediaLine.{numPorts, portsOf, portOf, mediaOf};
 ghost use Rattle.sdp_media_line.specs.Answers.{portField, portAnswer, mediaAnswer};
 use sdp_bytes::search::index_of;
 use sdp_judge::Fault;
 use sdp_judge::Taken;
 use sdp_judge::Text;
 use sdp_judge::Wrong;
+use sdp_judge::not_utf8;
 use sdp_judge::text_of;
 use sdp_judge::wrong_of;
 use sdp_number::Number;
@@ -84,20 +85,30 @@ fn num_ports(s: &[u8], i: usize, port: u64) -> PortRead
     }
 }
 
+// The numbers of a port's field that is UTF-8.
+fn ports_of(s: &[u8]) -> PortRead
+    ensures { λ r. ⌜ r ≡ portAnswer (portsOf (now (s .entry))) ⌝ }
+{
+    let slash = index_of(s, b'/');
+    match number16(&s[..slash]) {
+        Number::Value(n) => num_ports(s, slash, n),
+        Number::Encoding => PortRead::Refused(wrong_of(Fault::Format, 28)),
+        Number::Format => PortRead::Refused(wrong_of(Fault::Format, 28)),
+    }
+}
+
 impl Port {
-    // <port> or <port>/<num-ports>
-    fn parse(s: &[u8]) -> PortRead
-        ensures { λ r. ⌜ r ≡ portAnswer (portOf (now (s .entry))) ⌝ }
+    // <port> or <port>/<num-ports>: the piece p of v
+    fn parse(v: &[u8], p: Piece) -> PortRead
+        requires { ⌜ Inside (now v) p ⌝ }
+        ensures { λ r. ⌜ r ≡ portAnswer (portOf (now (v .entry)) p) ⌝ }
     {
-        if !is_utf8(s) {
-            return PortRead::Refused(wrong_of(Fault::Encoding, 29));
+        let at = p.at;
+        let end = at + p.len;
+        if is_utf8(&v[at..end]) {
+            return ports_of(&v[at..end]);
         }
-        let slash = index_of(s, b'/');
-        match number16(&s[..slash]) {
-            Number::Value(n) => num_ports(s, slash, n),
-            Number::Encoding => PortRead::Refused(wrong_of(Fault::Format, 28)),
-            Number::Format => PortRead::Refused(wrong_of(Fault::Format, 28)),
-        }
+        PortRead::Refused(not_utf8(v, 29, p))
     }
 }
 
@@ -108,14 +119,10 @@ fn port_of(v: &[u8], f: Field) -> PortField
 {
     match f {
         Field::Nothing => PortField::Refused(wrong_of(Fault::Missing, 28)),
-        Field::Got { piece, next } => {
-            let at = piece.at;
-            let end = at + piece.len;
-            match Port::parse(&v[at..end]) {
-                PortRead::Got(port) => PortField::Got { port, next },
-                PortRead::Refused(x) => PortField::Refused(x),
-            }
-        }
+        Field::Got { piece, next } => match Port::parse(v, piece) {
+            PortRead::Got(port) => PortField::Got { port, next },
+            PortRead::Refused(x) => PortField::Refused(x),
+        },
     }
 }
 

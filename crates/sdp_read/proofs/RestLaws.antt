@@ -27,6 +27,7 @@ use Rattle.sdp_read.specs.From.{Reached, runAt, beginAt, lineAt, version
 use Rattle.sdp_turn.specs.declared.Search.{Search}
 use Rattle.sdp_turn.specs.declared.Search.the-variants.{On, Told}
 use Rattle.sdp_turn.specs.declared.Version.the-variants as version
+use Rattle.sdp_turn.proofs.TurnLaws.{fault-told}
 use Rattle.sdp_read.proofs.CutLaws.{raw, rest, at-cursor, value-is, then}
 
 -- what the text says from there on, the next line due at d, after the version and before it
@@ -60,19 +61,19 @@ module _ (s : List ℕ) (short : length s ≤ longestText) (c : Cursor) (w : Rea
   begin-past = ap (λ (n : ℕ). begin spanAt n (c .at .0 + width (raw s c)) (rest s c)) next-is
 
   -- ---- after the version
-  stepped-on : (x : Stepped Span) → after spanAt x (c .line .0) (λ τ. run spanAt τ (c .line .0 + 1) (c .at .0 + width (raw s c)) (rest s c)) ≡ runOn s (stepped (c .line .0) x) next
-  stepped-on (goes ρ) = run-past ρ
-  stepped-on (stops n f) = refl
+  stepped-on : (p : ℕ) (x : Stepped Span) → after spanAt x (c .line .0) p (λ τ. run spanAt τ (c .line .0 + 1) (c .at .0 + width (raw s c)) (rest s c)) ≡ runOn s (stepped (c .line .0) p x) next
+  stepped-on p (goes ρ) = run-past ρ
+  stepped-on p (stops w) = refl
 
   pub rest-line : (ρ : Reading Span) → runAt s ρ c ≡ runOn s (lineAt s ρ c) (then s c)
   unfolding runAt run lineAt moveAt
   rest-line ρ = at-cursor s c (λ rs k. run spanAt ρ (c .line .0) (c .at .0) rs ≡ runOn s (lineOf s ρ (moved k .next)) (due (standing (moved k)))) refl (λ h f e. rw e (form f e))
     where
       form : (f : Form) → formOf (content (raw s c)) ≡ f
-          → after spanAt (stepForm spanAt ρ (c .at .0) (content (raw s c)) f) (c .line .0) (λ τ. run spanAt τ (c .line .0 + 1) (c .at .0 + width (raw s c)) (rest s c)) ≡ runOn s (lineOf s ρ (moved (cutForm c (raw s c) f) .next)) (due (standing (moved (cutForm c (raw s c) f))))
+          → after spanAt (stepForm spanAt ρ (c .at .0) (content (raw s c)) f) (c .line .0) (c .at .0 + 2) (λ τ. run spanAt τ (c .line .0 + 1) (c .at .0 + width (raw s c)) (rest s c)) ≡ runOn s (lineOf s ρ (moved (cutForm c (raw s c) f) .next)) (due (standing (moved (cutForm c (raw s c) f))))
       form Blank e = run-past ρ
-      form (Bad f) e = refl
-      form (Good l) e = rw (value-is s c l e) (stepped-on (step (spanAt (c .at .0 + 2) (drop 2 (content (raw s c)))) ρ (drop 2 (content (raw s c))) l))
+      form (Bad f) e = ap refused (fault-told (c .line .0) (c .at .0 + 2) f)
+      form (Good l) e = rw (value-is s c l e) (stepped-on (c .at .0 + 2) (step (spanAt (c .at .0 + 2) (drop 2 (content (raw s c)))) ρ (drop 2 (content (raw s c))) l))
 
   -- ---- before it
   opened-on : (p l : ℕ) (v : List ℕ) (k : Verdict Span) → k ≡ runAt s fresh next

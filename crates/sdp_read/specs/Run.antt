@@ -16,30 +16,30 @@ use Rattle.sdp_split.specs.declared.Piece.{Piece}
 use Rattle.sdp_cells.specs.Bytes.{zeros}
 use Rattle.sdp_area.specs.Area.{encode, size}
 use Rattle.sdp_strings.specs.Strings.{spanAt}
-use Rattle.sdp_step.specs.Step.{Reading, Stepped, goes, stops, step, fresh}
+use Rattle.sdp_step.specs.Step.{Reading, Stepped, goes, stops, stop, step, fresh}
 use Rattle.sdp_lines.specs.declared.Answer.{Answer}
 -- the answers, the version line's value and what reading says are defined there
 pub use Rattle.sdp_line.specs.Version.{answer, noVersion, badVersion, isZero}
-pub use Rattle.sdp_turn.specs.Turn.{Verdict, accepted, refused, onLine}
+pub use Rattle.sdp_turn.specs.Turn.{Verdict, accepted, refused, onLine, placeOf, wrongAt}
 
 -- at p v makes the strings of a line whose value is v and stands at place p
 module _ {S : Type 0} (at : ℕ → List ℕ → Piece → S) where
-  -- what follows a line with number n
-  abbrev pub after : Stepped S → ℕ → (Reading S → Verdict S) → Verdict S
-  after (goes ρ) n k = k ρ
-  after (stops number field) n k = onLine number n field
+  -- what follows a line with number n, whose value stands at place p
+  abbrev pub after : Stepped S → ℕ → ℕ → (Reading S → Verdict S) → Verdict S
+  after (goes ρ) n p k = k ρ
+  after (stops w) n p k = refused (wrongAt n p w)
 
   -- a line by its form. "Empty lines are counted, then skipped"; 3, 4 and 5 have no field; the value starts at the third byte
   abbrev pub stepForm : Reading S → ℕ → List ℕ → Form → Stepped S
   stepForm ρ p l Blank = goes ρ
-  stepForm ρ p l (Bad f) = stops (faultNumber f) 0
+  stepForm ρ p l (Bad f) = stop (faultNumber f) 0
   stepForm ρ p l (Good c) = step (at (p + 2) (drop 2 l)) ρ (drop 2 l) c
 
   -- the lines after the version, from number n and place p on
   unfoldable pub run : Reading S → ℕ → ℕ → List Raw → Verdict S
   run ρ n p [] = accepted (ρ .session)
   run ρ n p (r ∷ rs) =
-      after (stepForm ρ p (content r) (formOf (content r))) n (λ τ. run τ (n + 1) (p + width r) rs)
+      after (stepForm ρ p (content r) (formOf (content r))) n (p + 2) (λ τ. run τ (n + 1) (p + width r) rs)
 
   -- the version line with the letter c and the value v at place p, and what follows it
   abbrev pub version : ℕ → ℕ → List ℕ → ℕ → Verdict S → Verdict S

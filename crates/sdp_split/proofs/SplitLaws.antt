@@ -1,4 +1,4 @@
--- Laws of specs/Split: runs of spaces, and that a field lies within its value.
+-- Laws of specs/Split: runs of spaces, pieces between separators, and that a field lies within its value.
 -- Assumes nothing.
 use Prim.Native.Nat.{ℕ, suc, _+_, _-_, _<_, _≤_}
 use native.Mathlib.Numerals.{add-one}
@@ -12,7 +12,7 @@ use lib.ListN.{length, getD, take, drop, drop-of-length-le, length-drop}
 use lib.Seq.{drop-cons}
 use Rattle.sdp_bytes.specs.Runs.{indexOf}
 use Rattle.sdp_bytes.proofs.ScanLaws.{index-le, rest-from}
-use Rattle.sdp_split.specs.Split.{part, spaces, pieceFrom, wordAt, firstPiece, pieceAfter, restAfter, Inside, Within}
+use Rattle.sdp_split.specs.Split.{part, spaces, pieceFrom, firstPiece, pieceAfter, restAfter, Inside, Within}
 use Rattle.sdp_split.specs.declared.Piece.{Piece}
 use Rattle.sdp_split.specs.declared.Field.{Field}
 use Rattle.sdp_split.specs.declared.Field.the-variants.{Got, Nothing}
@@ -59,14 +59,6 @@ module _ (v : List ℕ) (i n : ℕ) (q : n ≡ spaces (drop i v)) where
   pub spaces-fit : i ≤ length v → i + n ≤ length v
   spaces-fit h = omega (arith, spaces-le (drop i v), length-drop i v)
 
-  pub word-here : i + n < length v → pieceFrom 0x20 v (i + n) ≡ wordAt v i
-  unfolding wordAt
-  word-here h = rw (← q, lt-ltb (i + n) (length v) h)
-
-  pub word-past : length v ≤ i + n → Nothing ≡ wordAt v i
-  unfolding wordAt
-  word-past h = rw (← q, le-ltb (i + n) (length v) h)
-
 module _ (v : List ℕ) (e : ℕ) where
   module _ (h : e < length v) where
     pub after-here : (sep : ℕ) → pieceFrom sep v (e + 1) ≡ pieceAfter sep v e
@@ -94,7 +86,7 @@ chosen a b f p e = go (ltb a b) refl
     go true q h = (ltb-true a b q, h)
     go false q h = absurd (let z : _≡_ {A = ℕ} 0 1 = cc in omega arith)
 
-got-within : (v : List ℕ) (p : Piece) (e : ℕ) → Inside v p → e ≤ length v → Within v (Got p e)
+pub got-within : (v : List ℕ) (p : Piece) (e : ℕ) → Inside v p → e ≤ length v → Within v (Got p e)
 got-within v p e h k p′ e′ q =
     let x : p ≡ p′ = cc in
     let y : e ≡ e′ = cc in
@@ -105,12 +97,6 @@ piece-within sep v i h =
     let l = index-le sep (drop i v) in
     let d = length-drop i v in
     got-within v _ _ (omega arith) (omega arith)
-
-pub word-within : (v : List ℕ) (i : ℕ) → Within v (wordAt v i)
-unfolding wordAt
-word-within v i p e h =
-    let q = chosen (i + spaces (drop i v)) (length v) (pieceFrom 0x20 v (i + spaces (drop i v))) p e h in
-    piece-within 0x20 v (i + spaces (drop i v)) (omega arith) p e (q .1)
 
 pub first-within : (sep : ℕ) (v : List ℕ) → Within v (firstPiece sep v)
 unfolding firstPiece

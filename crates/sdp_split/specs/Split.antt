@@ -23,10 +23,36 @@ spaces (b ∷ s) = cond (eqb b 0x20) (suc (spaces s)) 0
 abbrev pub pieceFrom : ℕ → List ℕ → ℕ → Field
 pieceFrom sep v i = Got (record { at = i; len = indexOf sep (drop i v) }) (i + indexOf sep (drop i v))
 
--- o, c, t, r, z "split at runs of spaces, no empty fields": the next field from place i on
+-- the words of a list that stands at place i of the value, and whose first k bytes are the rest of a word that was read already
+unfoldable pub wordsFrom : ℕ → ℕ → List ℕ → List Piece
+wordsFrom i k [] = []
+wordsFrom i (suc k) (b ∷ s) = wordsFrom (suc i) k s
+wordsFrom i zero (b ∷ s) =
+    cond (eqb b 0x20)
+    (wordsFrom (suc i) zero s)
+    (record { at = i; len = indexOf 0x20 (b ∷ s) } ∷ wordsFrom (suc i) (indexOf 0x20 s) s)
+
+-- the words of v from place i on
+unfoldable pub wordsAt : List ℕ → ℕ → List Piece
+wordsAt v i = wordsFrom i 0 (drop i v)
+
+-- o, c, t, r, z "split at runs of spaces, no empty fields": the words of v, each with its place
+abbrev pub words : List ℕ → List Piece
+words v = wordsAt v 0
+
+-- the first of some words and its end
+abbrev pub nextWord : List Piece → Field
+nextWord [] = Nothing
+nextWord (p ∷ ws) = Got p (p .at + p .len)
+
+-- the words after it
+abbrev pub later : List Piece → List Piece
+later [] = []
+later (p ∷ ws) = ws
+
+-- the first word from place i on, and its end
 unfoldable pub wordAt : List ℕ → ℕ → Field
-wordAt v i =
-    cond (ltb (i + spaces (drop i v)) (length v)) (pieceFrom 0x20 v (i + spaces (drop i v))) Nothing
+wordAt v i = nextWord (wordsAt v i)
 
 -- b, a, k, m "empty fields kept": the first field; "an empty value gives .. one empty field"
 unfoldable pub firstPiece : ℕ → List ℕ → Field
@@ -39,17 +65,6 @@ pieceAfter sep v e = cond (ltb e (length v)) (pieceFrom sep v (e + 1)) Nothing
 -- all that stands after the separator at e, as one field
 unfoldable pub restAfter : List ℕ → ℕ → Field
 restAfter v e = cond (ltb e (length v)) (Got (record { at = e + 1; len = length v - (e + 1) }) (length v)) Nothing
-
--- the bytes of all words of a list whose first k bytes are the rest of a word that was read already
-unfoldable pub wordsFrom : ℕ → List ℕ → List (List ℕ)
-wordsFrom k [] = []
-wordsFrom (suc k) (b ∷ s) = wordsFrom k s
-wordsFrom zero (b ∷ s) =
-    cond (eqb b 0x20) (wordsFrom zero s) (take (indexOf 0x20 (b ∷ s)) (b ∷ s) ∷ wordsFrom (indexOf 0x20 s) s)
-
--- the words of a list, "split at runs of spaces, no empty fields"
-unfoldable pub words : List ℕ → List (List ℕ)
-words s = wordsFrom 0 s
 
 -- ---- where a field stands
 -- a piece lies within the value

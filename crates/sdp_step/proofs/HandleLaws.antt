@@ -9,7 +9,7 @@ use lib.ListN.{length, drop, length-append}
 use native.Mathlib.Omega.{arith}
 use borrow.Author.Tests.{ltb-true}
 use Rattle.sdp_lines.specs.declared.Span.{Span}
-use Rattle.sdp_judge.specs.Read.{Read, got, refused}
+use Rattle.sdp_judge.specs.Read.{Read, got, refused, plain}
 use Rattle.sdp_judge.specs.declared.Wrong.{Wrong}
 use mathlib.Core.Option.{Option}
 use Rattle.sdp_area.specs.Session.{Session, Within}
@@ -18,7 +18,7 @@ use Rattle.sdp_area.specs.Area.{encode, size}
 use Rattle.sdp_cells.specs.Tables.{add, pushed}
 use Rattle.sdp_cells.specs.declared.Pushed.{Pushed}
 use Rattle.sdp_cells.specs.declared.Pushed.the-variants.{Stored, Full}
-use Rattle.sdp_step.specs.Step.{Reading, Stepped, goes, stops, once, row}
+use Rattle.sdp_step.specs.Step.{Reading, Stepped, goes, stop, once, row}
 use Rattle.sdp_step.specs.Hold.{Holds, Handled, storedOf}
 use Rattle.sdp_step.specs.declared.Marks.{Marks}
 use Rattle.sdp_step.specs.declared.Taken.{Taken}
@@ -27,12 +27,12 @@ use Rattle.sdp_step.proofs.TailLaws.{behind}
 
 -- ---- at most once
 module _ {A : Type 0} (n : ℕ) (b : Bool) (r : Read A) (k : A → Stepped Span) (a t : List ℕ) where
-  pub once-second : b ≡ true → drop size a ≡ t → Handled (once n b r k) (Refused n 0) a t
-  once-second e d = rw e (refl, refl, d)
+  pub once-second : b ≡ true → drop size a ≡ t → Handled (once n b r k) (Refused (plain n 0)) a t
+  once-second e d = rw e (refl, d)
 
   module _ (e : b ≡ false) where
-    pub once-wrong : (w : Wrong) → r ≡ refused w → drop size a ≡ t → Handled (once n b r k) (Refused (w .number) (w .field)) a t
-    once-wrong w f d = rw (e, f) (refl, refl, d)
+    pub once-wrong : (w : Wrong) → r ≡ refused w → drop size a ≡ t → Handled (once n b r k) (Refused w) a t
+    once-wrong w f d = rw (e, f) (refl, d)
 
     pub once-then : (x : A) (y : Taken) → r ≡ got x → Handled (k x) y a t → Handled (once n b r k) y a t
     once-then x y f h = rw (e, f) h
@@ -42,9 +42,9 @@ module _ {A : Type 0} (n : ℕ) (b : Bool) (r : Read A) (k : A → Stepped Span)
 
 -- ---- one row more
 module _ {A : Type 0} (table cap c : ℕ) (r : Read A) (k : A → Reading Span) (a t : List ℕ) where
-  pub row-wrong : (w : Wrong) → r ≡ refused w → drop size a ≡ t → Handled (row table cap c r k) (Refused (w .number) (w .field)) a t
+  pub row-wrong : (w : Wrong) → r ≡ refused w → drop size a ≡ t → Handled (row table cap c r k) (Refused w) a t
   unfolding row
-  row-wrong w f d = rw f (refl, refl, d)
+  row-wrong w f d = rw f (refl, d)
 
 -- p is what the push of q behind the rows xs answered, and a the area then; the session has a head and zones as before
 module _ {A X : Type 0} (table cap : ℕ) (xs : List X) (r : Read A) (k : A → Reading Span) (x : A) (f : r ≡ got x) (q : X) (put : List X → Session Span)
@@ -65,6 +65,6 @@ module _ {A X : Type 0} (table cap : ℕ) (xs : List X) (r : Read A) (k : A → 
   row-pushed = rw (f, told, is) (go (ltb (length xs) cap) refl bytes)
     where
       go : (b : Bool) → ltb (length xs) cap ≡ b → a ≡ encode (put (cond b (xs ++ (q ∷ [])) xs)) ++ t
-          → Handled (cond b (goes (record { session = put (xs ++ (q ∷ [])); zoned = ρ .zoned })) (stops 21 table)) (storedOf (cond b Stored Full) table m) a t
+          → Handled (cond b (goes (record { session = put (xs ++ (q ∷ [])); zoned = ρ .zoned })) (stop 21 table)) (storedOf (cond b Stored Full) table m) a t
       go true e u = kept (ltb-true (length xs) cap e) u
-      go false e u = (refl, refl, ap (drop size) u ∙ behind (put xs) t)
+      go false e u = (refl, ap (drop size) u ∙ behind (put xs) t)

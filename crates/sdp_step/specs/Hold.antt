@@ -9,6 +9,7 @@ use Rattle.sdp_lines.specs.declared.Span.{Span}
 use Rattle.sdp_area.specs.Session.{Within}
 use Rattle.sdp_area.specs.Area.{encode, size}
 use Rattle.sdp_area.specs.Latest.{given}
+use Rattle.sdp_judge.specs.Read.{plain}
 use Rattle.sdp_cells.specs.declared.Pushed.{Pushed}
 use Rattle.sdp_cells.specs.declared.Pushed.the-variants.{Stored, Full}
 use Rattle.sdp_step.specs.Step.{Reading, Stepped, goes, stops, stepRole}
@@ -32,9 +33,9 @@ pub record Holds (ρ : Reading Span) (m : Marks) (a t : List ℕ) : Type 0 where
 -- a step that goes on is kept in the area; after one that stops, only the bytes behind the session still count
 abbrev pub Handled : Stepped Span → Taken → List ℕ → List ℕ → Type 0
 Handled (goes ρ) (Kept m) a t = Holds ρ m a t
-Handled (goes ρ) (Refused n f) a t = ⊥
-Handled (stops n f) (Kept m) a t = ⊥
-Handled (stops n f) (Refused k g) a t = (k ≡ n) × (g ≡ f) × (drop size a ≡ t)
+Handled (goes ρ) (Refused w) a t = ⊥
+Handled (stops w) (Kept m) a t = ⊥
+Handled (stops w) (Refused x) a t = (x ≡ w) × (drop size a ≡ t)
 
 -- one line taken: whatever session the area held, the step's outcome is there
 abbrev pub Takes : (Reading Span → Stepped Span) → Marks → Taken → List ℕ → List ℕ → Type 0
@@ -43,7 +44,7 @@ Takes f m r a a′ = (ρ : Reading Span) (t : List ℕ) → Holds ρ m a t → H
 -- a row that was stored, or did not fit the table
 abbrev pub storedOf : Pushed → ℕ → Marks → Taken
 storedOf Stored table m = Kept m
-storedOf Full table m = Refused refusals.tableFull table
+storedOf Full table m = Refused (plain refusals.tableFull table)
 
 -- a line of the role x, whose value v stands at place p
 abbrev pub Reads : Role → ℕ → List ℕ → Marks → Taken → List ℕ → List ℕ → Type 0

@@ -22,7 +22,7 @@ use Rattle.sdp_fields.specs.declared.Bandwidth as bandwidth
 use Rattle.sdp_fields.specs.declared.Time as time
 use Rattle.sdp_fields.specs.declared.Attribute as attribute
 use Rattle.sdp_media_line.specs.declared.Media as media
-use Rattle.sdp_judge.specs.Read.{Read, got, refused, wholeOf}
+use Rattle.sdp_judge.specs.Read.{Read, got, refused, plain, wholeOf}
 use Rattle.sdp_fields.specs.Records.{originOf, connectionOf, bandwidthOf, timesOf, attributeOf}
 use Rattle.sdp_media_line.specs.MediaLine.{mediaOf}
 use Rattle.sdp_lists.specs.Lists.{RepeatLine, repeatOf, zonesOf}
@@ -39,26 +39,26 @@ pub record Reading (S : Type 0) : Type 0 where
   pub session : Session S
   pub zoned : Bool
 
--- what a line does: the session goes on, or is refused with a number and a field
+-- what a line does: the session goes on, or is refused
 pub data Stepped (S : Type 0) : Type 0 where
   goes : Reading S → Stepped S
-  stops : ℕ → ℕ → Stepped S
+  stops : Wrong → Stepped S
 
--- a refused field stops the reading with its number and its field
-abbrev pub stopped : {S : Type 0} → Wrong → Stepped S
-stopped w = stops (w .number) (w .field)
+-- refused with number n and field w, for no byte of the value
+abbrev pub stop : {S : Type 0} → ℕ → ℕ → Stepped S
+stop n w = stops (plain n w)
 
 -- ---- the shapes of a step
 -- "at most once, and a second one is refused before its value is read": n is its refusal number
 abbrev pub once : {S A : Type 0} → ℕ → Bool → Read A → (A → Stepped S) → Stepped S
-once n true r k = stops n 0
+once n true r k = stop n 0
 once n false (got x) k = k x
-once n false (refused w) k = stopped w
+once n false (refused w) k = stops w
 
 -- "21 is given exactly for a line that the Rust accepts there and whose records no longer fit": a table of c rows with room for cap
 unfoldable pub row : {S A : Type 0} → ℕ → ℕ → ℕ → Read A → (A → Reading S) → Stepped S
-row table cap c (got x) k = cond (ltb c cap) (goes (k x)) (stops refusals.tableFull table)
-row table cap c (refused w) k = stopped w
+row table cap c (got x) k = cond (ltb c cap) (goes (k x)) (stop refusals.tableFull table)
+row table cap c (refused w) k = stops w
 
 -- ---- a record's pieces as strings
 module _ {S : Type 0} (mk : Piece → S) where
@@ -127,8 +127,8 @@ repeatTaken ρ q ns =
     cond (ltb (length (ρ .session .tables .repeats)) mostRepeats)
     (cond (leb (length (ρ .session .tables .offsets) + length ns) mostOffsets)
     (goes (record { session = withRepeat (ρ .session) q ns; zoned = ρ .zoned }))
-    (stops refusals.tableFull tables.offsets))
-    (stops refusals.tableFull tables.repeats)
+    (stop refusals.tableFull tables.offsets))
+    (stop refusals.tableFull tables.repeats)
 
 -- ---- the rules
 module _ {S : Type 0} (mk : Piece → S) (ρ : Reading S) (v : List ℕ) where
@@ -154,7 +154,7 @@ module _ {S : Type 0} (mk : Piece → S) (ρ : Reading S) (v : List ℕ) where
 
   -- "r belongs to the latest t"
   abbrev pub repeated : Read RepeatLine → Stepped S
-  repeated (refused w) = stopped w
+  repeated (refused w) = stops w
   repeated (got r) = repeatTaken ρ (repeatIn (length times) r) (r .offsets)
 
   -- the z line: its being there is kept even where it has no pairs
@@ -162,7 +162,7 @@ module _ {S : Type 0} (mk : Piece → S) (ρ : Reading S) (v : List ℕ) where
   zonesTaken zs =
       cond (leb (length zs) mostZones)
       (goes (record { session = withZones s (map zoneIn zs); zoned = true }))
-      (stops refusals.tableFull tables.zones)
+      (stop refusals.tableFull tables.zones)
 
   -- one line for each role: the refusal of a second one and whether there is one, or the table with its limit and its rows; the fields; what is
   -- stored of them, and where
@@ -176,7 +176,7 @@ module _ {S : Type 0} (mk : Piece → S) (ρ : Reading S) (v : List ℕ) where
   stepRole role.Connection = set refusals.secondConnection (given connection) (connectionOf v) (connectionIn mk) (withConnection s)
   stepRole role.Bandwidth = add tables.bandwidths mostBandwidths bandwidths (bandwidthOf v) (bandwidthIn mk section) (withBandwidths s)
   stepRole role.Time = add tables.times mostTimes times (timesOf v) timeIn (withTimes s)
-  stepRole role.Repeat = cond (eqb (length times) 0) (stops refusals.repeatWithoutTime 0) (repeated (repeatOf v))
+  stepRole role.Repeat = cond (eqb (length times) 0) (stop refusals.repeatWithoutTime 0) (repeated (repeatOf v))
   stepRole role.Zone = once refusals.secondZones zoned (zonesOf v) zonesTaken
   stepRole role.Attribute = add tables.attributes mostAttributes attributes (attributeOf v) (attributeIn mk section) (withAttributes s)
   stepRole role.Media = add tables.medias mostMedias medias (mediaOf v) (mediaIn mk) (withMedias s)

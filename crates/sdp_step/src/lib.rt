@@ -10,20 +10,10 @@ pub struct Marks {
     pub zoned: bool,
 }
 
-// What a line did: it was taken, or refused with a number and a field.
+// What a line did: it was taken, or refused.
 pub enum Taken {
     Kept(Marks),
-    Refused { number: u64, field: u64 },
-}
-
-// A refused field.
-pub fn refused(w: Wrong) -> Taken
-    ensures { λ r. ⌜ r ≡ Taken.Refused (w .number) (w .field) ⌝ }
-{
-    Taken::Refused {
-        number: w.number,
-        field: w.field,
-    }
+    Refused(Wrong),
 }
 
 // A row that was stored, or did not fit.
@@ -32,9 +22,10 @@ pub fn stored(p: Pushed, table: u64, marks: Marks) -> Taken
 {
     match p {
         Pushed::Stored => Taken::Kept(marks),
-        Pushed::Full => Taken::Refused {
+        Pushed::Full => Taken::Refused(Wrong {
             number: 21,
             field: table,
-        },
+            at: 0,
+        }),
     }
 }

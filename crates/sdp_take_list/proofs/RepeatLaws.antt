@@ -9,16 +9,15 @@ use lib.Dec.{ltb, eqb}
 use lib.ListN.{length, drop, length-append}
 use borrow.Author.Tests.{lt-ltb, le-ltb, le-leb, lt-leb, ltb-true, ltb-false}
 use Rattle.sdp_lines.specs.declared.Span.{Span}
-use Rattle.sdp_split.specs.Split.{words}
-use Rattle.sdp_judge.specs.Read.{Read, got, refused, andThen}
-use Rattle.sdp_lists.specs.Lists
-use Rattle.sdp_lists.specs.Lists.{offsetsOf, repeatOf, repeatHead}
-use Rattle.sdp_lists.specs.Answers.{offsetAt}
+use Rattle.sdp_split.specs.Split.{wordsAt}
+use Rattle.sdp_judge.specs.Read.{Read, got, refused, plain, andThen}
+use Rattle.sdp_lists.specs.Lists.{offsetsOf, repeatOf}
+use Rattle.sdp_lists.specs.Answers.{repeatHead, offsetAt}
 use Rattle.sdp_split.specs.declared.Piece.{Piece}
 use Rattle.sdp_lists.specs.declared.RepeatHead.{RepeatHead}
 use Rattle.sdp_judge.specs.declared.Wrong.{Wrong}
 use Rattle.sdp_lists.specs.declared.RepeatOffset.the-variants as offsets
-use Rattle.sdp_lists.proofs.RestLaws.{offset-done, offset-next, offset-refused}
+use Rattle.sdp_lists.proofs.RestLaws.{offset-done, offset-next, offset-refused, repeat-head}
 use Rattle.sdp_area.specs.Session.{Repeat, Offset, Session, Within}
 use Rattle.sdp_area.specs.With.{withRepeats, withOffsets}
 use Rattle.sdp_cells.specs.Tables.{add, pushed, told, grown}
@@ -26,7 +25,7 @@ use Rattle.sdp_area.specs.Area.{encode, size, offsetRow, offsetsAt}
 use Rattle.sdp_cells.specs.declared.Pushed.{Pushed}
 use Rattle.sdp_cells.specs.declared.Pushed.the-variants.{Stored, Full}
 use Rattle.sdp_area.proofs.GrownLaws.{offsets-grown}
-use Rattle.sdp_step.specs.Step.{Reading, stopped, withRepeat, repeated}
+use Rattle.sdp_step.specs.Step.{Reading, stops, withRepeat, repeated}
 use Rattle.sdp_step.specs.Hold.{Holds, Handled}
 use Rattle.sdp_take_list.specs.Repeats.{latestOf, repeatRoom, roomAfter, areaAfter, RoomHolds, offsetsStep}
 use Rattle.sdp_step.specs.declared.Marks.{Marks}
@@ -41,12 +40,12 @@ use Rattle.sdp_step.proofs.WithinLaws.{within-repeats, within-offsets}
 -- before the offset that is due at place i: s is the session before the line, q its repeat
 pub record Repeating (v : List ℕ) (from : ℕ) (s : Session Span) (q : Repeat) (t : List ℕ) (room : Room) (a : List ℕ) (i : ℕ) : Type 0 where
   pub done : List ℕ
-  pub left : offsetsOf (words (drop from v)) ≡ andThen (offsetsOf (words (drop i v))) (λ ns. got (done ++ ns))
+  pub left : offsetsOf v (wordsAt v from) ≡ andThen (offsetsOf v (wordsAt v i)) (λ ns. got (done ++ ns))
   pub holds : RoomHolds s q done room a t
 
 pub repeating-begin : (v : List ℕ) (from : ℕ) (s : Session Span) (q : Repeat) (t : List ℕ) (room : Room) (a : List ℕ) → RoomHolds s q [] room a t
     → Repeating v from s q t room a from
-repeating-begin v from s q t room a h = record { done = []; left = lists.none-yet (offsetsOf (words (drop from v))); holds = h }
+repeating-begin v from s q t room a h = record { done = []; left = lists.none-yet (offsetsOf v (wordsAt v from)); holds = h }
 
 -- an offset of the repeat
 abbrev offsetIn : Session Span → ℕ → Offset
@@ -92,14 +91,14 @@ module _ (v : List ℕ) (from : ℕ) (s : Session Span) (ok : Within s) (q : Rep
   repeating-next n e room′ a′ p r b =
       record {
         done = z .done ++ (n ∷ []);
-        left = z .left ∙ rw (offset-next v i n e p .0) (lists.one-more (offsetsOf (words (drop e v))) (z .done) n);
+        left = z .left ∙ rw (offset-next v i n e p .0) (lists.one-more (offsetsOf v (wordsAt v e)) (z .done) n);
         holds = rw (r, b) (room-next s ok q (z .done) n a t room (z .holds));
       }
 
-  pub repeating-wrong : (w : Wrong) → offsetAt v i ≡ offsets.Refused w → offsetsOf (words (drop from v)) ≡ refused w
+  pub repeating-wrong : (w : Wrong) → offsetAt v i ≡ offsets.Refused w → offsetsOf v (wordsAt v from) ≡ refused w
   repeating-wrong w p = z .left ∙ rw (offset-refused v i w p)
 
-  pub repeating-all : offsetAt v i ≡ offsets.Done → offsetsOf (words (drop from v)) ≡ got (z .done)
+  pub repeating-all : offsetAt v i ≡ offsets.Done → offsetsOf v (wordsAt v from) ≡ got (z .done)
   repeating-all p = z .left ∙ rw (offset-done v i p) (lists.all-read (z .done))
 
 -- the bytes behind the session stay
@@ -111,8 +110,8 @@ room-tail s q ns NoOffsets a t h = h .2
 -- ---- the answers after the last offset
 module _ (ρ : Reading Span) (m : Marks) (a₀ t a : List ℕ) (h : Holds ρ m a₀ t) (q : Repeat) (r : Read (List ℕ)) where
   pub offsets-wrong : (w : Wrong) (room : Room) (ns : List ℕ) → r ≡ refused w → RoomHolds (ρ .session) q ns room a t
-      → Handled (offsetsStep ρ q r) (Refused (w .number) (w .field)) a t
-  offsets-wrong w room ns e k = rw e (refl, refl, room-tail (ρ .session) q ns room a t k)
+      → Handled (offsetsStep ρ q r) (Refused w) a t
+  offsets-wrong w room ns e k = rw e (refl, room-tail (ρ .session) q ns room a t k)
 
   module _ (ns : List ℕ) (e : r ≡ got ns) where
     pub offsets-kept : RoomHolds (ρ .session) q ns Open a t → Handled (offsetsStep ρ q r) (Kept m) a t
@@ -120,12 +119,12 @@ module _ (ρ : Reading Span) (m : Marks) (a₀ t a : List ℕ) (h : Holds ρ m a
         rw (e, lt-ltb (length (ρ .session .tables .repeats)) 64 (k .0), le-leb (length (ρ .session .tables .offsets) + length ns) 256 (k .1))
         (record { marks = h .marks; bytes = k .2; within = within-rows (ρ .session) (h .within) q ns 0 a t (k .0) (k .1); unzoned = h .unzoned })
 
-    pub offsets-six : RoomHolds (ρ .session) q ns NoRepeats a t → Handled (offsetsStep ρ q r) (Refused 21 6) a t
-    offsets-six k = rw (e, le-ltb (length (ρ .session .tables .repeats)) 64 (k .0)) (refl, refl, k .1)
+    pub offsets-six : RoomHolds (ρ .session) q ns NoRepeats a t → Handled (offsetsStep ρ q r) (Refused (plain 21 6)) a t
+    offsets-six k = rw (e, le-ltb (length (ρ .session .tables .repeats)) 64 (k .0)) (refl, k .1)
 
-    pub offsets-seven : RoomHolds (ρ .session) q ns NoOffsets a t → Handled (offsetsStep ρ q r) (Refused 21 7) a t
+    pub offsets-seven : RoomHolds (ρ .session) q ns NoOffsets a t → Handled (offsetsStep ρ q r) (Refused (plain 21 7)) a t
     offsets-seven k =
-        rw (e, lt-ltb (length (ρ .session .tables .repeats)) 64 (k .0), lt-leb (length (ρ .session .tables .offsets) + length ns) 256 (k .1)) (refl, refl, k .2)
+        rw (e, lt-ltb (length (ρ .session .tables .repeats)) 64 (k .0), lt-leb (length (ρ .session .tables .offsets) + length ns) 256 (k .1)) (refl, k .2)
 
 -- ---- the r line before its offsets
 -- whether there is a latest time
@@ -156,15 +155,13 @@ room-begin s ok q p a t e b = rw e (go (ltb (length (s .tables .repeats)) 64) re
 
 -- the step by the line's head
 module _ (mk : Piece → Span) (ρ : Reading Span) (v : List ℕ) where
-  pub head-wrong : (w : Wrong) → repeatHead v ≡ refused w → repeated mk ρ v (repeatOf v) ≡ stopped w
-  unfolding Lists.repeatOf
-  head-wrong w e = rw e
+  pub head-wrong : (w : Wrong) → repeatHead v ≡ refused w → repeated mk ρ v (repeatOf v) ≡ stops w
+  head-wrong w e = rw (repeat-head v, e)
 
   pub head-got : (x : RepeatHead) → repeatHead v ≡ got x
       → repeated mk ρ v (repeatOf v)
-      ≡ offsetsStep ρ (record { owner = length (ρ .session .tables .times); repeatInterval = x .«repeat_interval»; activeDuration = x .«active_duration» }) (offsetsOf (words (drop (x .next) v)))
-  unfolding Lists.repeatOf
-  head-got x e = rw e (go (offsetsOf (words (drop (x .next) v))))
+      ≡ offsetsStep ρ (record { owner = length (ρ .session .tables .times); repeatInterval = x .«repeat_interval»; activeDuration = x .«active_duration» }) (offsetsOf v (wordsAt v (x .next)))
+  head-got x e = rw (repeat-head v, e) (go (offsetsOf v (wordsAt v (x .next))))
     where
       go : (r : Read (List ℕ))
           → repeated mk ρ v (andThen r (λ os. got (record { interval = x .«repeat_interval»; duration = x .«active_duration»; offsets = os })))

@@ -8,8 +8,8 @@ use mathlib.Core.List.{List, [], _∷_, _++_, map}
 use lib.ListN.{length, drop}
 use borrow.Author.Tests.{le-leb, lt-leb}
 use Rattle.sdp_lines.specs.declared.Span.{Span}
-use Rattle.sdp_split.specs.Split.{words}
-use Rattle.sdp_judge.specs.Read.{got, refused, andThen}
+use Rattle.sdp_split.specs.Split.{words, wordsAt}
+use Rattle.sdp_judge.specs.Read.{got, refused, plain, andThen}
 use Rattle.sdp_lists.specs.Lists
 use Rattle.sdp_lists.specs.Lists.{pairsOf, zonesOf}
 use Rattle.sdp_lists.specs.Answers.{zoneAt}
@@ -35,7 +35,7 @@ use Rattle.sdp_step.proofs.WithinLaws.{within-zones}
 pub record Zoning (v : List ℕ) (s : Session Span) (t a : List ℕ) (i n : ℕ) : Type 0 where
   pub done : List field.Zone
   pub count : n ≡ length done
-  pub left : zonesOf v ≡ andThen (pairsOf (words (drop i v))) (λ zs. got (done ++ zs))
+  pub left : zonesOf v ≡ andThen (pairsOf v (wordsAt v i)) (λ zs. got (done ++ zs))
   pub rows : List Zone
   pub kept : lists.Kept zoneIn 64 rows done
   pub bytes : a ≡ encode (withZones s rows) ++ t
@@ -46,7 +46,7 @@ zoning-begin v s t a e b =
     record {
       done = [];
       count = refl;
-      left = lists.none-yet (pairsOf (words v));
+      left = lists.none-yet (pairsOf v (words v));
       rows = [];
       kept = lists.kept-none zoneIn 64;
       bytes = b ∙ ap (λ (zs : List Zone). encode (withZones s zs) ++ t) e;
@@ -58,7 +58,7 @@ module _ (v : List ℕ) (s : Session Span) (ok : Within s) (t a : List ℕ) (i n
       record {
         done = z .done ++ (x ∷ []);
         count = let l = lists.length-more (z .done) x in let k = z .count in omega arith;
-        left = z .left ∙ rw (zone-next v i x e q .0) (lists.one-more (pairsOf (words (drop e v))) (z .done) x);
+        left = z .left ∙ rw (zone-next v i x e q .0) (lists.one-more (pairsOf v (wordsAt v e)) (z .done) x);
         rows = add 64 (z .rows) (zoneIn x);
         kept = lists.kept-more zoneIn 64 (z .rows) (z .done) x (z .kept);
         bytes = b ∙ zones-grown (withZones s (z .rows)) t (within-zones s ok (z .rows) (z .kept .fits)) a (z .bytes) (zoneIn x) .1;
@@ -75,10 +75,10 @@ module _ (v : List ℕ) (s : Session Span) (ok : Within s) (t a : List ℕ) (i n
 
 -- ---- the answers after the last pair
 module _ (mk : Piece → Span) (v : List ℕ) (ρ : Reading Span) (m : Marks) (a₀ t a : List ℕ) (h : Holds ρ m a₀ t) (i n : ℕ) (z : Zoning v (ρ .session) t a i n) where
-  pub zones-full : 64 < n → Handled (zonesTaken mk ρ v (z .done)) (Refused 21 8) a t
+  pub zones-full : 64 < n → Handled (zonesTaken mk ρ v (z .done)) (Refused (plain 21 8)) a t
   zones-full l =
       let k = z .count in
-      rw (lt-leb (length (z .done)) 64 (omega arith)) (refl, refl, zoning-tail v (ρ .session) (h .within) t a i n z)
+      rw (lt-leb (length (z .done)) 64 (omega arith)) (refl, zoning-tail v (ρ .session) (h .within) t a i n z)
 
   pub zones-kept : n ≤ 64 → Handled (zonesTaken mk ρ v (z .done)) (Kept (record { named = m .named; zoned = true })) a t
   zones-kept l =

@@ -7,14 +7,14 @@ use lib.Dec.{eqb}
 use lib.ListN.{length, drop}
 use Rattle.sdp_numbers.specs.Tables.{mostRepeats, mostOffsets}
 use Rattle.sdp_lines.specs.declared.Span.{Span}
-use Rattle.sdp_split.specs.Split.{words}
+use Rattle.sdp_split.specs.Split.{wordsAt}
 use Rattle.sdp_judge.specs.Read.{Read, got, refused}
 use Rattle.sdp_lists.specs.Lists.{offsetsOf}
 use Rattle.sdp_area.specs.Session.{Repeat, Session}
 use Rattle.sdp_area.specs.Area.{encode, size}
 use Rattle.sdp_cells.specs.declared.Pushed.{Pushed}
 use Rattle.sdp_cells.specs.declared.Pushed.the-variants.{Stored, Full}
-use Rattle.sdp_step.specs.Step.{Reading, Stepped, stopped, withRepeat, repeatTaken}
+use Rattle.sdp_step.specs.Step.{Reading, Stepped, stops, withRepeat, repeatTaken}
 use Rattle.sdp_step.specs.Hold.{Holds, Handled}
 use Rattle.sdp_step.specs.declared.Marks.{Marks}
 use Rattle.sdp_step.specs.declared.Taken.{Taken}
@@ -59,11 +59,11 @@ RoomHolds s q ns NoOffsets a t =
 
 -- the step of an r line whose repeat is q
 abbrev pub offsetsStep : Reading Span → Repeat → Read (List ℕ) → Stepped Span
-offsetsStep ρ q (refused w) = stopped w
+offsetsStep ρ q (refused w) = stops w
 offsetsStep ρ q (got ns) = repeatTaken ρ q ns
 
 -- what taking the offsets promises. a₀ held the session before the line
 abbrev pub Offsets : List ℕ → ℕ → ℕ → Room → Marks → Taken → List ℕ → List ℕ → Type 0
 Offsets v from owner first m r a a′ =
     (ρ : Reading Span) (q : Repeat) (a₀ t : List ℕ) → Holds ρ m a₀ t → owner ≡ length (ρ .session .tables .repeats) + 1
-    → RoomHolds (ρ .session) q [] first a t → Handled (offsetsStep ρ q (offsetsOf (words (drop from v)))) r a′ t
+    → RoomHolds (ρ .session) q [] first a t → Handled (offsetsStep ρ q (offsetsOf v (wordsAt v from))) r a′ t

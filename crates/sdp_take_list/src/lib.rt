@@ -15,6 +15,7 @@ use sdp_area::push_zone;
 use sdp_area::repeats;
 use sdp_area::times;
 use sdp_cells::Pushed;
+use sdp_judge::Wrong;
 use sdp_lists::RepeatHead;
 use sdp_lists::RepeatOffset;
 use sdp_lists::RepeatRead;
@@ -24,7 +25,6 @@ use sdp_lists::repeat_offset;
 use sdp_roles::Role;
 use sdp_step::Marks;
 use sdp_step::Taken;
-use sdp_step::refused;
 
 // The latest time, by its number.
 enum Latest {
@@ -101,7 +101,7 @@ fn take_offsets(
                 break;
             }
             RepeatOffset::Refused(w) => {
-                return refused(w);
+                return Taken::Refused(w);
             }
             RepeatOffset::Got { value, next } => {
                 room = add_offset(area, room, owner, value);
@@ -111,14 +111,16 @@ fn take_offsets(
     }
     match room {
         Room::Open => Taken::Kept(marks),
-        Room::NoRepeats => Taken::Refused {
+        Room::NoRepeats => Taken::Refused(Wrong {
             number: 21,
             field: 6,
-        },
-        Room::NoOffsets => Taken::Refused {
+            at: 0,
+        }),
+        Room::NoOffsets => Taken::Refused(Wrong {
             number: 21,
             field: 7,
-        },
+            at: 0,
+        }),
     }
 }
 
@@ -128,13 +130,14 @@ pub fn take_repeat(area: &mut [u8], v: &[u8], at: usize, marks: Marks) -> Taken
     ensures { λ r. ⌜ Reads Role.Repeat at (now (v .entry)) marks r (now (area .entry)) (now (area .exit)) ⌝ }
 {
     let Latest::Time(time) = latest_time(area) else {
-        return Taken::Refused {
+        return Taken::Refused(Wrong {
             number: 20,
             field: 0,
-        };
+            at: 0,
+        });
     };
     match RepeatHead::parse(v) {
-        RepeatRead::Refused(w) => refused(w),
+        RepeatRead::Refused(w) => Taken::Refused(w),
         RepeatRead::Got(h) => {
             let owner = repeats(area) + 1;
             let p = push_repeat(area, time, h.repeat_interval, h.active_duration);
@@ -149,10 +152,11 @@ pub fn take_zone(area: &mut [u8], v: &[u8], at: usize, marks: Marks) -> Taken
     ensures { λ r. ⌜ Reads Role.Zone at (now (v .entry)) marks r (now (area .entry)) (now (area .exit)) ⌝ }
 {
     if marks.zoned {
-        return Taken::Refused {
+        return Taken::Refused(Wrong {
             number: 17,
             field: 0,
-        };
+            at: 0,
+        });
     }
     let mut i: usize = 0;
     let mut n: usize = 0;
@@ -162,7 +166,7 @@ pub fn take_zone(area: &mut [u8], v: &[u8], at: usize, marks: Marks) -> Taken
                 break n;
             }
             ZoneRead::Refused(w) => {
-                return refused(w);
+                return Taken::Refused(w);
             }
             ZoneRead::Got { zone, next } => {
                 // a pair past the table's end is judged and not stored
@@ -173,10 +177,11 @@ pub fn take_zone(area: &mut [u8], v: &[u8], at: usize, marks: Marks) -> Taken
         }
     };
     if 64 < pairs {
-        return Taken::Refused {
+        return Taken::Refused(Wrong {
             number: 21,
             field: 8,
-        };
+            at: 0,
+        });
     }
     Taken::Kept(Marks {
         named: marks.named,

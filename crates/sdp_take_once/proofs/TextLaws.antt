@@ -6,7 +6,7 @@ use mathlib.Core.Bool.{true, false}
 use mathlib.Core.List.{List, _++_}
 use Rattle.sdp_lines.specs.declared.Span.{Span}
 use Rattle.sdp_split.specs.declared.Piece.{Piece}
-use Rattle.sdp_judge.specs.Read.{got, refused, wholeOf}
+use Rattle.sdp_judge.specs.Read.{got, refused, plain, wholeOf}
 use Rattle.sdp_judge.specs.declared.Wrong.{Wrong}
 use Rattle.sdp_cells.specs.Bytes.{le}
 use Rattle.sdp_area.specs.Session.{Session}
@@ -49,12 +49,12 @@ module _ (ρ : Reading Span) (m : Marks) (a t : List ℕ) (h : Holds ρ m a t) w
     text-step Title = rw (title-mark (ρ .session) t (h .within) a (h .bytes))
 
     module _ (x : Text) where
-      pub text-second : markText x a ≡ true → Handled (stepRole mk ρ v (textRole x)) (Refused (textNumber x) 0) a t
+      pub text-second : markText x a ≡ true → Handled (stepRole mk ρ v (textRole x)) (Refused (plain (textNumber x) 0)) a t
       text-second e = rw (text-step x) (once-second (textNumber x) (markText x a) _ _ a t e (tail-of h))
 
       -- n is the field that the code asked for
       module _ (e : markText x a ≡ false) (n : ℕ) (is : n ≡ textField x) where
-        pub text-wrong : (w : Wrong) → wholeOf n v ≡ refused w → Handled (stepRole mk ρ v (textRole x)) (Refused (w .number) (w .field)) a t
+        pub text-wrong : (w : Wrong) → wholeOf n v ≡ refused w → Handled (stepRole mk ρ v (textRole x)) (Refused w) a t
         text-wrong w f = rw (text-step x, ← is) (once-wrong (textNumber x) (markText x a) _ _ a t e w f (tail-of h))
 
         pub text-kept : (p : Piece) (a′ : List ℕ) → wholeOf n v ≡ got p → a′ ≡ overText x a (le 2 1 ++ span (mk p))

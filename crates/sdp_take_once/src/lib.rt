@@ -19,11 +19,11 @@ use sdp_fields::ConnectionRead;
 use sdp_fields::Origin;
 use sdp_fields::OriginRead;
 use sdp_judge::WholeRead;
+use sdp_judge::Wrong;
 use sdp_judge::whole;
 use sdp_roles::Role;
 use sdp_step::Marks;
 use sdp_step::Taken;
-use sdp_step::refused;
 use sdp_strings::maybe_of;
 use sdp_strings::span_of;
 
@@ -33,13 +33,14 @@ fn take_origin(area: &mut [u8], v: &[u8], at: usize, marks: Marks) -> Taken
     ensures { λ r. ⌜ Reads Role.Origin at (now (v .entry)) marks r (now (area .entry)) (now (area .exit)) ⌝ }
 {
     if has_origin(area) {
-        return Taken::Refused {
+        return Taken::Refused(Wrong {
             number: 12,
             field: 0,
-        };
+            at: 0,
+        });
     }
     match Origin::parse(v) {
-        OriginRead::Refused(w) => refused(w),
+        OriginRead::Refused(w) => Taken::Refused(w),
         OriginRead::Got(o) => {
             let username = o.username;
             let username = maybe_of(at, username);
@@ -71,13 +72,14 @@ fn take_name(area: &mut [u8], v: &[u8], at: usize, marks: Marks) -> Taken
     ensures { λ r. ⌜ Reads Role.Name at (now (v .entry)) marks r (now (area .entry)) (now (area .exit)) ⌝ }
 {
     if marks.named {
-        return Taken::Refused {
+        return Taken::Refused(Wrong {
             number: 13,
             field: 0,
-        };
+            at: 0,
+        });
     }
     match whole(v, 34) {
-        WholeRead::Refused(w) => refused(w),
+        WholeRead::Refused(w) => Taken::Refused(w),
         WholeRead::Got(p) => {
             let x = span_of(at, p);
             set_name(area, x);
@@ -117,13 +119,14 @@ fn take_text(area: &mut [u8], v: &[u8], at: usize, marks: Marks, which: Text) ->
     ensures { λ r. ⌜ Reads (textRole which) at (now (v .entry)) marks r (now (area .entry)) (now (area .exit)) ⌝ }
 {
     if has_text(area, which) {
-        return Taken::Refused {
+        return Taken::Refused(Wrong {
             number: text_number(which),
             field: 0,
-        };
+            at: 0,
+        });
     }
     match whole(v, text_field(which)) {
-        WholeRead::Refused(w) => refused(w),
+        WholeRead::Refused(w) => Taken::Refused(w),
         WholeRead::Got(p) => {
             let x = span_of(at, p);
             set_text(area, which, x);
@@ -138,13 +141,14 @@ fn take_connection(area: &mut [u8], v: &[u8], at: usize, marks: Marks) -> Taken
     ensures { λ r. ⌜ Reads Role.Connection at (now (v .entry)) marks r (now (area .entry)) (now (area .exit)) ⌝ }
 {
     if has_connection(area) {
-        return Taken::Refused {
+        return Taken::Refused(Wrong {
             number: 16,
             field: 0,
-        };
+            at: 0,
+        });
     }
     match Connection::parse(v) {
-        ConnectionRead::Refused(w) => refused(w),
+        ConnectionRead::Refused(w) => Taken::Refused(w),
         ConnectionRead::Got(c) => {
             let nettype = c.nettype;
             let nettype = span_of(at, nettype);

@@ -27,7 +27,7 @@ use Rattle.sdp_take_row.specs.Rows.{contactRole, contactField, contactTa
 -- n is the field that the code asked for
 module _ (ρ : Reading Span) (m : Marks) (a t : List ℕ) (h : Holds ρ m a t) (mk : Piece → Span) (v : List ℕ) (n : ℕ) where
   pub contact-wrong : (x : Contact) → n ≡ contactField x → (w : Wrong) → wholeOf n v ≡ refused w
-      → Handled (stepRole mk ρ v (contactRole x)) (Refused (w .number) (w .field)) a t
+      → Handled (stepRole mk ρ v (contactRole x)) (Refused w) a t
   unfolding stepRole
   contact-wrong Email is w f = rw (← is) (row-wrong 1 16 _ _ _ a t w f (tail-of h))
   contact-wrong Phone is w f = rw (← is) (row-wrong 2 16 _ _ _ a t w f (tail-of h))

@@ -31,7 +31,6 @@ use sdp_media_line::MediaRead;
 use sdp_roles::Role;
 use sdp_step::Marks;
 use sdp_step::Taken;
-use sdp_step::refused;
 use sdp_step::stored;
 use sdp_strings::maybe_of;
 use sdp_strings::span_of;
@@ -62,7 +61,7 @@ fn take_contact(area: &mut [u8], v: &[u8], at: usize, marks: Marks, which: Conta
     ensures { λ r. ⌜ Reads (contactRole which) at (now (v .entry)) marks r (now (area .entry)) (now (area .exit)) ⌝ }
 {
     match whole(v, contact_field(which)) {
-        WholeRead::Refused(w) => refused(w),
+        WholeRead::Refused(w) => Taken::Refused(w),
         WholeRead::Got(p) => {
             let x = span_of(at, p);
             let p = push_contact(area, which, x);
@@ -77,7 +76,7 @@ fn take_media_connection(area: &mut [u8], v: &[u8], at: usize, marks: Marks) -> 
     ensures { λ r. ⌜ Reads Role.MediaConnection at (now (v .entry)) marks r (now (area .entry)) (now (area .exit)) ⌝ }
 {
     match Connection::parse(v) {
-        ConnectionRead::Refused(w) => refused(w),
+        ConnectionRead::Refused(w) => Taken::Refused(w),
         ConnectionRead::Got(c) => {
             let nettype = c.nettype;
             let nettype = span_of(at, nettype);
@@ -98,7 +97,7 @@ fn take_bandwidth(area: &mut [u8], v: &[u8], at: usize, marks: Marks) -> Taken
     ensures { λ r. ⌜ Reads Role.Bandwidth at (now (v .entry)) marks r (now (area .entry)) (now (area .exit)) ⌝ }
 {
     match Bandwidth::parse(v) {
-        BandwidthRead::Refused(w) => refused(w),
+        BandwidthRead::Refused(w) => Taken::Refused(w),
         BandwidthRead::Got(b) => {
             let bwtype = b.bwtype;
             let bwtype = span_of(at, bwtype);
@@ -115,7 +114,7 @@ fn take_time(area: &mut [u8], v: &[u8], at: usize, marks: Marks) -> Taken
     ensures { λ r. ⌜ Reads Role.Time at (now (v .entry)) marks r (now (area .entry)) (now (area .exit)) ⌝ }
 {
     match Time::parse(v) {
-        TimeRead::Refused(w) => refused(w),
+        TimeRead::Refused(w) => Taken::Refused(w),
         TimeRead::Got(t) => {
             let p = push_time(area, t.start_time, t.stop_time);
             stored(p, 5, marks)
@@ -129,7 +128,7 @@ fn take_attribute(area: &mut [u8], v: &[u8], at: usize, marks: Marks) -> Taken
     ensures { λ r. ⌜ Reads Role.Attribute at (now (v .entry)) marks r (now (area .entry)) (now (area .exit)) ⌝ }
 {
     match Attribute::parse(v) {
-        AttributeRead::Refused(w) => refused(w),
+        AttributeRead::Refused(w) => Taken::Refused(w),
         AttributeRead::Got(k) => {
             let name = k.attribute;
             let name = span_of(at, name);
@@ -148,7 +147,7 @@ fn take_media(area: &mut [u8], v: &[u8], at: usize, marks: Marks) -> Taken
     ensures { λ r. ⌜ Reads Role.Media at (now (v .entry)) marks r (now (area .entry)) (now (area .exit)) ⌝ }
 {
     match Media::parse_m_line(v) {
-        MediaRead::Refused(w) => refused(w),
+        MediaRead::Refused(w) => Taken::Refused(w),
         MediaRead::Got(m) => {
             let media = m.media;
             let media = span_of(at, media);

@@ -1,14 +1,18 @@
 -- Document 01, "Lines", "Refusal numbers": what one line does to a run, and what it says of the version, by what the cutter found.
 use Prim.Native.Nat.{ℕ, _+_, _≤_}
 use mathlib.Core.Path.{_≡_}
+use mathlib.Core.Bool.{cond}
 use mathlib.Core.List.{List, _++_}
+use lib.Dec.{eqb}
 use lib.ListN.{length, drop}
+use Rattle.sdp_numbers.specs.Refusals as refusals
 use Rattle.sdp_lines.specs.Strings.{bytesOf}
 use Rattle.sdp_lines.specs.Answers.{faultNumber}
 use Rattle.sdp_lines.specs.declared.Span.{Span}
 use Rattle.sdp_lines.specs.declared.Answer.{Answer}
 use Rattle.sdp_cutter.specs.declared.Next.{Next}
 use Rattle.sdp_cutter.specs.declared.Next.the-variants.{Found, Empty, Refused, End}
+use Rattle.sdp_judge.specs.declared.Wrong.{Wrong}
 use Rattle.sdp_area.specs.Session.{Session}
 use Rattle.sdp_area.specs.Area.{encode, size}
 use Rattle.sdp_strings.specs.Strings.{spanAt}
@@ -43,6 +47,14 @@ pub data Verdict (S : Type 0) : Type 0 where
 abbrev pub onLine : {S : Type 0} → ℕ → ℕ → ℕ → Verdict S
 onLine number line field = refused (answer number line field)
 
+-- document 02, P2: "Refusal 8 now returns that place besides line and field"; the others name none
+abbrev pub placeOf : ℕ → ℕ → ℕ
+placeOf number place = cond (eqb number refusals.encoding) place 0
+
+-- the refusal of the line n whose value stands at place p of the text: the place of the bad byte is one of the whole text
+abbrev pub wrongAt : ℕ → ℕ → Wrong → Answer
+wrongAt n p w = record { number = w .number; line = n; field = w .field; place = placeOf (w .number) (p + w .at); len = 0 }
+
 -- the answer of the lines, and the area after them: the session, or a refusal after which only the bytes behind count
 abbrev pub Left : Verdict Span → Ended → List ℕ → List ℕ → Type 0
 Left (accepted s) Accepted a t = a ≡ encode s ++ t
@@ -57,14 +69,14 @@ pub data Lined : Type 0 where
   on : Reading Span → Lined
   over : Verdict Span → Lined
 
--- after the step of the line with number n
-abbrev pub stepped : ℕ → Stepped Span → Lined
-stepped n (goes ρ) = on ρ
-stepped n (stops number field) = over (onLine number n field)
+-- after the step of the line with number n, whose value stands at place p
+abbrev pub stepped : ℕ → ℕ → Stepped Span → Lined
+stepped n p (goes ρ) = on ρ
+stepped n p (stops w) = over (refused (wrongAt n p w))
 
 -- a line of good form, its number n, its letter l, its value v of the text s
 abbrev pub goodLine : List ℕ → Reading Span → ℕ → ℕ → Span → Lined
-goodLine s ρ n l v = stepped n (step (spanAt (v .at .0) (bytesOf s v)) ρ (bytesOf s v) l)
+goodLine s ρ n l v = stepped n (v .at .0) (step (spanAt (v .at .0) (bytesOf s v)) ρ (bytesOf s v) l)
 
 -- by what the cutter found
 abbrev pub lineOf : List ℕ → Reading Span → Next → Lined

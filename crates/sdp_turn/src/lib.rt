@@ -1,17 +1,19 @@
 // Document 01, module 4: one line, by what the cutter found: what it does to a run, and what it says of the version.
 ghost use mathlib.Core.Path.{_≡_};
-ghost use Prim.Native.Nat.{_+_, _≤_};
+ghost use Prim.Native.Nat.{_+_, _≤_, _<_, _^_};
 ghost use lib.ListN.{length};
-ghost use Rattle.sdp_numbers.specs.Refusals.{longestText};
+ghost use Rattle.sdp_numbers.specs.Refusals.{longestText, encoding};
 ghost use Rattle.sdp_area.specs.Area.{size};
 ghost use Rattle.sdp_line.specs.Version.{answer};
-ghost use Rattle.sdp_turn.specs.Turn.{Inside, goodLine, lineOf, Turns, Passes, openedLine, versionOf};
+ghost use Rattle.sdp_turn.specs.Turn.{Inside, wrongAt, goodLine, lineOf, Turns, Passes, openedLine, versionOf};
 use sdp_cutter::Next;
+use sdp_judge::Wrong;
 use sdp_line::Opening;
 use sdp_line::opening_line;
 use sdp_line::take;
 use sdp_lines::Answer;
 use sdp_lines::LineNumber;
+use sdp_lines::Place;
 use sdp_lines::Span;
 use sdp_lines::fault_number;
 use sdp_step::Marks;
@@ -42,7 +44,7 @@ pub enum Search {
     Told(Version),
 }
 
-// A refusal of a line.
+// A refusal of a line that names no byte.
 fn on_line(number: u64, line: LineNumber, field: u64) -> Answer
     ensures { λ r. ⌜ r ≡ answer number (line .0) field ⌝ }
 {
@@ -51,6 +53,23 @@ fn on_line(number: u64, line: LineNumber, field: u64) -> Answer
         line: line.0 as u64,
         field,
         place: 0,
+        len: 0,
+    }
+}
+
+// A refusal of a line whose value stands at a place: 8 names the place of the bad byte in the text. The byte stands in the value,
+// so the sum never wraps.
+fn wrong_at(line: LineNumber, value: Place, w: Wrong) -> Answer
+    ensures { λ r. ⌜ ((w .number ≡ encoding → value .0 + w .at < 2 ^ 64) → r ≡ wrongAt (line .0) (value .0) w) ⌝ }
+{
+    if w.number != 8 {
+        return on_line(w.number, line, w.field);
+    }
+    Answer {
+        number: 8,
+        line: line.0 as u64,
+        field: w.field,
+        place: std::num::wrapping_add_usize(value.0, w.at) as u64,
         len: 0,
     }
 }
@@ -73,10 +92,7 @@ fn good_line(
     let end = begin + value.len;
     match take(area, at, marks, number, letter, &text[begin..end]) {
         Taken::Kept(marks) => Turn::Goes(marks),
-        Taken::Refused {
-            number: refusal,
-            field,
-        } => Turn::Over(Ended::Stopped(on_line(refusal, number, field))),
+        Taken::Refused(w) => Turn::Over(Ended::Stopped(wrong_at(number, at, w))),
     }
 }
 

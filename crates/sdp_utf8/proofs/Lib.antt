@@ -1,2 +1,3 @@
 pub mod Utf8Laws
 pub mod Utf8Text
+pub mod BreakLaws

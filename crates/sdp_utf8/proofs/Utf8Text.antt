@@ -54,7 +54,7 @@ module _ (c t : List ℕ) where
   char-prefix l e = pick-same _ _ _ _ _ _ _ _ (length c) (λ h. sym (same1 h)) (λ h. sym (same2 h)) (λ h. sym (same3 h)) (λ h. sym (same4 h)) l e
 
 -- characters, and then what is left
-text-append : {s : List ℕ} → Text s → (u : List ℕ) → utf8End (s ++ u) ≡ length s + utf8End u
+pub text-append : {s : List ℕ} → Text s → (u : List ℕ) → utf8End (s ++ u) ≡ length s + utf8End u
 text-append none u = omega arith
 text-append (more [] s k t) u = text-append t u
 text-append (more (b ∷ c) s k t) u =

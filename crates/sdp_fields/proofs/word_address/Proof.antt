@@ -2,7 +2,7 @@
 use mathlib.Core.Path.{sym, ap, _∙_}
 use Rattle.sdp_fields.specs.Records.{addressOf}
 use Rattle.sdp_fields.specs.Answers.{connectionAnswer}
-use Rattle.sdp_judge.proofs.ReadLaws.{by-text, by-end}
+use Rattle.sdp_judge.proofs.ReadLaws.{text-next, token-next, end-next}
 use borrow.Author.Needs.{needs}
 use Rattle.sdp_fields.proofs.word_address.Statement.{statement}
 use Rattle.sdp_fields.proofs.word_address.Tie as tie
@@ -10,15 +10,15 @@ use Rattle.sdp_fields.proofs.word_address.Tie as tie
 returns : tie.Need-returns
 unfolding addressOf
 returns c =
-    sym (ap connectionAnswer (by-text _ (c .before .before .before .word-token .ensures) (c .before .x .given .1)))
+    sym (ap connectionAnswer (token-next _ _ _ _ (c .before .before .before .word-token .ensures) (c .before .x .given .1)))
 
 returns-2 : tie.Need-returns-2
 unfolding addressOf
 returns-2 c =
     let g1 = c .before .before .before .before in
     sym (ap connectionAnswer
-    (by-text _ (g1 .before .before .before .word-token .ensures) (g1 .before .piece .given .1)
-    ∙ by-text _ (c .before .before .before .word-token2 .ensures) (c .before .x2 .given .1)))
+    (token-next _ _ _ _ (g1 .before .before .before .word-token .ensures) (g1 .before .piece .given .1)
+    ∙ token-next _ _ _ _ (c .before .before .before .word-token2 .ensures) (c .before .x2 .given .1)))
 
 returns-3 : tie.Need-returns-3
 unfolding addressOf
@@ -26,9 +26,9 @@ returns-3 c =
     let g2 = c .before .before .before .before in
     let g1 = g2 .before .before .before .before in
     sym (ap connectionAnswer
-    (by-text _ (g1 .before .before .before .word-token .ensures) (g1 .before .piece .given .1)
-    ∙ by-text _ (g2 .before .before .before .word-token2 .ensures) (g2 .before .piece2 .given .1)
-    ∙ by-text _ (c .before .before .before .word-text .ensures) (c .before .x3 .given .1)))
+    (token-next _ _ _ _ (g1 .before .before .before .word-token .ensures) (g1 .before .piece .given .1)
+    ∙ token-next _ _ _ _ (g2 .before .before .before .word-token2 .ensures) (g2 .before .piece2 .given .1)
+    ∙ text-next _ _ _ _ (c .before .before .before .word-text .ensures) (c .before .x3 .given .1)))
 
 returns-4 : tie.Need-returns-4
 unfolding addressOf
@@ -37,10 +37,10 @@ returns-4 c =
     let g2 = g3 .before .before .before .before in
     let g1 = g2 .before .before .before .before in
     rw (c .wrong-of .ensures) (sym (ap connectionAnswer
-    (by-text _ (g1 .before .before .before .word-token .ensures) (g1 .before .piece .given .1)
-    ∙ by-text _ (g2 .before .before .before .word-token2 .ensures) (g2 .before .piece2 .given .1)
-    ∙ by-text _ (g3 .before .before .before .word-text .ensures) (g3 .before .piece3 .given .1)
-    ∙ by-end _ _ (c .before .before .before .word-at .ensures) (c .before .enum-told .given .1))))
+    (token-next _ _ _ _ (g1 .before .before .before .word-token .ensures) (g1 .before .piece .given .1)
+    ∙ token-next _ _ _ _ (g2 .before .before .before .word-token2 .ensures) (g2 .before .piece2 .given .1)
+    ∙ text-next _ _ _ _ (g3 .before .before .before .word-text .ensures) (g3 .before .piece3 .given .1)
+    ∙ end-next _ _ _ _ (c .before .before .before .word-at .ensures) (c .before .enum-told .given .1))))
 
 returns-5 : tie.Need-returns-5
 unfolding addressOf
@@ -49,10 +49,10 @@ returns-5 c =
     let g2 = g3 .before .before .before .before in
     let g1 = g2 .before .before .before .before in
     sym (ap connectionAnswer
-    (by-text _ (g1 .before .before .before .word-token .ensures) (g1 .before .piece .given .1)
-    ∙ by-text _ (g2 .before .before .before .word-token2 .ensures) (g2 .before .piece2 .given .1)
-    ∙ by-text _ (g3 .before .before .before .word-text .ensures) (g3 .before .piece3 .given .1)
-    ∙ by-end _ _ (c .before .before .before .before .before .word-at .ensures) (c .before .before .before .enum-told2 .given .1)))
+    (token-next _ _ _ _ (g1 .before .before .before .word-token .ensures) (g1 .before .piece .given .1)
+    ∙ token-next _ _ _ _ (g2 .before .before .before .word-token2 .ensures) (g2 .before .piece2 .given .1)
+    ∙ text-next _ _ _ _ (g3 .before .before .before .word-text .ensures) (g3 .before .piece3 .given .1)
+    ∙ end-next _ _ _ _ (c .before .before .before .before .before .word-at .ensures) (c .before .before .before .enum-told2 .given .1)))
 
 pub word-address-spec : {M : Type 1} → statement M
 word-address-spec =

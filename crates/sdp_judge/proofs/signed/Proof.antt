@@ -8,22 +8,13 @@ returns : tie.Need-returns
 returns c = rw (c .negated .ensures, c .before .before .if1 .taken, le-leb _ _ (c .before .if2 .taken))
 
 returns-2 : tie.Need-returns-2
-returns-2 c = rw (c .wrong-of .ensures, c .before .before .if1 .taken, lt-leb _ _ (c .before .if2 .left))
+returns-2 c = rw (c .before .if1 .taken, lt-leb _ _ (c .if2 .left))
 
 returns-3 : tie.Need-returns-3
 returns-3 c = rw (c .before .if1 .left, lt-ltb _ _ (c .if3 .taken))
 
 returns-4 : tie.Need-returns-4
-returns-4 c = rw (c .wrong-of2 .ensures, c .before .before .if1 .left, le-ltb _ _ (c .before .if3 .left))
+returns-4 c = rw (c .before .if1 .left, le-ltb _ _ (c .if3 .left))
 
 pub signed-spec : {M : Type 1} → statement M
-signed-spec =
-    tie.close
-    (tie.spec
-    (λ c κs. search needs)
-    returns
-    (λ c κs. search needs)
-    returns-2
-    returns-3
-    (λ c κs. search needs)
-    returns-4)
+signed-spec = tie.close (tie.spec (λ c κs. search needs) returns returns-2 returns-3 returns-4)

@@ -6,12 +6,6 @@ use Rattle.sdp_judge.proofs.signed_of.Tie as tie
 returns : tie.Need-returns
 returns c = rw (c .before .before .n .given .1) (c .signed .ensures)
 
-returns-2 : tie.Need-returns-2
-returns-2 c = rw (c .wrong-of .ensures, c .before .enum-told .given .1)
-
-returns-3 : tie.Need-returns-3
-returns-3 c = rw (c .wrong-of2 .ensures, c .before .enum-told2 .given .1)
-
 pub signed-of-spec : {M : Type 1} → statement M
 signed-of-spec =
     tie.close
@@ -19,9 +13,7 @@ signed-of-spec =
     (λ c. search needs)
     (λ c κs. search needs)
     (λ c. search needs)
-    (λ c κs. search needs)
     (λ c. search needs)
-    (λ c κs. search needs)
     returns
-    returns-2
-    returns-3)
+    (λ c. search needs)
+    (λ c. search needs))

@@ -10,7 +10,7 @@ returns c = rw (← c .before .is-utf8 .ensures, c .if1 .taken)
 
 returns-2 : tie.Need-returns-2
 unfolding wholeOf
-returns-2 c = rw (c .wrong-of .ensures, ← c .before .before .is-utf8 .ensures, c .before .if1 .left)
+returns-2 c = rw (c .not-utf8 .ensures, ← c .before .before .is-utf8 .ensures, c .before .if1 .left)
 
 pub whole-spec : {M : Type 1} → statement M
 whole-spec = tie.close (tie.spec (λ c κs. search needs) returns (λ c κs. search needs) returns-2)

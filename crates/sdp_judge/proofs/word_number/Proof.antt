@@ -1,7 +1,7 @@
 -- `sdp_judge::word_number` meets its contract. Assumes nothing.
 use mathlib.Core.Path.{ap, _∙_}
 use Rattle.sdp_judge.specs.Read.{numberOf}
-use Rattle.sdp_split.proofs.SplitLaws.{word-within}
+use Rattle.sdp_split.proofs.WordLaws.{word-within}
 use borrow.Author.Needs.{needs}
 use Rattle.sdp_judge.proofs.word_number.Statement.{statement}
 use Rattle.sdp_judge.proofs.word_number.Tie as tie

@@ -1,7 +1,7 @@
 -- `sdp_judge::word_text` meets its contract. Assumes nothing.
 use mathlib.Core.Path.{ap, _∙_}
 use Rattle.sdp_judge.specs.Read.{textOf}
-use Rattle.sdp_split.proofs.SplitLaws.{word-within}
+use Rattle.sdp_split.proofs.WordLaws.{word-within}
 use borrow.Author.Needs.{needs}
 use Rattle.sdp_judge.proofs.word_text.Statement.{statement}
 use Rattle.sdp_judge.proofs.word_text.Tie as tie

@@ -1,7 +1,8 @@
 -- `sdp_split::word_at` meets its contract. Assumes nothing.
 use mathlib.Core.Path.{refl, _∙_}
 use native.Mathlib.Omega.{arith}
-use Rattle.sdp_split.proofs.SplitLaws.{spaces-fit, word-here, word-past}
+use Rattle.sdp_split.proofs.SplitLaws.{spaces-fit}
+use Rattle.sdp_split.proofs.WordLaws.{word-here, word-past}
 use borrow.Author.Needs.{needs}
 use Rattle.sdp_split.proofs.word_at.Statement.{statement}
 use Rattle.sdp_split.proofs.word_at.Tie as tie

@@ -27,7 +27,7 @@ loop-holds c = (refl, omega (arith, c .before .before .pre .1), λ ρ q a₀ t h
 
 returns : tie.Need-returns Inv-loop μ-loop
 returns c ρ q a₀ t h o k =
-    let z = c .before .before .before .before .before .loop .inv .2 ρ q a₀ t h o k in rw (c .refused .ensures) (offsets-wrong ρ _ a₀ t _ h q _ _ (c .before .before .before .before .before .loop .room) (z .done) (repeating-wrong _ _ (ρ .session) (h .within) q t _ _ _ z _ (sym (c .before .before .before .before .repeat-offset .ensures) ∙ c .before .before .w .given .1)) (z .holds))
+    let z = c .before .before .before .before .loop .inv .2 ρ q a₀ t h o k in (offsets-wrong ρ _ a₀ t _ h q _ _ (c .before .before .before .before .loop .room) (z .done) (repeating-wrong _ _ (ρ .session) (h .within) q t _ _ _ z _ (sym (c .before .before .before .repeat-offset .ensures) ∙ c .before .w .given .1)) (z .holds))
 
 loop-less : tie.Need-loop-less Inv-loop μ-loop
 loop-less c = let m = offset-next _ _ _ _ (sym (c .before .before .before .before .before .before .before .repeat-offset .ensures) ∙ c .before .before .before .before .before .value .given .1) .1 in omega arith
@@ -59,7 +59,6 @@ take-offsets-spec =
     (λ c κs. search needs)
     (λ c. search needs)
     (λ c. search needs)
-    (λ c κs. search needs)
     (λ c. search needs)
     returns
     (λ c. search needs)

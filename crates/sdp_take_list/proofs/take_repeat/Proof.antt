@@ -19,16 +19,16 @@ use Rattle.sdp_take_list.proofs.take_repeat.Tie as tie
 returns : tie.Need-returns
 unfolding stepRole
 returns c ρ t h = let e = none-latest (num 2 (c .before .before .before .before .before .before .args .area .now) timesAt) (sym (c .before .before .latest-time .ensures) ∙ c .enum-told .given .1) in
-    rw (rw (times-count (ρ .session) t (h .within) (c .before .before .before .before .before .before .args .area .now) (h .bytes)) at e) (refl, refl, tail-of h)
+    rw (rw (times-count (ρ .session) t (h .within) (c .before .before .before .before .before .before .args .area .now) (h .bytes)) at e) (refl, tail-of h)
 
 take-offsets-requires : tie.Need-take-offsets-requires
 take-offsets-requires c κs = (omega arith, head-next _ _ (repeat-got _ _ (sym (c .before .before .before .before .before .before .before .before .before .before .before .parse .ensures) ∙ c .before .before .before .before .before .before .before .before .before .h .given .1)))
 
 returns-2 : tie.Need-returns-2
 unfolding stepRole
-returns-2 c ρ t h = let e = some-latest (num 2 (c .before .before .before .before .before .before .before .before .before .before .before .before .args .area .now) timesAt) _ (sym (c .before .before .before .before .before .before .before .before .latest-time .ensures) ∙ c .before .before .before .before .before .before .time .given .1) .0 in
-    let f = repeat-refused _ _ (sym (c .before .before .before .before .parse .ensures) ∙ c .before .before .w .given .1) in
-    rw (c .refused .ensures, rw (times-count (ρ .session) t (h .within) (c .before .before .before .before .before .before .before .before .before .before .before .before .args .area .now) (h .bytes)) at e, head-wrong (spanAt (c .before .before .before .before .before .before .before .before .before .before .before .before .args .at) []) ρ (c .before .before .before .before .before .before .before .before .before .before .before .before .args .v .now) (c .before .before .w .given .0 .0) f) (refl, refl, tail-of h)
+returns-2 c ρ t h = let e = some-latest (num 2 (c .before .before .before .before .before .before .before .before .before .before .before .args .area .now) timesAt) _ (sym (c .before .before .before .before .before .before .before .latest-time .ensures) ∙ c .before .before .before .before .before .time .given .1) .0 in
+    let f = repeat-refused _ _ (sym (c .before .before .before .parse .ensures) ∙ c .before .w .given .1) in
+    rw (rw (times-count (ρ .session) t (h .within) (c .before .before .before .before .before .before .before .before .before .before .before .args .area .now) (h .bytes)) at e, head-wrong (spanAt (c .before .before .before .before .before .before .before .before .before .before .before .args .at) []) ρ (c .before .before .before .before .before .before .before .before .before .before .before .args .v .now) (c .before .w .given .0 .0) f) (refl, tail-of h)
 
 returns-3 : tie.Need-returns-3
 unfolding stepRole
@@ -52,7 +52,6 @@ take-repeat-spec =
     returns
     (λ c κs. search needs)
     (λ c. search needs)
-    (λ c κs. search needs)
     (λ c. search needs)
     (λ c κs. search needs)
     (λ c. search needs)

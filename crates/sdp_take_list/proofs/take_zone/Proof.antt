@@ -34,7 +34,7 @@ loop-holds c = (refl, omega arith, omega arith, λ ρ t h u. zoning-begin _ (ρ 
 
 returns-2 : tie.Need-returns-2 Inv-loop μ-loop
 unfolding stepRole
-returns-2 c ρ t h = rw (c .refused .ensures) (once-wrong 17 _ _ _ _ _ (sym (ap (λ (m : Marks). m .zoned) (h .marks)) ∙ c .before .before .before .before .before .before .if1 .left) _ (zoning-wrong _ (ρ .session) (h .within) t _ _ _ (c .before .before .before .before .before .loop .inv .3 ρ t h (sym (ap (λ (m : Marks). m .zoned) (h .marks)) ∙ c .before .before .before .before .before .before .if1 .left)) _ (sym (c .before .before .before .before .parse .ensures) ∙ c .before .before .w .given .1)) (zoning-tail _ (ρ .session) (h .within) t _ _ _ (c .before .before .before .before .before .loop .inv .3 ρ t h (sym (ap (λ (m : Marks). m .zoned) (h .marks)) ∙ c .before .before .before .before .before .before .if1 .left))))
+returns-2 c ρ t h = (once-wrong 17 _ _ _ _ _ (sym (ap (λ (m : Marks). m .zoned) (h .marks)) ∙ c .before .before .before .before .before .if1 .left) _ (zoning-wrong _ (ρ .session) (h .within) t _ _ _ (c .before .before .before .before .loop .inv .3 ρ t h (sym (ap (λ (m : Marks). m .zoned) (h .marks)) ∙ c .before .before .before .before .before .if1 .left)) _ (sym (c .before .before .before .parse .ensures) ∙ c .before .w .given .1)) (zoning-tail _ (ρ .session) (h .within) t _ _ _ (c .before .before .before .before .loop .inv .3 ρ t h (sym (ap (λ (m : Marks). m .zoned) (h .marks)) ∙ c .before .before .before .before .before .if1 .left))))
 
 add-n : tie.Need-add-n Inv-loop μ-loop
 add-n c = omega (arith, c .before .before .before .before .before .before .before .before .before .before .before .before .pre .1)
@@ -66,7 +66,6 @@ take-zone-spec =
     (λ c κs. search needs)
     (λ c. search needs)
     (λ c. search needs)
-    (λ c κs. search needs)
     (λ c. search needs)
     returns-2
     (λ c. search needs)

@@ -30,7 +30,7 @@ set-connection-requires c κs = omega (arith, c .before .before .before .before 
 
 returns-2 : tie.Need-returns-2
 unfolding stepRole
-returns-2 c ρ t h = rw (c .refused .ensures) (once-wrong 16 _ _ _ (held h) t (sym (connection-mark (ρ .session) t (h .within) _ (h .bytes)) ∙ sym (c .before .before .before .before .before .before .has-connection .ensures) ∙ c .before .before .before .before .before .if1 .left) _ (connection-refused _ _ (sym (c .before .before .before .before .parse .ensures) ∙ c .before .before .w .given .1)) (tail-of h))
+returns-2 c ρ t h = (once-wrong 16 _ _ _ (held h) t (sym (connection-mark (ρ .session) t (h .within) _ (h .bytes)) ∙ sym (c .before .before .before .before .before .has-connection .ensures) ∙ c .before .before .before .before .if1 .left) _ (connection-refused _ _ (sym (c .before .before .before .parse .ensures) ∙ c .before .w .given .1)) (tail-of h))
 
 returns-3 : tie.Need-returns-3
 unfolding stepRole
@@ -45,7 +45,6 @@ take-connection-spec =
     returns
     (λ c κs. search needs)
     (λ c. search needs)
-    (λ c κs. search needs)
     (λ c. search needs)
     span-of-requires
     span-of-requires-2

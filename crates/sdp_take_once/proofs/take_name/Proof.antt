@@ -26,7 +26,7 @@ set-name-requires c κs = omega (arith, c .before .before .before .before .befor
 
 returns-2 : tie.Need-returns-2
 unfolding stepRole
-returns-2 c ρ t h = rw (c .refused .ensures) (once-wrong 13 _ _ _ (held h) t (sym (ap (λ (m : Marks). m .named) (h .marks)) ∙ c .before .before .before .before .before .if1 .left) _ (whole-refused _ _ (sym (c .before .before .before .before .whole .ensures) ∙ c .before .before .w .given .1)) (tail-of h))
+returns-2 c ρ t h = (once-wrong 13 _ _ _ (held h) t (sym (ap (λ (m : Marks). m .named) (h .marks)) ∙ c .before .before .before .before .if1 .left) _ (whole-refused _ _ (sym (c .before .before .before .whole .ensures) ∙ c .before .w .given .1)) (tail-of h))
 
 returns-3 : tie.Need-returns-3
 unfolding stepRole
@@ -39,7 +39,6 @@ take-name-spec =
     returns
     (λ c κs. search needs)
     (λ c. search needs)
-    (λ c κs. search needs)
     (λ c. search needs)
     span-of-requires
     set-name-requires

@@ -36,7 +36,7 @@ set-origin-requires c κs = omega (arith, c .before .before .before .before .bef
 
 returns-2 : tie.Need-returns-2
 unfolding stepRole
-returns-2 c ρ t h = rw (c .refused .ensures) (once-wrong 12 _ _ _ (held h) t (sym (origin-mark (ρ .session) t (h .within) _ (h .bytes)) ∙ sym (c .before .before .before .before .before .before .has-origin .ensures) ∙ c .before .before .before .before .before .if1 .left) _ (origin-refused _ _ (sym (c .before .before .before .before .parse .ensures) ∙ c .before .before .w .given .1)) (tail-of h))
+returns-2 c ρ t h = (once-wrong 12 _ _ _ (held h) t (sym (origin-mark (ρ .session) t (h .within) _ (h .bytes)) ∙ sym (c .before .before .before .before .before .has-origin .ensures) ∙ c .before .before .before .before .if1 .left) _ (origin-refused _ _ (sym (c .before .before .before .parse .ensures) ∙ c .before .w .given .1)) (tail-of h))
 
 returns-3 : tie.Need-returns-3
 unfolding stepRole
@@ -51,7 +51,6 @@ take-origin-spec =
     returns
     (λ c κs. search needs)
     (λ c. search needs)
-    (λ c κs. search needs)
     (λ c. search needs)
     maybe-of-requires
     span-of-requires

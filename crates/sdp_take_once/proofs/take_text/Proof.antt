@@ -24,8 +24,8 @@ span-of-requires c κs = omega (arith, whole-within _ _ _ (whole-got _ _ (sym (c
 
 returns-2 : tie.Need-returns-2
 returns-2 c ρ t h =
-    let b = c .before .before .before .before .before .before .before .before .before .before .before .args in
-    rw (c .refused .ensures) (text-wrong ρ (b .marks) (b .area .now) t h (spanAt (b .at) (b .v .now)) (b .v .now) (b .which) (sym (c .before .before .before .before .before .before .before .has-text .ensures) ∙ c .before .before .before .before .before .before .if1 .left) _ (c .before .before .before .before .before .text-field .ensures) _ (whole-refused _ _ (sym (c .before .before .before .before .whole .ensures) ∙ c .before .before .w .given .1)))
+    let b = c .before .before .before .before .before .before .before .before .before .before .args in
+    (text-wrong ρ (b .marks) (b .area .now) t h (spanAt (b .at) (b .v .now)) (b .v .now) (b .which) (sym (c .before .before .before .before .before .before .has-text .ensures) ∙ c .before .before .before .before .before .if1 .left) _ (c .before .before .before .before .text-field .ensures) _ (whole-refused _ _ (sym (c .before .before .before .whole .ensures) ∙ c .before .w .given .1)))
 
 returns-3 : tie.Need-returns-3
 returns-3 c ρ t h =
@@ -43,7 +43,6 @@ take-text-spec =
     (λ c κs. search needs)
     (λ c κs. search needs)
     (λ c. search needs)
-    (λ c κs. search needs)
     (λ c. search needs)
     span-of-requires
     (λ c κs. search needs)

@@ -25,7 +25,7 @@ maybe-of-requires c κs = omega (arith, attribute-within _ _ (attribute-got _ _ 
 
 returns : tie.Need-returns
 unfolding stepRole
-returns c ρ t h = rw (c .refused .ensures) (row-wrong 9 512 _ _ _ (held h) t _ (attribute-refused _ _ (sym (c .before .before .before .before .parse .ensures) ∙ c .before .before .w .given .1)) (tail-of h))
+returns c ρ t h = (row-wrong 9 512 _ _ _ (held h) t _ (attribute-refused _ _ (sym (c .before .before .before .parse .ensures) ∙ c .before .w .given .1)) (tail-of h))
 
 returns-2 : tie.Need-returns-2
 unfolding stepRole
@@ -38,7 +38,6 @@ take-attribute-spec =
     (tie.spec
     (λ c κs. search needs)
     (λ c. search needs)
-    (λ c κs. search needs)
     (λ c. search needs)
     span-of-requires
     maybe-of-requires

@@ -22,7 +22,7 @@ span-of-requires c κs = omega (arith, bandwidth-within _ _ (bandwidth-got _ _ (
 
 returns : tie.Need-returns
 unfolding stepRole
-returns c ρ t h = rw (c .refused .ensures) (row-wrong 4 64 _ _ _ (held h) t _ (bandwidth-refused _ _ (sym (c .before .before .before .before .parse .ensures) ∙ c .before .before .w .given .1)) (tail-of h))
+returns c ρ t h = (row-wrong 4 64 _ _ _ (held h) t _ (bandwidth-refused _ _ (sym (c .before .before .before .parse .ensures) ∙ c .before .w .given .1)) (tail-of h))
 
 returns-2 : tie.Need-returns-2
 unfolding stepRole
@@ -35,7 +35,6 @@ take-bandwidth-spec =
     (tie.spec
     (λ c κs. search needs)
     (λ c. search needs)
-    (λ c κs. search needs)
     (λ c. search needs)
     span-of-requires
     (λ c κs. search needs)

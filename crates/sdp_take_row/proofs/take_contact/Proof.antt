@@ -18,8 +18,8 @@ span-of-requires c κs = omega (arith, whole-within _ _ _ (whole-got _ _ (sym (c
 
 returns : tie.Need-returns
 returns c ρ t h =
-    let b = c .before .before .before .before .before .before .before .before .args in
-    rw (c .refused .ensures) (contact-wrong ρ (b .marks) (b .area .now) t h (spanAt (b .at) (b .v .now)) (b .v .now) _ (b .which) (c .before .before .before .before .before .contact-field .ensures) _ (whole-refused _ _ (sym (c .before .before .before .before .whole .ensures) ∙ c .before .before .w .given .1)))
+    let b = c .before .before .before .before .before .before .before .args in
+    (contact-wrong ρ (b .marks) (b .area .now) t h (spanAt (b .at) (b .v .now)) (b .v .now) _ (b .which) (c .before .before .before .before .contact-field .ensures) _ (whole-refused _ _ (sym (c .before .before .before .whole .ensures) ∙ c .before .w .given .1)))
 
 returns-2 : tie.Need-returns-2
 returns-2 c ρ t h =
@@ -33,7 +33,6 @@ take-contact-spec =
     (λ c κs. search needs)
     (λ c κs. search needs)
     (λ c. search needs)
-    (λ c κs. search needs)
     (λ c. search needs)
     span-of-requires
     (λ c κs. search needs)

@@ -27,7 +27,7 @@ span-of-requires-3 c κs = omega (arith, media-within _ _ (media-got _ _ (sym (c
 
 returns : tie.Need-returns
 unfolding stepRole
-returns c ρ t h = rw (c .refused .ensures) (row-wrong 10 32 _ _ _ (held h) t _ (media-refused _ _ (sym (c .before .before .before .before .parse-m-line .ensures) ∙ c .before .before .w .given .1)) (tail-of h))
+returns c ρ t h = (row-wrong 10 32 _ _ _ (held h) t _ (media-refused _ _ (sym (c .before .before .before .parse-m-line .ensures) ∙ c .before .w .given .1)) (tail-of h))
 
 returns-2 : tie.Need-returns-2
 unfolding stepRole
@@ -40,7 +40,6 @@ take-media-spec =
     (tie.spec
     (λ c κs. search needs)
     (λ c. search needs)
-    (λ c κs. search needs)
     (λ c. search needs)
     span-of-requires
     (λ c κs. search needs)

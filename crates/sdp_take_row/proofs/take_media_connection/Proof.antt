@@ -28,7 +28,7 @@ span-of-requires-3 c κs = omega (arith, connection-within _ _ (connection-got _
 
 returns : tie.Need-returns
 unfolding stepRole
-returns c ρ t h = rw (c .refused .ensures) (row-wrong 3 64 _ _ _ (held h) t _ (connection-refused _ _ (sym (c .before .before .before .before .parse .ensures) ∙ c .before .before .w .given .1)) (tail-of h))
+returns c ρ t h = (row-wrong 3 64 _ _ _ (held h) t _ (connection-refused _ _ (sym (c .before .before .before .parse .ensures) ∙ c .before .w .given .1)) (tail-of h))
 
 returns-2 : tie.Need-returns-2
 unfolding stepRole
@@ -41,7 +41,6 @@ take-media-connection-spec =
     (tie.spec
     (λ c κs. search needs)
     (λ c. search needs)
-    (λ c κs. search needs)
     (λ c. search needs)
     span-of-requires
     span-of-requires-2

@@ -2,8 +2,9 @@
 use Rattle.sdp_step.specs.Step.{step}
 use Rattle.sdp_strings.specs.Strings.{spanAt}
 use Rattle.sdp_lines.specs.Strings.{bytesOf}
-use Rattle.sdp_turn.proofs.PartLaws.{part-is, part-fits}
+use Rattle.sdp_turn.proofs.PartLaws.{part-is, part-fits, byte-fits}
 use Rattle.sdp_turn.proofs.TurnLaws.{turns-kept, turns-refused}
+use Rattle.sdp_blame.proofs.StepLaws.{step-blames, blamed-inside}
 use borrow.Author.Needs.{needs}
 use Rattle.sdp_turn.proofs.good_line.Statement.{statement}
 use Rattle.sdp_turn.proofs.good_line.Tie as tie
@@ -18,16 +19,18 @@ returns c =
     let k = c .before .before .before .before .before in
     let a = k .before .before .before .before .before .before .before .args in
     let v = bytesOf (a .text .now) (a .value) in
-    turns-kept (λ ρ. step (spanAt (a .value .at .0) v) ρ v (a .letter)) (a .marks) (a .area .now) _ (a .number .0) _
+    turns-kept (λ ρ. step (spanAt (a .value .at .0) v) ρ v (a .letter)) (a .marks) (a .area .now) _ (a .number .0) (a .value .at .0) _
     (rw (c .before .marks .given .1, part-is (a .text .now) (a .value)) at (k .take .ensures))
 
 returns-2 : tie.Need-returns-2
 returns-2 c =
     let k = c .before .before .before .before .before .before in
-    let a = k .before .before .before .before .before .before .before .args in
+    let b = k .before .before .before .before .before .before .before in
+    let a = b .args in
     let v = bytesOf (a .text .now) (a .value) in
-    rw (c .on-line .ensures) (turns-refused (λ ρ. step (spanAt (a .value .at .0) v) ρ v (a .letter)) (a .marks) (a .area .now) _ (a .number .0) _ _
-    (rw (c .before .before .refusal .given .1, part-is (a .text .now) (a .value)) at (k .take .ensures)))
+    turns-refused (λ ρ. step (spanAt (a .value .at .0) v) ρ v (a .letter)) (a .marks) (a .area .now) _ (a .number .0) (a .value .at .0) _ _
+    (λ ρ e. c .wrong-at .ensures (λ n. byte-fits (a .text .now) (a .value) _ (b .pre .1 .0) (b .pre .1 .1) (blamed-inside v _ (step-blames v (spanAt (a .value .at .0) v) ρ (a .letter) _ e) n)))
+    (rw (c .before .before .w .given .1, part-is (a .text .now) (a .value)) at (k .take .ensures))
 
 pub good-line-spec : {M : Type 1} → statement M
 good-line-spec =

@@ -1,7 +1,6 @@
 -- `sdp_lists::RepeatHead::parse` meets its contract: each field is taken out of the definition by its answer. Assumes nothing.
 use mathlib.Core.Path.{sym, ap, _∙_}
-use Rattle.sdp_lists.specs.Lists.{repeatHead}
-use Rattle.sdp_lists.specs.Answers.{repeatAnswer}
+use Rattle.sdp_lists.specs.Answers.{repeatHead, repeatAnswer}
 use Rattle.sdp_judge.proofs.ReadLaws.{by-amount}
 use borrow.Author.Needs.{needs}
 use Rattle.sdp_lists.proofs.RepeatHead.parse.Statement.{statement}

@@ -1,0 +1,4 @@
+pub mod NumberLaws
+pub mod FieldLaws
+pub mod RecordLaws
+pub mod StepLaws

@@ -1,0 +1,25 @@
+-- Document 02, P2: "Refusal 8 now returns that place": the byte that the refusal of a value names.
+use Prim.Native.Nat.{ℕ}
+use mathlib.Core.Path.{_≡_}
+use mathlib.Core.Bool.{false}
+use mathlib.Core.List.{List}
+use Rattle.sdp_numbers.specs.Refusals as refusals
+use Rattle.sdp_utf8.specs.Utf8.{isUtf8}
+use Rattle.sdp_split.specs.Split.{part, Inside}
+use Rattle.sdp_split.specs.declared.Piece.{Piece}
+use Rattle.sdp_judge.specs.Read.{badByte}
+use Rattle.sdp_judge.specs.declared.Wrong.{Wrong}
+use Rattle.sdp_blame.specs.Field.{FieldOf}
+
+-- it is "the end of the longest well-formed beginning" of the refused field, which is not UTF-8
+pub record NamesByte (v : List ℕ) (w : Wrong) : Type 0 where
+  pub piece : Piece
+  pub field : FieldOf v (w .field) piece
+  pub inside : Inside v piece
+  pub at : w .at ≡ badByte v piece
+  pub bad : isUtf8 (part v piece) ≡ false
+
+-- a refusal with 8 names a byte, another one none
+pub record Blames (v : List ℕ) (w : Wrong) : Type 0 where
+  pub byte : w .number ≡ refusals.encoding → NamesByte v w
+  pub none : (w .number ≡ refusals.encoding → ⊥) → w .at ≡ 0
