@@ -68,7 +68,7 @@ module _ (ρ : Reading (List ℕ)) (p : ℕ) (r : Raw) where
   line-grown : (f : Form) → formOf (content r) ≡ f
       → Going (Grown (length (r .body) + 1 + uses (roleOf medias f)) (opens (roleOf medias f)) ρ) (stepForm bytesAt ρ p (content r) f)
   line-grown Blank e = on _ ρ (record { bytes = omega arith; medias = omega arith })
-  line-grown (Bad f) e = off _ _ _
+  line-grown (Bad f) e = off _ _
   line-grown (Good l) e = λ τ q.
       let g = step-grown ρ (drop 2 (content r)) (roleAt medias l) τ q in
       record { bytes = omega (arith, g .bytes, content-short r, good-form (content r) l e, length-drop 2 (content r)); medias = g .medias }
@@ -84,9 +84,9 @@ run-cost (r ∷ rs) s ρ n p e = go (stepForm bytesAt ρ p (content r) (formOf (
 
     go : (σ : Stepped (List ℕ)) → Going (Grown (length (r .body) + 1 + uses x) (opens x) ρ) σ
         → ((τ : Reading (List ℕ)) → run bytesAt τ (n + 1) (p + width r) rs ≡ accepted s → cost id s ≤ cost id (τ .session) + (bodies rs + usedFrom (length (τ .session .tables .medias)) rs))
-        → after bytesAt σ n (λ τ. run bytesAt τ (n + 1) (p + width r) rs) ≡ accepted s
+        → after bytesAt σ n (p + 2) (λ τ. run bytesAt τ (n + 1) (p + width r) rs) ≡ accepted s
         → cost id s ≤ cost id (ρ .session) + (length (r .body) + 1 + bodies rs + (uses x + usedFrom (length (ρ .session .tables .medias) + opens x) rs))
-    go (stops number field) h ih e = absurd (let z : _≡_ {A = ℕ} 0 1 = cc in omega arith)
+    go (stops w) h ih e = absurd (let z : _≡_ {A = ℕ} 0 1 = cc in omega arith)
     go (goes τ) h ih e =
         let g = h τ refl in
         omega (arith, ih τ e, g .bytes, ap (λ (k : ℕ). usedFrom k rs) (g .medias))

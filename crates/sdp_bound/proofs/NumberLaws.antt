@@ -16,8 +16,7 @@ use Rattle.sdp_number.specs.declared.Number.{Number}
 use Rattle.sdp_number.specs.declared.Number.the-variants.{Value, Encoding, Format}
 use Rattle.sdp_bytes.proofs.ScanLaws.{and-left, and-right}
 use Rattle.sdp_judge.specs.Offset
-use Rattle.sdp_judge.specs.Offset.{negated, signedOf, offsetOf}
-use Rattle.sdp_judge.specs.Read.{got, refused}
+use Rattle.sdp_judge.specs.Offset.{negated, signedOf, zoneOffset}
 use Rattle.sdp_put.specs.Digits.{digits, timeText}
 use Rattle.sdp_put.proofs.DigitLaws.{digits-one, digits-more, time-form, offset-minus, offset-plain}
 use Rattle.sdp_row.specs.Written.{signedText}
@@ -187,33 +186,33 @@ minus-offset m h = go (eqb m 0) refl
         let k : 2 ^ 64 - (2 ^ 64 - m) ≡ m = omega arith in
         rw (le-leb (2 ^ 63) (2 ^ 64 - m) (omega arith), k) (omega (arith, ap length (offset-minus true m refl)))
 
-pub offset-short : (s : List ℕ) (n : ℕ) → offsetOf s ≡ got n → length (signedText n) ≤ length s
-unfolding Offset.offsetOf
+pub offset-short : (s : List ℕ) (n : ℕ) → zoneOffset s ≡ Value n → length (signedText n) ≤ length s
+unfolding Offset.zoneOffset
 offset-short s n = go (ltb 0 (length s)) (eqb (getD s 0 0) 0x2d) refl
   where
-    minus : 0 < length s → (x : Number) → typedTime (drop 1 s) ≡ x → signedOf true x ≡ got n → length (signedText n) ≤ length s
+    minus : 0 < length s → (x : Number) → typedTime (drop 1 s) ≡ x → signedOf true x ≡ Value n → length (signedText n) ≤ length s
     minus l Encoding q e = absurd (let z : _≡_ {A = ℕ} 0 1 = cc in omega arith)
     minus l Format q e = absurd (let z : _≡_ {A = ℕ} 0 1 = cc in omega arith)
     minus l (Value m) q e = go (leb m (2 ^ 63)) refl e
       where
-        go : (b : Bool) → leb m (2 ^ 63) ≡ b → cond b (got (negated m)) (refused (record { number = 9; field = 22 })) ≡ got n → length (signedText n) ≤ length s
+        go : (b : Bool) → leb m (2 ^ 63) ≡ b → cond b (Value (negated m)) Format ≡ Value n → length (signedText n) ≤ length s
         go true h e =
             let z : negated m ≡ n = cc in
             rw (← z) (omega (arith, minus-offset m (leb-true m (2 ^ 63) h), time-short (drop 1 s) m q, length-drop 1 s))
         go false h e = absurd (let z : _≡_ {A = ℕ} 0 1 = cc in omega arith)
 
-    plain : (x : Number) → typedTime s ≡ x → signedOf false x ≡ got n → length (signedText n) ≤ length s
+    plain : (x : Number) → typedTime s ≡ x → signedOf false x ≡ Value n → length (signedText n) ≤ length s
     plain Encoding q e = absurd (let z : _≡_ {A = ℕ} 0 1 = cc in omega arith)
     plain Format q e = absurd (let z : _≡_ {A = ℕ} 0 1 = cc in omega arith)
     plain (Value m) q e = go (ltb m (2 ^ 63)) refl e
       where
-        go : (b : Bool) → ltb m (2 ^ 63) ≡ b → cond b (got m) (refused (record { number = 9; field = 22 })) ≡ got n → length (signedText n) ≤ length s
+        go : (b : Bool) → ltb m (2 ^ 63) ≡ b → cond b (Value m) Format ≡ Value n → length (signedText n) ≤ length s
         go true h e =
             let z : m ≡ n = cc in
             rw (← z) (omega (arith, plain-offset m (ltb-true m (2 ^ 63) h), time-short s m q))
         go false h e = absurd (let z : _≡_ {A = ℕ} 0 1 = cc in omega arith)
 
-    go : (a b : Bool) → ltb 0 (length s) ≡ a → cond (a && b) (signedOf true (typedTime (drop 1 s))) (signedOf false (typedTime s)) ≡ got n → length (signedText n) ≤ length s
+    go : (a b : Bool) → ltb 0 (length s) ≡ a → cond (a && b) (signedOf true (typedTime (drop 1 s))) (signedOf false (typedTime s)) ≡ Value n → length (signedText n) ≤ length s
     go true true h e = minus (ltb-true 0 (length s) h) (typedTime (drop 1 s)) refl e
     go true false h e = plain (typedTime s) refl e
     go false b h e = plain (typedTime s) refl e

@@ -7,6 +7,7 @@ use native.Mathlib.Omega.{arith}
 use lib.ListN.{length, length-append}
 use lib.Dec.{ltb, leb, eqb}
 use Rattle.sdp_split.specs.Split.{part}
+use Rattle.sdp_judge.specs.declared.Wrong.{Wrong}
 use Rattle.sdp_judge.specs.Read.{Read, got, refused, wholeOf}
 use Rattle.sdp_fields.specs.Records.{originOf, connectionOf, bandwidthOf, timesOf, attributeOf}
 use Rattle.sdp_media_line.specs.MediaLine.{mediaOf}
@@ -15,7 +16,7 @@ use Rattle.sdp_area.specs.Session.{Time, Media, Offset}
 use Rattle.sdp_area.specs.With.{titled}
 use Rattle.sdp_area.specs.Latest.{given, lastTitled}
 use Rattle.sdp_step.specs.Step
-use Rattle.sdp_step.specs.Step.{Reading, Stepped, goes, stops, once, row, bandwidthIn, attributeIn, mediaConnectionIn, mediaIn, timeIn, repeated, stepRole}
+use Rattle.sdp_step.specs.Step.{Reading, Stepped, goes, stops, stop, once, row, bandwidthIn, attributeIn, mediaConnectionIn, mediaIn, timeIn, repeated, stepRole}
 use Rattle.sdp_roles.specs.declared.Role.{Role}
 use Rattle.sdp_roles.specs.declared.Role.the-variants as role
 use Rattle.sdp_step.proofs.OnceLaws.{length-last}
@@ -37,8 +38,8 @@ module _ (P : Reading (List ℕ) → Type 0) where
   pub on : (ρ : Reading (List ℕ)) → P ρ → Going P (goes ρ)
   on ρ h τ e = let z : ρ ≡ τ = cc in rw z at h
 
-  pub off : (number field : ℕ) → Going P (stops number field)
-  off number field τ e = absurd (let z : _≡_ {A = ℕ} 0 1 = cc in omega arith)
+  pub off : (w : Wrong) → Going P (stops w)
+  off w τ e = absurd (let z : _≡_ {A = ℕ} 0 1 = cc in omega arith)
 
   pub past-cond : (b : Bool) (σ τ : Stepped (List ℕ)) → Going P σ → Going P τ → Going P (cond b σ τ)
   past-cond true σ τ h k = h
@@ -46,14 +47,14 @@ module _ (P : Reading (List ℕ) → Type 0) where
 
   module _ {A : Type 0} where
     pub past-once : (n : ℕ) (b : Bool) (r : Read A) (k : A → Stepped (List ℕ)) → ((x : A) → r ≡ got x → Going P (k x)) → Going P (once n b r k)
-    past-once n true r k h = off n 0
+    past-once n true r k h = off _
     past-once n false (got x) k h = h x refl
-    past-once n false (refused w) k h = off _ _
+    past-once n false (refused w) k h = off w
 
     pub past-row : (table cap c : ℕ) (r : Read A) (k : A → Reading (List ℕ)) → ((x : A) → r ≡ got x → P (k x)) → Going P (row table cap c r k)
     unfolding Step.row
-    past-row table cap c (got x) k h = past-cond (ltb c cap) (goes (k x)) (stops 21 table) (on (k x) (h x refl)) (off 21 table)
-    past-row table cap c (refused w) k h = off _ _
+    past-row table cap c (got x) k h = past-cond (ltb c cap) (goes (k x)) (stop 21 table) (on (k x) (h x refl)) (off _)
+    past-row table cap c (refused w) k h = off w
 
 -- ---- one line
 -- at most n bytes more, and m medias more
@@ -82,7 +83,7 @@ module _ (ρ : Reading (List ℕ)) (v : List ℕ) where
       offset n = record { owner = length (ρ .session .tables .repeats) + 1; offset = n }
 
       go : (x : Read RepeatLine) → ((r : RepeatLine) → x ≡ got r → repeatSize r ≤ length v) → Going (Grown (length v + 4) 0 ρ) (repeated (part v) ρ v x)
-      go (refused w) h = off _ _ _
+      go (refused w) h = off _ _
       go (got r) h =
           past-cond _ (ltb (length (ρ .session .tables .repeats)) 64) _ _
           (past-cond _ (leb (length (ρ .session .tables .offsets) + length (r .offsets)) 256) _ _
@@ -96,7 +97,7 @@ module _ (ρ : Reading (List ℕ)) (v : List ℕ) where
             );
             medias = omega arith;
           }))
-          (off _ _ _)) (off _ _ _)
+          (off _ _)) (off _ _)
 
   -- 4 bytes besides the value where the line has a use; 3 are enough for any other
   pub step-grown : (x : Role) → Going (Grown (length v + (3 + uses x)) (opens x) ρ) (stepRole (part v) ρ v x)
@@ -107,7 +108,7 @@ module _ (ρ : Reading (List ℕ)) (v : List ℕ) where
   step-grown role.Uri = past-once _ 15 (given (ρ .session .head .uri)) (wholeOf 36 v) _ (λ p q. on _ _ (record { bytes = omega (arith, whole-short 0x75 36 v p q); medias = omega arith }))
   step-grown role.Connection = past-once _ 16 (given (ρ .session .head .connection)) (connectionOf v) _ (λ c q. on _ _ (record { bytes = omega (arith, connection-short v c q); medias = omega arith }))
   step-grown role.Zone =
-      past-once _ 17 (ρ .zoned) (zonesOf v) _ (λ zs q. past-cond _ (leb (length zs) 64) _ _ (on _ _ (record { bytes = omega (arith, zones-short v zs q); medias = omega arith })) (off _ _ _))
+      past-once _ 17 (ρ .zoned) (zonesOf v) _ (λ zs q. past-cond _ (leb (length zs) 64) _ _ (on _ _ (record { bytes = omega (arith, zones-short v zs q); medias = omega arith })) (off _ _))
   step-grown role.MediaTitle =
       past-once _ 18 (lastTitled (ρ .session .tables .medias)) (wholeOf 33 v) _ (λ p q. on _ _ (record {
         bytes = omega (arith, sum-last (mediaCost id) (titled (part v p)) (length v + 4) (λ m. omega (arith, titled-more (part v p) m, whole-short 0x69 33 v p q)) (ρ .session .tables .medias));
@@ -125,7 +126,7 @@ module _ (ρ : Reading (List ℕ)) (v : List ℕ) where
       record { bytes = omega (arith, sum-more (bandwidthCost id) (ρ .session .tables .bandwidths) (bandwidthIn (part v) n b), bandwidth-short v n b q); medias = omega arith })
   step-grown role.Time =
       past-row _ 5 32 _ (timesOf v) _ (λ t q. record { bytes = omega (arith, times-more (ρ .session .tables .times) (timeIn t), times-short v t q); medias = omega arith })
-  step-grown role.Repeat = past-cond _ (eqb (length (ρ .session .tables .times)) 0) _ _ (off _ _ _) repeat-grown
+  step-grown role.Repeat = past-cond _ (eqb (length (ρ .session .tables .times)) 0) _ _ (off _ _) repeat-grown
   step-grown role.Attribute =
       past-row _ 9 512 _ (attributeOf v) _ (λ a q.
       let n = length (ρ .session .tables .medias) in

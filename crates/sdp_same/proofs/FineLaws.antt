@@ -18,17 +18,17 @@ use Rattle.sdp_number.specs.Number.{unitOf, scaled, wholeNumber, typedTime}
 use Rattle.sdp_number.specs.declared.Number.{Number}
 use Rattle.sdp_number.specs.declared.Number.the-variants.{Value, Encoding, Format}
 use Rattle.sdp_lines.specs.declared.Span.{Span}
-use Rattle.sdp_split.specs.Split.{part, wordAt, firstPiece, pieceAfter, restAfter, words, Inside, Within}
+use Rattle.sdp_split.specs.Split.{part, words, nextWord, later, firstPiece, pieceAfter, restAfter, Inside, Within}
 use Rattle.sdp_judge.specs.Read as field-read
-use Rattle.sdp_judge.specs.Read.{Read, got, refused, andThen, encoding, format, textOf, tokenOf, amountOf, numberOf, timeOf, choiceOf, absent, afterText, afterAmount, afterChoice, ending, wholeOf}
+use Rattle.sdp_judge.specs.Read.{Read, got, refused, andThen, encoding, format, textOf, tokenOf, amountOf, numberOf, timeOf, choiceOf, absent, afterText, afterAmount, afterChoice, ending, entire, wholeOf}
 use Rattle.sdp_fields.specs.Records as records
 use Rattle.sdp_fields.specs.Records.{usernameOf, addressOf, originOf, connectionOf, bandwidthOf, timesOf, attributeOf}
 use Rattle.sdp_media_line.specs.MediaLine
 use Rattle.sdp_media_line.specs.MediaLine.{portNumber, portOf, afterPort, mediaOf}
 use Rattle.sdp_judge.specs.Offset as signed-offset
-use Rattle.sdp_judge.specs.Offset.{negated, signed, signedOf, offsetOf}
+use Rattle.sdp_judge.specs.Offset.{signed, signedOf, zoneOffset}
 use Rattle.sdp_lists.specs.Lists as lists
-use Rattle.sdp_lists.specs.Lists.{repeatHead, RepeatLine, numbered, offsetsOf, repeatOf, pairsOf, zonesOf}
+use Rattle.sdp_lists.specs.Lists.{RepeatLine, numbered, offsetsOf, repeatOf, pairsOf, zonesOf}
 use Rattle.sdp_split.specs.declared.Piece.{Piece}
 use Rattle.sdp_judge.specs.declared.MaybePiece.{MaybePiece}
 use Rattle.sdp_media_line.specs.declared.MaybeNumber.{MaybeNumber}
@@ -38,7 +38,8 @@ use Rattle.sdp_split.specs.declared.Field.{Field}
 use Rattle.sdp_split.specs.declared.Field.the-variants as field
 use Rattle.sdp_judge.specs.declared.Text.the-variants as text
 use Rattle.sdp_judge.specs.declared.Choice.the-variants as choice
-use Rattle.sdp_split.proofs.SplitLaws.{word-within, first-within, after-within, rest-within}
+use Rattle.sdp_split.proofs.SplitLaws.{first-within, after-within, rest-within}
+use Rattle.sdp_split.proofs.WordLaws.{AllInside, words-inside, next-inside, later-inside}
 use Rattle.sdp_number.proofs.NumberLaws.{number-below}
 use Rattle.sdp_step.specs.Step.{maybeIn, originIn, connectionIn, attributeIn, bandwidthIn, portsIn, mediaIn, timeIn, zoneIn}
 use Rattle.sdp_same.specs.Fits.{IfGiven, Each, FitOrigin, FitConnection, FitBandwidth, FitAttribute, FitMedia, FitTime, FitZone}
@@ -77,10 +78,10 @@ typed-below s n = go (eqb (unitOf (getD s (length s - 1) 0)) 0)
     go false e = scaled-below (unitOf (getD s (length s - 1) 0)) (wholeNumber 64 (take (length s - 1) s)) n e
 
 -- as a number of a list
-numbered-below : (w : ℕ) (x : Number) → ((m : ℕ) → x ≡ Value m → m < 2 ^ 64) → Gives (λ n. n < 2 ^ 64) (numbered w x)
-numbered-below w (Value n) below = below n refl
-numbered-below w Encoding below = lit< tt
-numbered-below w Format below = lit< tt
+numbered-below : (w : ℕ) (v : List ℕ) (p : Piece) (x : Number) → ((m : ℕ) → x ≡ Value m → m < 2 ^ 64) → Gives (λ n. n < 2 ^ 64) (numbered w v p x)
+numbered-below w v p (Value n) below = below n refl
+numbered-below w v p Encoding below = lit< tt
+numbered-below w v p Format below = lit< tt
 
 -- ---- each field on the way to a record with Q
 module _ {A : Type 0} (Q : A → Type 0) where
@@ -106,10 +107,10 @@ module _ {A : Type 0} (Q : A → Type 0) where
       go false q = told
 
   module _ (w : ℕ) where
-    of-amount : (x : Number) → ((m : ℕ) → x ≡ Value m → m < 2 ^ 64) → (e : ℕ) (k : ℕ → ℕ → Read A) → ((n e : ℕ) → n < 2 ^ 64 → Gives Q (k n e)) → Gives Q (afterAmount (amountOf w e x) k)
-    of-amount (Value n) below e k h = h n e (below n refl)
-    of-amount Encoding below e k h = lit< tt
-    of-amount Format below e k h = lit< tt
+    of-amount : (v : List ℕ) (p : Piece) (x : Number) → ((m : ℕ) → x ≡ Value m → m < 2 ^ 64) → (e : ℕ) (k : ℕ → ℕ → Read A) → ((n e : ℕ) → n < 2 ^ 64 → Gives Q (k n e)) → Gives Q (afterAmount (amountOf w v p e x) k)
+    of-amount v p (Value n) below e k h = h n e (below n refl)
+    of-amount v p Encoding below e k h = lit< tt
+    of-amount v p Format below e k h = lit< tt
 
     of-port : (s : List ℕ) (k : ℕ → Read A) → ((n : ℕ) → n < 65536 → Gives Q (k n)) → Gives Q (portNumber w (wholeNumber 16 s) k)
     of-port s k h = go (wholeNumber 16 s) refl
@@ -121,7 +122,7 @@ module _ {A : Type 0} (Q : A → Type 0) where
 
     module _ (v : List ℕ) where
       of-text : (f : Field) → Within v f → (k : Piece → ℕ → Read A) → ((p : Piece) (e : ℕ) → Fine v p → Gives Q (k p e)) → Gives Q (afterText (textOf w v f) k)
-      of-text (field.Got p e) l k h = tested isUtf8 (λ s q. q) v p e (encoding w) (lit< tt) (l p e refl .0) k h
+      of-text (field.Got p e) l k h = tested isUtf8 (λ s q. q) v p e (encoding w v p) (lit< tt) (l p e refl .0) k h
       of-text field.Nothing l k h = lit< tt
 
       of-token : (f : Field) → Within v f → (k : Piece → ℕ → Read A) → ((p : Piece) (e : ℕ) → Fine v p → Gives Q (k p e)) → Gives Q (afterText (tokenOf w v f) k)
@@ -131,89 +132,93 @@ module _ {A : Type 0} (Q : A → Type 0) where
       of-choice : (f : Field) → Within v f → (k : MaybePiece → Read A) → ((m : MaybePiece) → MaybeFine v m → Gives Q (k m)) → Gives Q (afterChoice (choiceOf w v f) k)
       of-choice (field.Got p e) l k h = go (isUtf8 (part v p)) refl
         where
-          go : (b : Bool) → isUtf8 (part v p) ≡ b → Gives Q (afterChoice (cond b (choice.Got (record { there = true; piece = p })) (choice.Refused (encoding w))) k)
+          go : (b : Bool) → isUtf8 (part v p) ≡ b → Gives Q (afterChoice (cond b (choice.Got (record { there = true; piece = p })) (choice.Refused (encoding w v p))) k)
           go true q = h (record { there = true; piece = p }) (λ t. record { inside = l p e refl .0; utf8 = q })
           go false q = lit< tt
       of-choice field.Nothing l k h = h absent (λ q. absurd (false≢true q))
 
       of-number : (f : Field) (k : ℕ → ℕ → Read A) → ((n e : ℕ) → n < 2 ^ 64 → Gives Q (k n e)) → Gives Q (afterAmount (numberOf w v f) k)
-      of-number (field.Got p e) k h = of-amount (wholeNumber 64 (part v p)) (number-below 64 (part v p)) e k h
+      of-number (field.Got p e) k h = of-amount v p (wholeNumber 64 (part v p)) (number-below 64 (part v p)) e k h
       of-number field.Nothing k h = lit< tt
 
       of-time : (f : Field) (k : ℕ → ℕ → Read A) → ((n e : ℕ) → n < 2 ^ 64 → Gives Q (k n e)) → Gives Q (afterAmount (timeOf w v f) k)
-      of-time (field.Got p e) k h = of-amount (typedTime (part v p)) (typed-below (part v p)) e k h
+      of-time (field.Got p e) k h = of-amount v p (typedTime (part v p)) (typed-below (part v p)) e k h
       of-time field.Nothing k h = lit< tt
 
 -- ---- the 64 bits of a signed number
-signed-below : (neg : Bool) (m : ℕ) → Gives (λ n. n < 2 ^ 64) (signed neg m)
-signed-below true m = gives-cond _ (leb m (2 ^ 63)) (got (negated m)) (refused (format 22)) (go (eqb m 0) refl) (lit< tt)
+signed-below : (neg : Bool) (m n : ℕ) → signed neg m ≡ Value n → n < 2 ^ 64
+signed-below true m n = go (leb m (2 ^ 63)) (eqb m 0) refl
   where
-    go : (b : Bool) → eqb m 0 ≡ b → cond b 0 (2 ^ 64 - m) < 2 ^ 64
-    go true q = lit< tt
-    go false q = let z = eqb-false m 0 q in omega arith
-signed-below false m = go (ltb m (2 ^ 63)) refl
+    go : (b c : Bool) → eqb m 0 ≡ c → cond b (Value (cond c 0 (2 ^ 64 - m))) Format ≡ Value n → n < 2 ^ 64
+    go true true q e = let z : _≡_ {A = ℕ} 0 n = cc in omega arith
+    go true false q e = let y = eqb-false m 0 q in let z : 2 ^ 64 - m ≡ n = cc in omega arith
+    go false c q e = absurd (let z : _≡_ {A = ℕ} 0 1 = cc in omega arith)
+signed-below false m n = go (ltb m (2 ^ 63)) refl
   where
-    go : (b : Bool) → ltb m (2 ^ 63) ≡ b → Gives (λ n. n < 2 ^ 64) (cond b (got m) (refused (format 22)))
-    go true q = let z : m < 2 ^ 63 = ltb-true m (2 ^ 63) q in omega arith
-    go false q = lit< tt
+    go : (b : Bool) → ltb m (2 ^ 63) ≡ b → cond b (Value m) Format ≡ Value n → n < 2 ^ 64
+    go true q e = let y : m < 2 ^ 63 = ltb-true m (2 ^ 63) q in let z : m ≡ n = cc in omega arith
+    go false q e = absurd (let z : _≡_ {A = ℕ} 0 1 = cc in omega arith)
 
-offset-below : (s : List ℕ) → Gives (λ n. n < 2 ^ 64) (offsetOf s)
-unfolding signed-offset.offsetOf
-offset-below s =
-    gives-cond _ (ltb 0 (length s) && eqb (getD s 0 0) 0x2d) (signedOf true (typedTime (drop 1 s))) (signedOf false (typedTime s)) (of true (typedTime (drop 1 s))) (of false (typedTime s))
+offset-below : (s : List ℕ) (n : ℕ) → zoneOffset s ≡ Value n → n < 2 ^ 64
+unfolding signed-offset.zoneOffset
+offset-below s n = go (ltb 0 (length s) && eqb (getD s 0 0) 0x2d)
   where
-    of : (neg : Bool) (x : Number) → Gives (λ n. n < 2 ^ 64) (signedOf neg x)
-    of neg (Value m) = signed-below neg m
-    of neg Encoding = lit< tt
-    of neg Format = lit< tt
+    of : (neg : Bool) (x : Number) → signedOf neg x ≡ Value n → n < 2 ^ 64
+    of neg (Value m) = signed-below neg m n
+    of neg Encoding = λ e. absurd (let z : _≡_ {A = ℕ} 0 1 = cc in omega arith)
+    of neg Format = λ e. absurd (let z : _≡_ {A = ℕ} 0 1 = cc in omega arith)
+
+    go : (b : Bool) → cond b (signedOf true (typedTime (drop 1 s))) (signedOf false (typedTime s)) ≡ Value n → n < 2 ^ 64
+    go true = of true (typedTime (drop 1 s))
+    go false = of false (typedTime s)
 
 -- ---- records without strings
 pub time-fit : (v : List ℕ) → Gives (λ t. FitTime (timeIn t)) (timesOf v)
-unfolding records.timesOf
+unfolding records.timesOf field-read.nextNumber
 time-fit v =
-    of-number _ 15 v (wordAt v 0) _ (λ start i a.
-    of-number _ 16 v (wordAt v i) _ (λ stop e b. gives-end _ 17 (wordAt v e) (got _) (record { startTime = a; stopTime = b })))
+    of-number _ 15 v (nextWord (words v)) _ (λ start i a.
+    of-number _ 16 v (nextWord (later (words v))) _ (λ stop e b. gives-end _ 17 (nextWord (later (later (words v)))) (got _) (record { startTime = a; stopTime = b })))
 
 pub record FitLine (r : RepeatLine) : Type 0 where
   pub interval : r .interval < 2 ^ 64
   pub duration : r .duration < 2 ^ 64
   pub offsets : Each (λ n. n < 2 ^ 64) (r .offsets)
 
-offsets-below : (ws : List (List ℕ)) → Gives (Each (λ n. n < 2 ^ 64)) (offsetsOf ws)
-unfolding lists.offsetsOf
-offsets-below [] = tt
-offsets-below (x ∷ xs) =
-    gives-then _ (λ n. n < 2 ^ 64) (numbered 20 (typedTime x)) (numbered-below 20 (typedTime x) (typed-below x)) _ (λ n l.
-    gives-then _ (Each (λ n. n < 2 ^ 64)) (offsetsOf xs) (offsets-below xs) _ (λ ns h. (l, h)))
+module _ (v : List ℕ) where
+  offsets-below : (ws : List Piece) → Gives (Each (λ n. n < 2 ^ 64)) (offsetsOf v ws)
+  unfolding lists.offsetsOf
+  offsets-below [] = tt
+  offsets-below (p ∷ ws) =
+      gives-then _ (λ n. n < 2 ^ 64) (numbered 20 v p (typedTime (part v p))) (numbered-below 20 v p (typedTime (part v p)) (typed-below (part v p))) _ (λ n l.
+      gives-then _ (Each (λ n. n < 2 ^ 64)) (offsetsOf v ws) (offsets-below ws) _ (λ ns h. (l, h)))
 
-head-below : (v : List ℕ) → Gives (λ h. (h .«repeat_interval» < 2 ^ 64) × (h .«active_duration» < 2 ^ 64)) (repeatHead v)
-unfolding lists.repeatHead
-head-below v = of-time _ 18 v (wordAt v 0) _ (λ n i a. of-time _ 19 v (wordAt v i) _ (λ m e b. (a, b)))
+  pub repeat-fit : Gives FitLine (repeatOf v)
+  unfolding lists.repeatOf field-read.nextTime
+  repeat-fit =
+      of-time _ 18 v (nextWord (words v)) _ (λ n i a.
+      of-time _ 19 v (nextWord (later (words v))) _ (λ m e b.
+      gives-then _ _ (offsetsOf v (later (later (words v)))) (offsets-below (later (later (words v)))) _ (λ os c. record { interval = a; duration = b; offsets = c })))
 
-pub repeat-fit : (v : List ℕ) → Gives FitLine (repeatOf v)
-unfolding lists.repeatOf
-repeat-fit v =
-    gives-then _ _ (repeatHead v) (head-below v) _ (λ h b.
-    gives-then _ _ (offsetsOf (words (drop (h .next) v))) (offsets-below (words (drop (h .next) v))) _ (λ os c. record { interval = b .0; duration = b .1; offsets = c }))
+  pairs-fit : (ws : List Piece) → Gives (λ zs. Each FitZone (map zoneIn zs)) (pairsOf v ws)
+  unfolding lists.pairsOf
+  pairs-fit [] = tt
+  pairs-fit (a ∷ []) =
+      gives-then _ (λ n. n < 2 ^ 64) (numbered 21 v a (wholeNumber 64 (part v a))) (numbered-below 21 v a (wholeNumber 64 (part v a)) (number-below 64 (part v a))) _ (λ n l. lit< tt)
+  pairs-fit (a ∷ o ∷ ws) =
+      gives-then _ (λ n. n < 2 ^ 64) (numbered 21 v a (wholeNumber 64 (part v a))) (numbered-below 21 v a (wholeNumber 64 (part v a)) (number-below 64 (part v a))) _ (λ n l.
+      gives-then _ (λ n. n < 2 ^ 64) (numbered 22 v o (zoneOffset (part v o))) (numbered-below 22 v o (zoneOffset (part v o)) (offset-below (part v o))) _ (λ m k.
+      gives-then _ (λ zs. Each FitZone (map zoneIn zs)) (pairsOf v ws) (pairs-fit ws) _ (λ zs h. (record { adjustmentTime = l; offset = k }, h))))
 
-pairs-fit : (ws : List (List ℕ)) → Gives (λ zs. Each FitZone (map zoneIn zs)) (pairsOf ws)
-unfolding lists.pairsOf
-pairs-fit [] = tt
-pairs-fit (a ∷ []) = gives-then _ (λ n. n < 2 ^ 64) (numbered 21 (wholeNumber 64 a)) (numbered-below 21 (wholeNumber 64 a) (number-below 64 a)) _ (λ n l. lit< tt)
-pairs-fit (a ∷ o ∷ ws) =
-    gives-then _ (λ n. n < 2 ^ 64) (numbered 21 (wholeNumber 64 a)) (numbered-below 21 (wholeNumber 64 a) (number-below 64 a)) _ (λ n l.
-    gives-then _ (λ n. n < 2 ^ 64) (offsetOf o) (offset-below o) _ (λ m k.
-    gives-then _ (λ zs. Each FitZone (map zoneIn zs)) (pairsOf ws) (pairs-fit ws) _ (λ zs h. (record { adjustmentTime = l; offset = k }, h))))
-
-pub zones-fit : (v : List ℕ) → Gives (λ zs. Each FitZone (map zoneIn zs)) (zonesOf v)
-unfolding lists.zonesOf
-zones-fit v = pairs-fit (words v)
+  pub zones-fit : Gives (λ zs. Each FitZone (map zoneIn zs)) (zonesOf v)
+  unfolding lists.zonesOf
+  zones-fit = pairs-fit (words v)
 
 -- both numbers of a port's field have 16 bits
-port-fit : (s : List ℕ) → Gives (λ p. (p .port < 65536) × (p .«num_ports» .value < 65536)) (portOf s)
+port-fit : (v : List ℕ) (x : Piece) → Gives (λ p. (p .port < 65536) × (p .«num_ports» .value < 65536)) (portOf v x)
 unfolding MediaLine.portOf
-port-fit s =
-    gives-cond _ (isUtf8 s) _ (refused (encoding 29))
+port-fit v x =
+    let s = part v x in
+    gives-cond _ (isUtf8 s) _ (refused (encoding 29 v x))
     (of-port _ 28 (take (indexOf 0x2f s) s) _ (λ p l.
     gives-cond _ (ltb (indexOf 0x2f s) (length s)) _ (got _) (of-port _ 30 (drop (indexOf 0x2f s + 1) s) _ (λ n m. (l, m))) (l, lit< tt)))
     (lit< tt)
@@ -223,7 +228,7 @@ pub whole-fine : (w : ℕ) (v : List ℕ) → Gives (Fine v) (wholeOf w v)
 unfolding field-read.wholeOf
 whole-fine w v = go (isUtf8 v) refl
   where
-    go : (b : Bool) → isUtf8 v ≡ b → Gives (Fine v) (cond b (got (record { at = 0; len = length v })) (refused (encoding w)))
+    go : (b : Bool) → isUtf8 v ≡ b → Gives (Fine v) (cond b (got (entire v)) (refused (encoding w v (entire v))))
     go true q = record { inside = omega arith; utf8 = ap isUtf8 (take-length v) ∙ q }
     go false q = lit< tt
 
@@ -244,26 +249,31 @@ module _ (v : List ℕ) (mk : Piece → Span) (P : Span → Type 0) (fine : (p :
       go false = λ q. h
 
   -- how o and c end
-  address-fit : (w i : ℕ) → Gives (λ c. FitConnection P (connectionIn mk c)) (addressOf w v i)
-  unfolding records.addressOf
-  address-fit w i =
-      of-token _ w v (wordAt v i) (word-within v i) _ (λ net j n.
-      of-token _ (w + 1) v (wordAt v j) (word-within v j) _ (λ kind l k.
-      of-text _ (w + 2) v (wordAt v l) (word-within v l) _ (λ address e a.
-      gives-end _ (w + 3) (wordAt v e) (got _) (record { nettype = fine net n; addrtype = fine kind k; connectionAddress = fine address a }))))
+  address-fit : (w : ℕ) (ws : List Piece) → AllInside v ws → Gives (λ c. FitConnection P (connectionIn mk c)) (addressOf w v ws)
+  unfolding records.addressOf field-read.nextToken field-read.nextText
+  address-fit w ws all =
+      let all₁ = later-inside v ws all in
+      let all₂ = later-inside v (later ws) all₁ in
+      of-token _ w v (nextWord ws) (next-inside v ws all) _ (λ net j n.
+      of-token _ (w + 1) v (nextWord (later ws)) (next-inside v (later ws) all₁) _ (λ kind l k.
+      of-text _ (w + 2) v (nextWord (later (later ws))) (next-inside v (later (later ws)) all₂) _ (λ address e a.
+      gives-end _ (w + 3) (nextWord (later (later (later ws)))) (got _) (record { nettype = fine net n; addrtype = fine kind k; connectionAddress = fine address a }))))
 
   pub origin-fit : Gives (λ o. FitOrigin P (originIn mk o)) (originOf v)
-  unfolding records.originOf
+  unfolding records.originOf field-read.nextText field-read.nextNumber
   origin-fit =
-      of-text _ 1 v (wordAt v 0) (word-within v 0) _ (λ user i u.
-      of-text _ 2 v (wordAt v i) (word-within v i) _ (λ id j d.
-      of-number _ 3 v (wordAt v j) _ (λ version l r.
-      gives-then _ (λ c. FitConnection P (connectionIn mk c)) (addressOf 4 v l) (address-fit 4 l) _ (λ c f.
+      let all = words-inside v in
+      let all₁ = later-inside v (words v) all in
+      let all₃ = later-inside v (later (later (words v))) (later-inside v (later (words v)) all₁) in
+      of-text _ 1 v (nextWord (words v)) (next-inside v (words v) all) _ (λ user i u.
+      of-text _ 2 v (nextWord (later (words v))) (next-inside v (later (words v)) all₁) _ (λ id j d.
+      of-number _ 3 v (nextWord (later (later (words v)))) _ (λ version l r.
+      gives-then _ (λ c. FitConnection P (connectionIn mk c)) (addressOf 4 v (later (later (later (words v))))) (address-fit 4 (later (later (later (words v)))) all₃) _ (λ c f.
       record { username = maybe-fit (usernameOf v user) (username-fine user u); sessId = fine id d; sessVersion = r; nettype = f .nettype; addrtype = f .addrtype; unicastAddress = f .connectionAddress }))))
 
   pub connection-fit : Gives (λ c. FitConnection P (connectionIn mk c)) (connectionOf v)
   unfolding records.connectionOf
-  connection-fit = address-fit 8 0
+  connection-fit = address-fit 8 (words v) (words-inside v)
 
   pub bandwidth-fit : (owner : ℕ) → owner < 65536 → Gives (λ b. FitBandwidth P (bandwidthIn mk owner b)) (bandwidthOf v)
   unfolding records.bandwidthOf
@@ -294,5 +304,5 @@ module _ (v : List ℕ) (mk : Piece → Span) (P : Span → Type 0) (fine : (p :
       record { media = fine name n; port = b .0; numPorts = ports-fit (port .«num_ports») (b .1); proto = fine proto p; fmt = fine fmt f; mediaTitle = tt; key = tt }))))
     where
       port : {A : Type 0} (Q : A → Type 0) (f : Field) (k : Port → ℕ → Read A) → ((p : Port) (e : ℕ) → (p .port < 65536) × (p .«num_ports» .value < 65536) → Gives Q (k p e)) → Gives Q (afterPort v f k)
-      port Q (field.Got p e) k h = gives-then Q _ (portOf (part v p)) (port-fit (part v p)) _ (λ x b. h x e b)
+      port Q (field.Got p e) k h = gives-then Q _ (portOf v p) (port-fit v p) _ (λ x b. h x e b)
       port Q field.Nothing k h = lit< tt

@@ -20,7 +20,7 @@ use Rattle.sdp_step.proofs.OnceLaws.{length-last}
 use Rattle.sdp_roles.specs.Roles as roles
 use Rattle.sdp_roles.specs.Roles.{beforeMedia, fromMedia}
 use Rattle.sdp_step.specs.Step as steps
-use Rattle.sdp_step.specs.Step.{Reading, Stepped, goes, stops, once, row, mediaIn, zoneIn, repeated, zonesTaken, stepRole, step}
+use Rattle.sdp_step.specs.Step.{Reading, Stepped, goes, stops, stop, once, row, mediaIn, zoneIn, repeated, zonesTaken, stepRole, step}
 use Rattle.sdp_roles.specs.declared.Role.{Role}
 use Rattle.sdp_roles.specs.declared.Role.the-variants as role
 use Rattle.sdp_same.specs.Fits.{Rows, FitMedia, FitOffset, FitHead, FitTables}
@@ -31,11 +31,11 @@ use Rattle.sdp_same.proofs.RowLaws.{each-map, rows-append, rows-more, r
 -- Q of what goes on; what stops has a number that is not 0
 abbrev pub Goes : (Reading Span → Type 0) → Stepped Span → Type 0
 Goes Q (goes τ) = Q τ
-Goes Q (stops n w) = 0 < n
+Goes Q (stops w) = 0 < w .number
 
 -- ---- the shapes of a step
 module _ (Q : Reading Span → Type 0) where
-  room-goes : (b : Bool) (table : ℕ) (τ : Reading Span) → (b ≡ true → Q τ) → Goes Q (cond b (goes τ) (stops 21 table))
+  room-goes : (b : Bool) (table : ℕ) (τ : Reading Span) → (b ≡ true → Q τ) → Goes Q (cond b (goes τ) (stop 21 table))
   room-goes true table τ h = h refl
   room-goes false table τ h = lit< tt
 
@@ -172,11 +172,11 @@ module _ (v : List ℕ) (mk : Piece → Span) (P : Span → Type 0) (fine : (p :
           (record { connections = O .connections; bandwidths = O .bandwidths; repeats = rising-append (λ (r : Repeat). r .owner) _ (s .tables .repeats) 1 some (O .repeats) _ (refl, tt); offsets = rising-append (λ (o : Offset). o .owner) _ (s .tables .offsets) 1 (omega arith) (rising-more (λ (o : Offset). o .owner) _ _ (omega arith) (s .tables .offsets) 1 (O .offsets)) (map new (r .offsets)) (each-map _ (λ (k : ℕ). k < 2 ^ 64) new (λ k b. e) (r .offsets) (f .offsets)); attributes = O .attributes })
 
       fits : (a b : Bool) (r : RepeatLine) → FitLine r → 1 ≤ length (s .tables .times) → ltb (length (s .tables .repeats)) 64 ≡ a → leb (length (s .tables .offsets) + length (r .offsets)) 256 ≡ b
-          → Goes Kept (cond a (cond b (goes (record { session = steps.withRepeat s (steps.repeatIn (length (s .tables .times)) r) (r .offsets); zoned = ρ .zoned })) (stops 21 7)) (stops 21 6))
+          → Goes Kept (cond a (cond b (goes (record { session = steps.withRepeat s (steps.repeatIn (length (s .tables .times)) r) (r .offsets); zoned = ρ .zoned })) (stop 21 7)) (stop 21 6))
       fits true b r f some p q = room-goes Kept b 7 _ (λ e. taken r f some (ltb-true _ _ p) (leb-true _ _ (rw (← q) at e)))
       fits false b r f some p q = lit< tt
 
-      go : (b : Bool) → eqb (length (s .tables .times)) 0 ≡ b → (r : Read RepeatLine) → Gives FitLine r → Goes Kept (cond b (stops 20 0) (repeated mk ρ v r))
+      go : (b : Bool) → eqb (length (s .tables .times)) 0 ≡ b → (r : Read RepeatLine) → Gives FitLine r → Goes Kept (cond b (stop 20 0) (repeated mk ρ v r))
       go true e r f = lit< tt
       go false e (got r) f = fits _ _ r f (let z = eqb-false (length (s .tables .times)) 0 e in omega arith) refl refl
       go false e (refused w) f = f

@@ -59,10 +59,10 @@ module _ (t : List ℕ) where
   f = bytesOf t
 
   -- ---- what follows a line
-  after-said : (x : Stepped Span) (y : Stepped (List ℕ)) → saidStep f x ≡ y → (n : ℕ) (j : Reading Span → Verdict Span) (k : Reading (List ℕ) → Verdict (List ℕ))
-      → ((ρ : Reading Span) → saidVerdict f (j ρ) ≡ k (saidReading f ρ)) → saidVerdict f (after spanAt x n j) ≡ after bytesAt y n k
-  after-said (goes ρ) y e n j k h = h ρ ∙ ap (λ (z : Stepped (List ℕ)). after bytesAt z n k) e
-  after-said (stops m w) y e n j k h = ap (λ (z : Stepped (List ℕ)). after bytesAt z n k) e
+  after-said : (x : Stepped Span) (y : Stepped (List ℕ)) → saidStep f x ≡ y → (n p : ℕ) (j : Reading Span → Verdict Span) (k : Reading (List ℕ) → Verdict (List ℕ))
+      → ((ρ : Reading Span) → saidVerdict f (j ρ) ≡ k (saidReading f ρ)) → saidVerdict f (after spanAt x n p j) ≡ after bytesAt y n p k
+  after-said (goes ρ) y e n p j k h = h ρ ∙ ap (λ (z : Stepped (List ℕ)). after bytesAt z n p k) e
+  after-said (stops w) y e n p j k h = ap (λ (z : Stepped (List ℕ)). after bytesAt z n p k) e
 
   form-said : (p : ℕ) (l : List ℕ) → Stands t p l → (ρ : Reading Span) (g : Form) → formOf l ≡ g → saidStep f (stepForm spanAt ρ p l g) ≡ stepForm bytesAt (saidReading f ρ) p l g
   form-said p l w ρ Blank e = refl
@@ -76,7 +76,7 @@ module _ (t : List ℕ) where
   run-said [] ρ n p e = refl
   run-said (r ∷ rs) ρ n p e =
       let w = first-stands p r rs e in
-      after-said (stepForm spanAt ρ p (content r) (formOf (content r))) _ (form-said p (content r) (w .0) ρ (formOf (content r)) refl) n
+      after-said (stepForm spanAt ρ p (content r) (formOf (content r))) _ (form-said p (content r) (w .0) ρ (formOf (content r)) refl) n (p + 2)
       (λ τ. run spanAt τ (n + 1) (p + width r) rs) (λ τ. run bytesAt τ (n + 1) (p + width r) rs) (λ τ. run-said rs τ (n + 1) (p + width r) (w .1))
 
   -- ---- the version line

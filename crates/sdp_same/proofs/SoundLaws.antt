@@ -78,16 +78,16 @@ module _ (t : List ℕ) where
       let inside : p + length l ≤ length t = stands-inside p l w (omega arith) in
       line-kept (drop 2 l) (spanAt (p + 2) (drop 2 l)) (FineIn t) (fine-in (p + 2) (drop 2 l) (stands-drop t p l w 2 two) (omega (arith, length-drop 2 l))) ρ h c
 
-  after-sound : (x : Stepped Span) (n : ℕ) (k : Reading Span → Verdict Span) → Goes Kept x → ((τ : Reading Span) → Kept τ → Whole (k τ)) → Whole (after spanAt x n k)
-  after-sound (goes τ) n k g h = h τ g
-  after-sound (stops m w) n k g h = g
+  after-sound : (x : Stepped Span) (n p : ℕ) (k : Reading Span → Verdict Span) → Goes Kept x → ((τ : Reading Span) → Kept τ → Whole (k τ)) → Whole (after spanAt x n p k)
+  after-sound (goes τ) n p k g h = h τ g
+  after-sound (stops w) n p k g h = g
 
   run-sound : (rs : List Raw) (ρ : Reading Span) (n p : ℕ) → Kept ρ → split (drop p t) ≡ rs → Whole (run spanAt ρ n p rs)
   unfolding reader.run
   run-sound [] ρ n p h e = h
   run-sound (r ∷ rs) ρ n p h e =
       let w = first-stands t p r rs e in
-      after-sound (stepForm spanAt ρ p (content r) (formOf (content r))) n (λ τ. run spanAt τ (n + 1) (p + width r) rs)
+      after-sound (stepForm spanAt ρ p (content r) (formOf (content r))) n (p + 2) (λ τ. run spanAt τ (n + 1) (p + width r) rs)
       (form-sound p (content r) (w .0) ρ h (formOf (content r)) refl) (λ τ k. run-sound rs τ (n + 1) (p + width r) k (w .1))
 
   -- ---- and before it

@@ -25,7 +25,7 @@ use Rattle.sdp_area.specs.With.{withOrigin, withName, withDescription, withUri,
 use Rattle.sdp_area.specs.Latest as latest
 use Rattle.sdp_area.specs.Latest.{given, lastGiven}
 use Rattle.sdp_step.specs.Step as steps
-use Rattle.sdp_step.specs.Step.{Reading, Stepped, goes, stops, once, row, maybeIn, originIn, connectionIn, mediaIn, zoneIn, repeated, zonesTaken, stepRole, step}
+use Rattle.sdp_step.specs.Step.{Reading, Stepped, goes, stop, once, row, maybeIn, originIn, connectionIn, mediaIn, zoneIn, repeated, zonesTaken, stepRole, step}
 use Rattle.sdp_roles.specs.Roles.{roleAt}
 use Rattle.sdp_roles.specs.declared.Role.{Role}
 use Rattle.sdp_roles.specs.declared.Role.the-variants as role
@@ -64,7 +64,7 @@ module _ {S T : Type 0} (f : S → T) where
       go false (got x) h = h x refl
       go false (refused w) h = refl
 
-  room-said : (b : Bool) (table : ℕ) (ρ : Reading S) (τ : Reading T) → saidReading f ρ ≡ τ → saidStep f (cond b (goes ρ) (stops 21 table)) ≡ cond b (goes τ) (stops 21 table)
+  room-said : (b : Bool) (table : ℕ) (ρ : Reading S) (τ : Reading T) → saidReading f ρ ≡ τ → saidStep f (cond b (goes ρ) (stop 21 table)) ≡ cond b (goes τ) (stop 21 table)
   room-said true table ρ τ e = ap goes e
   room-said false table ρ τ e = refl
 
@@ -144,11 +144,11 @@ module _ {S T : Type 0} (f : S → T) where
       step-said role.Time = row-said 5 32 _ _ refl (timesOf v) _ _ (λ t q. refl)
       step-said role.Repeat = go (eqb (length (s .tables .times)) 0) (repeatOf v)
         where
-          room : (b c : Bool) (x : Reading S) → saidStep f (cond b (cond c (goes x) (stops 21 7)) (stops 21 6)) ≡ cond b (cond c (goes (saidReading f x)) (stops 21 7)) (stops 21 6)
+          room : (b c : Bool) (x : Reading S) → saidStep f (cond b (cond c (goes x) (stop 21 7)) (stop 21 6)) ≡ cond b (cond c (goes (saidReading f x)) (stop 21 7)) (stop 21 6)
           room true c x = room-said c 7 x _ refl
           room false c x = refl
 
-          go : (b : Bool) (r : Read RepeatLine) → saidStep f (cond b (stops 20 0) (repeated mk ρ v r)) ≡ cond b (stops 20 0) (repeated mk′ τ v r)
+          go : (b : Bool) (r : Read RepeatLine) → saidStep f (cond b (stop 20 0) (repeated mk ρ v r)) ≡ cond b (stop 20 0) (repeated mk′ τ v r)
           go true r = refl
           go false (got r) = room (ltb (length (s .tables .repeats)) 64) (leb (length (s .tables .offsets) + length (r .offsets)) 256) _
           go false (refused w) = refl

@@ -86,7 +86,7 @@ module _ {S T : Type 0} (f : S → T) where
 
   abbrev pub saidStep : Stepped S → Stepped T
   saidStep (goes ρ) = goes (saidReading ρ)
-  saidStep (stops n w) = stops n w
+  saidStep (stops w) = stops w
 
   abbrev pub saidVerdict : Verdict S → Verdict T
   saidVerdict (accepted s) = accepted (said s)
