@@ -1,7 +1,7 @@
 -- The o and c lines: what was read of a value is written so that it is read again. Assumes nothing.
 use mathlib.Core.Path.{_≡_, refl, sym, ap, _∙_}
 use mathlib.Core.Bool.{Bool, true, false, cond, _&&_}
-use mathlib.Core.List.{List, [], _∷_, _++_, append-nil}
+use mathlib.Core.List.{List, [], _∷_, _++_, map, append-nil}
 use mathlib.Core.Option.{Option, none, some}
 use Prim.Native.Nat.{ℕ, _+_, _^_, _<_}
 use native.Mathlib.Omega.{arith}
@@ -15,14 +15,13 @@ use Rattle.sdp_bytes.specs.Token.{isToken}
 use Rattle.sdp_utf8.specs.Utf8 as utf8
 use Rattle.sdp_utf8.specs.Utf8.{isUtf8}
 use Rattle.sdp_number.specs.Number.{wholeNumber}
-use Rattle.sdp_split.specs.Split.{part, wordAt, words, Inside}
+use Rattle.sdp_split.specs.Split.{part, words, nextWord, later, Inside}
 use Rattle.sdp_split.specs.declared.Piece.{Piece}
-use Rattle.sdp_split.proofs.SplitLaws.{word-within}
+use Rattle.sdp_split.proofs.WordLaws.{words-inside, next-inside}
 use Rattle.sdp_judge.specs.Read as field-read
-use Rattle.sdp_judge.specs.Read.{Read, got, refused, encoding, andThen, wholeOf}
+use Rattle.sdp_judge.specs.Read.{Read, got, refused, encoding, andThen, entire, wholeOf}
 use Rattle.sdp_fields.specs.Records as records
 use Rattle.sdp_fields.specs.Records.{usernameOf, addressOf, originOf, connectionOf}
-use Rattle.sdp_lists.specs.Lists.{numbered}
 use Rattle.sdp_fields.specs.declared.Origin as origin
 use Rattle.sdp_fields.specs.declared.Connection as connection
 use Rattle.sdp_number.proofs.NumberLaws.{number-below}
@@ -37,15 +36,15 @@ use Rattle.sdp_same.specs.Fits.{Each}
 use Rattle.sdp_back.specs.Again.{placeholder}
 use Rattle.sdp_put.proofs.ByteLaws.{every, bare, clean-bare}
 use Rattle.sdp_back.proofs.NumberLaws.{number-back}
-use Rattle.sdp_back.proofs.WordLaws.{Word, are-words, tails, joined-bare, words-back, digits-word}
-use Rattle.sdp_back.proofs.FieldLaws.{Backs, left, mapRead, onSeen, unseen, first, textIn, tokenIn, see-text, see-token, see-number, see-end, see-word, see-then, Gives, gives-got, gives-then, gives-test, gives-number, gives-unseen, gives-word}
+use Rattle.sdp_back.proofs.WordLaws.{Word, spell, are-words, tails, joined-bare, words-back, digits-word}
+use Rattle.sdp_back.proofs.FieldLaws.{Backs, mapRead, onSeen, unseen, first, textIn, tokenIn, amountIn, see-text, see-token, see-number, see-end, see-next, see-then, Gives, gives-got, gives-then, gives-test, gives-number, gives-unseen, gives-word}
 
 -- ---- one string: s, i, u, e, p
 pub whole-back : (w u : ℕ) (v : List ℕ) (p : Piece) → bare v ≡ true → wholeOf w v ≡ got p → Backs (wholeOf u) part (clean (part v p)) (part v p)
 unfolding field-read.wholeOf
 whole-back w u v p h e = go (isUtf8 v) refl e
   where
-    go : (b : Bool) → isUtf8 v ≡ b → cond b (got (record { at = 0; len = length v })) (refused (encoding w)) ≡ got p → Backs (wholeOf u) part (clean (part v p)) (part v p)
+    go : (b : Bool) → isUtf8 v ≡ b → cond b (got (entire v)) (refused (encoding w v (entire v))) ≡ got p → Backs (wholeOf u) part (clean (part v p)) (part v p)
     go true q e =
         let z : record { at = 0; len = length v } ≡ p = cc in
         let t : take (length v) v ≡ v = take-length v in
@@ -53,12 +52,12 @@ whole-back w u v p h e = go (isUtf8 v) refl e
     go false q e = absurd (let z : _≡_ {A = ℕ} 0 1 = cc in omega arith)
 
 -- ---- nettype, addrtype and address
-addressFrom : ℕ → List (List ℕ) → Read (Connection (List ℕ))
-addressFrom w ws =
-    onSeen w (first ws) (λ s ws. andThen (tokenIn w s) (λ net.
-    onSeen (w + 1) (first ws) (λ s ws. andThen (tokenIn (w + 1) s) (λ kind.
-    onSeen (w + 2) (first ws) (λ s ws. andThen (textIn (w + 2) s) (λ address.
-    unseen (w + 3) (first ws) (got (record { nettype = net; addrtype = kind; connectionAddress = address }))))))))
+addressFrom : List (List ℕ) → Read (Connection (List ℕ))
+addressFrom ws =
+    onSeen (first ws) (λ s ws. andThen (tokenIn s) (λ net.
+    onSeen (first ws) (λ s ws. andThen (tokenIn s) (λ kind.
+    onSeen (first ws) (λ s ws. andThen (textIn s) (λ address.
+    unseen (first ws) (got (record { nettype = net; addrtype = kind; connectionAddress = address }))))))))
 
 -- three words: two tokens and a string
 record Address (c : Connection (List ℕ)) : Type 0 where
@@ -69,26 +68,26 @@ record Address (c : Connection (List ℕ)) : Type 0 where
   kindToken : isToken (c .addrtype) ≡ true
   addressText : isUtf8 (c .connectionAddress) ≡ true
 
-address-given : (w : ℕ) (ws : List (List ℕ)) → Each Word ws → Gives Address (addressFrom w ws)
+address-given : (ws : List (List ℕ)) → Each Word ws → Gives Address (addressFrom ws)
 unfolding addressFrom
-address-given w ws h =
-    gives-word _ w ws _ h (λ net ws a h. gives-test _ isToken _ net _ (λ p.
-    gives-word _ (w + 1) ws _ h (λ kind ws b h. gives-test _ isToken _ kind _ (λ q.
-    gives-word _ (w + 2) ws _ h (λ address ws c h. gives-test _ isUtf8 _ address _ (λ r.
-    gives-unseen _ (w + 3) (first ws) _ (record { net = a; kind = b; address = c; netToken = p; kindToken = q; addressText = r })))))))
+address-given ws h =
+    gives-word _ ws _ h (λ net ws a h. gives-test _ isToken net _ (λ p.
+    gives-word _ ws _ h (λ kind ws b h. gives-test _ isToken kind _ (λ q.
+    gives-word _ ws _ h (λ address ws c h. gives-test _ isUtf8 address _ (λ r.
+    gives-unseen _ (first ws) _ (record { net = a; kind = b; address = c; netToken = p; kindToken = q; addressText = r })))))))
 
-address-again : (w : ℕ) (c : Connection (List ℕ)) → Address c → addressFrom w (c .nettype ∷ c .addrtype ∷ c .connectionAddress ∷ []) ≡ got c
+address-again : (c : Connection (List ℕ)) → Address c → addressFrom (c .nettype ∷ c .addrtype ∷ c .connectionAddress ∷ []) ≡ got c
 unfolding addressFrom
-address-again w c a = rw (a .netToken, a .kindToken, a .addressText)
+address-again c a = rw (a .netToken, a .kindToken, a .addressText)
 
 module _ (v : List ℕ) where
-  see-address : (w i : ℕ) → mapRead (connectionIn (part v)) (addressOf w v i) ≡ addressFrom w (left v i)
-  unfolding addressFrom records.addressOf
-  see-address w i =
-      see-token _ w v (left v) (wordAt v i) _ (see-word v i) _ _ (λ net e q.
-      see-token _ (w + 1) v (left v) (wordAt v e) _ (see-word v e) _ _ (λ kind e q.
-      see-text _ (w + 2) v (left v) (wordAt v e) _ (see-word v e) _ _ (λ address e q.
-      see-end _ (w + 3) v (left v) (wordAt v e) _ (see-word v e) (got _))))
+  see-address : (w : ℕ) (ws : List Piece) → mapRead (connectionIn (part v)) (addressOf w v ws) ≡ addressFrom (map (part v) ws)
+  unfolding addressFrom records.addressOf field-read.nextToken field-read.nextText
+  see-address w ws =
+      see-token _ w v _ (nextWord ws) _ (see-next v ws) _ _ (λ net e q.
+      see-token _ (w + 1) v _ (nextWord (later ws)) _ (see-next v (later ws)) _ _ (λ kind e q.
+      see-text _ (w + 2) v _ (nextWord (later (later ws))) _ (see-next v (later (later ws))) _ _ (λ address e q.
+      see-end _ (w + 3) v _ (nextWord (later (later (later ws)))) _ (see-next v (later (later (later ws)))) (got _))))
 
 -- the c line
 abbrev pub connectionValue : Connection (List ℕ) → List ℕ
@@ -106,14 +105,14 @@ module _ (c : Connection (List ℕ)) (a : Address c) where
   unfolding records.connectionOf
   connection-again =
       rw connection-tails (record {
-        says = see-address _ 8 0 ∙ ap (addressFrom 8) (words-back (c .nettype) (c .addrtype ∷ c .connectionAddress ∷ []) (a .net) (a .kind, (a .address, tt))) ∙ address-again 8 c a;
+        says = see-address _ 8 (words _) ∙ ap addressFrom (words-back (c .nettype) (c .addrtype ∷ c .connectionAddress ∷ []) (a .net) (a .kind, (a .address, tt))) ∙ address-again c a;
         bare = joined-bare (c .nettype) (c .addrtype ∷ c .connectionAddress ∷ []) (a .net) (a .kind, (a .address, tt));
       })
 
 pub connection-back : (v : List ℕ) (c : connection.Connection) → bare v ≡ true → connectionOf v ≡ got c → ConnectionBack (connectionIn (part v) c)
 unfolding records.connectionOf
 connection-back v c h e =
-    connection-again _ (gives-got Address (addressFrom 8 (words v)) _ (sym (see-address v 8 0) ∙ ap (mapRead (connectionIn (part v))) e) (address-given 8 (words v) (are-words v h)))
+    connection-again _ (gives-got Address (addressFrom (spell v)) _ (sym (see-address v 8 (words v)) ∙ ap (mapRead (connectionIn (part v))) e) (address-given (spell v) (are-words v h)))
 
 -- ---- the o line
 -- "Username `-` means absent"
@@ -136,10 +135,10 @@ user-text x w = go (eqb (length x) 1) (eqb (getD x 0 0) 0x2d) refl refl
 
 originFrom : List (List ℕ) → Read (Origin (List ℕ))
 originFrom ws =
-    onSeen 1 (first ws) (λ s ws. andThen (textIn 1 s) (λ user.
-    onSeen 2 (first ws) (λ s ws. andThen (textIn 2 s) (λ sess.
-    onSeen 3 (first ws) (λ s ws. andThen (numbered 3 (wholeNumber 64 s)) (λ n.
-    andThen (addressFrom 4 ws) (λ c.
+    onSeen (first ws) (λ s ws. andThen (textIn s) (λ user.
+    onSeen (first ws) (λ s ws. andThen (textIn s) (λ sess.
+    onSeen (first ws) (λ s ws. andThen (amountIn (wholeNumber 64 s)) (λ n.
+    andThen (addressFrom ws) (λ c.
     got (record { username = userIn user; sessId = sess; sessVersion = n; nettype = c .nettype; addrtype = c .addrtype; unicastAddress = c .connectionAddress }))))))))
 
 module _ (v : List ℕ) where
@@ -160,14 +159,15 @@ module _ (v : List ℕ) where
           pick false = refl
       go false e = refl
 
-  see-origin : mapRead (originIn (part v)) (originOf v) ≡ originFrom (words v)
-  unfolding originFrom records.originOf
+  see-origin : mapRead (originIn (part v)) (originOf v) ≡ originFrom (spell v)
+  unfolding originFrom records.originOf field-read.nextText field-read.nextNumber
   see-origin =
-      see-text _ 1 v (left v) (wordAt v 0) _ (see-word v 0) _ _ (λ user e q.
-      see-text _ 2 v (left v) (wordAt v e) _ (see-word v e) _ _ (λ sess e z.
-      see-number _ 3 v (left v) (wordAt v e) _ (see-word v e) _ _ (λ n e.
-      see-then _ (connectionIn (part v)) (addressOf 4 v e) _ (see-address v 4 e) _ _ (λ c.
-      ap (λ o. got (record { username = o; sessId = part v sess; sessVersion = n; nettype = part v (c .nettype); addrtype = part v (c .addrtype); unicastAddress = part v (c .«connection_address») })) (see-user user (word-within v 0 user _ q .0))))))
+      let ws = words v in
+      see-text _ 1 v _ (nextWord ws) _ (see-next v ws) _ _ (λ user e q.
+      see-text _ 2 v _ (nextWord (later ws)) _ (see-next v (later ws)) _ _ (λ sess e z.
+      see-number _ 3 v _ (nextWord (later (later ws))) _ (see-next v (later (later ws))) _ _ (λ n e.
+      see-then _ (connectionIn (part v)) (addressOf 4 v (later (later (later ws)))) _ (see-address v 4 (later (later (later ws)))) _ _ (λ c.
+      ap (λ o. got (record { username = o; sessId = part v sess; sessVersion = n; nettype = part v (c .nettype); addrtype = part v (c .addrtype); unicastAddress = part v (c .«connection_address») })) (see-user user (next-inside v ws (words-inside v) user _ q .0))))))
 
 abbrev pub OriginBack : Origin (List ℕ) → Type 0
 OriginBack o = Backs originOf (λ v. originIn (part v)) (originValue id o) o
@@ -181,18 +181,18 @@ origin-again user sess n c u s p q l a =
     rw (user-text user u, clean-bare sess (s .bare), clean-bare (c .nettype) (a .net .bare), clean-bare (c .addrtype) (a .kind .bare), clean-bare (c .connectionAddress) (a .address .bare))
     (rw (← (let z : user ++ tails rest ≡ user ++ (spaced sess ++ (spaced (digits n) ++ (spaced (c .nettype) ++ (spaced (c .addrtype) ++ spaced (c .connectionAddress))))) = simp append-nil in z))
     (record {
-      says = see-origin _ ∙ ap originFrom (words-back user rest u fine) ∙ rw (p, q, number-back 64 n l) (ap (λ r. andThen r (λ c. got (record { username = userIn user; sessId = sess; sessVersion = n; nettype = c .nettype; addrtype = c .addrtype; unicastAddress = c .connectionAddress }))) (address-again 4 c a));
+      says = see-origin _ ∙ ap originFrom (words-back user rest u fine) ∙ rw (p, q, number-back 64 n l) (ap (λ r. andThen r (λ c. got (record { username = userIn user; sessId = sess; sessVersion = n; nettype = c .nettype; addrtype = c .addrtype; unicastAddress = c .connectionAddress }))) (address-again c a));
       bare = joined-bare user rest u fine;
     }))
 
 pub origin-back : (v : List ℕ) (o : origin.Origin) → bare v ≡ true → originOf v ≡ got o → OriginBack (originIn (part v) o)
 unfolding originFrom
 origin-back v o h e =
-    gives-got OriginBack (originFrom (words v)) _ (sym (see-origin v) ∙ ap (mapRead (originIn (part v))) e)
-    (gives-word _ 1 (words v) _ (are-words v h) (λ user ws u h. gives-test _ isUtf8 _ user _ (λ p.
-    gives-word _ 2 ws _ h (λ sess ws s h. gives-test _ isUtf8 _ sess _ (λ q.
-    gives-word _ 3 ws _ h (λ x ws d h. gives-number _ 3 (wholeNumber 64 x) _ (λ n z.
-    gives-then _ Address (addressFrom 4 ws) _ (address-given 4 ws h) (λ c a.
+    gives-got OriginBack (originFrom (spell v)) _ (sym (see-origin v) ∙ ap (mapRead (originIn (part v))) e)
+    (gives-word _ (spell v) _ (are-words v h) (λ user ws u h. gives-test _ isUtf8 user _ (λ p.
+    gives-word _ ws _ h (λ sess ws s h. gives-test _ isUtf8 sess _ (λ q.
+    gives-word _ ws _ h (λ x ws d h. gives-number _ (wholeNumber 64 x) _ (λ n z.
+    gives-then _ Address (addressFrom ws) _ (address-given ws h) (λ c a.
     origin-again user sess n c u s p q (number-below 64 x n z) a))))))))
 
 -- "the placeholder .. equal to a read origin with those values"

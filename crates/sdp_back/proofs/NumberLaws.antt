@@ -17,7 +17,7 @@ use Rattle.sdp_number.specs.Number.{allDigits, value, digitsBelow, dropPlus, wh
 use Rattle.sdp_number.specs.declared.Number.the-variants.{Value}
 use Rattle.sdp_number.proofs.NumberLaws.{typed-plain, typed-unit}
 use Rattle.sdp_judge.specs.Offset as signed-offset
-use Rattle.sdp_judge.specs.Offset.{offsetOf}
+use Rattle.sdp_judge.specs.Offset.{zoneOffset}
 use Rattle.sdp_judge.specs.Read.{got}
 use Rattle.sdp_put.specs.Digits.{digits, timeText}
 use Rattle.sdp_put.proofs.DigitLaws.{digits-one, digits-more, digits-pass, time-form, time-pass, offset-minus, offset-plain}
@@ -140,11 +140,11 @@ no-minus v = go (timeText v) (time-pass (λ b. not (eqb b 0x2d)) (λ b l g. rw (
     go [] e = refl
     go (b ∷ s) e = not-true (eqb b 0x2d) (and-left (not (eqb b 0x2d)) _ e)
 
-pub offset-back : (n : ℕ) → n < 2 ^ 64 → offsetOf (signedText n) ≡ got n
-unfolding signed-offset.offsetOf
+pub offset-back : (n : ℕ) → n < 2 ^ 64 → zoneOffset (signedText n) ≡ Value n
+unfolding signed-offset.zoneOffset
 offset-back n h = go (leb (2 ^ 63) n) refl
   where
-    go : (b : Bool) → leb (2 ^ 63) n ≡ b → offsetOf (signedText n) ≡ got n
+    go : (b : Bool) → leb (2 ^ 63) n ≡ b → zoneOffset (signedText n) ≡ Value n
     go true e =
         let l = leb-true (2 ^ 63) n e in
         let k : 2 ^ 64 - (2 ^ 64 - n) ≡ n = omega arith in

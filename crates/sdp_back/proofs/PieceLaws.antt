@@ -13,12 +13,11 @@ use Rattle.sdp_number.specs.Number.{wholeNumber}
 use Rattle.sdp_number.specs.declared.Number.{Number}
 use Rattle.sdp_number.specs.declared.Number.the-variants.{Value, Encoding, Format}
 use Rattle.sdp_split.specs.Split.{part, firstPiece, pieceAfter, restAfter}
-use Rattle.sdp_judge.specs.Read.{Read, got, refused, encoding, andThen}
+use Rattle.sdp_judge.specs.Read.{Read, got, refused, andThen}
 use Rattle.sdp_fields.specs.Records as records
 use Rattle.sdp_fields.specs.Records.{bandwidthOf, attributeOf}
 use Rattle.sdp_media_line.specs.MediaLine
-use Rattle.sdp_media_line.specs.MediaLine.{portNumber, portOf, mediaOf}
-use Rattle.sdp_lists.specs.Lists.{numbered}
+use Rattle.sdp_media_line.specs.MediaLine.{portNumber, portsOf, mediaOf}
 use Rattle.sdp_fields.specs.declared.Bandwidth as bandwidth
 use Rattle.sdp_fields.specs.declared.Attribute as attribute
 use Rattle.sdp_media_line.specs.declared.Port.{Port}
@@ -36,7 +35,7 @@ use Rattle.sdp_put.proofs.ByteLaws.{every, every-append, every-take, every-drop
 use Rattle.sdp_put.proofs.DigitLaws.{digits-bare}
 use Rattle.sdp_back.proofs.NumberLaws.{number-back, ascii-utf8, digits-ascii}
 use Rattle.sdp_back.proofs.WordLaws.{behind, cut, sepText, cut-back, cut-none, digits-lack}
-use Rattle.sdp_back.proofs.FieldLaws.{Backs, mapRead, onSeen, unseen, textIn, choiceIn, see-text, see-number, see-port, see-end, see-first, see-after, see-rest, see-choice, alone, Gives, gives-got, gives-then, gives-test, gives-number, gives-unseen}
+use Rattle.sdp_back.proofs.FieldLaws.{Backs, mapRead, portIn, amountIn, lost, onSeen, unseen, textIn, choiceIn, see-text, see-number, see-port, see-end, see-first, see-after, see-rest, see-choice, alone, Gives, gives-got, gives-then, gives-test, gives-number, gives-unseen}
 
 -- the front of a cut, and what is behind it
 front-bare : (sep : ℕ) (v : List ℕ) → bare v ≡ true → bare (cut sep v .0) ≡ true
@@ -56,13 +55,13 @@ behind-bare sep v h = go (ltb (indexOf sep v) (length v))
     go false = tt
 
 -- a field behind a separator is the front of a cut of bytes
-module _ {A : Type 0} (P : A → Type 0) (w sep : ℕ) where
+module _ {A : Type 0} (P : A → Type 0) (sep : ℕ) where
   gives-cut : (o : Option (List ℕ)) → IfGiven (λ r. bare r ≡ true) o → (k : List ℕ → Option (List ℕ) → Read A)
-      → ((s : List ℕ) (r : Option (List ℕ)) → bare s ≡ true → lacks sep s ≡ true → IfGiven (λ r. bare r ≡ true) r → Gives P (k s r)) → Gives P (onSeen w (Option·map (cut sep) o) k)
+      → ((s : List ℕ) (r : Option (List ℕ)) → bare s ≡ true → lacks sep s ≡ true → IfGiven (λ r. bare r ≡ true) r → Gives P (k s r)) → Gives P (onSeen (Option·map (cut sep) o) k)
   gives-cut none b k h = tt
   gives-cut (some v) b k h = h (cut sep v .0) (cut sep v .1) (front-bare sep v b) (front-lacks sep v) (behind-bare sep v b)
 
-  gives-alone : (o : Option (List ℕ)) → IfGiven (λ r. bare r ≡ true) o → (k : List ℕ → Unit {0} → Read A) → ((s : List ℕ) → bare s ≡ true → Gives P (k s tt)) → Gives P (onSeen w (Option·map alone o) k)
+  gives-alone : (o : Option (List ℕ)) → IfGiven (λ r. bare r ≡ true) o → (k : List ℕ → Unit {0} → Read A) → ((s : List ℕ) → bare s ≡ true → Gives P (k s tt)) → Gives P (onSeen (Option·map alone o) k)
   gives-alone none b k h = tt
   gives-alone (some v) b k h = h v b
 
@@ -72,11 +71,11 @@ bandwidthIs v b = (part v (b .bwtype), b .bandwidth)
 
 bandwidthRest : List ℕ → Option (List ℕ) → Read (List ℕ × ℕ)
 bandwidthRest kind r =
-    onSeen 13 (Option·map (cut 0x3a) r) (λ s r. andThen (numbered 13 (wholeNumber 64 s)) (λ n.
-    unseen 14 (Option·map (cut 0x3a) r) (got (kind, n))))
+    onSeen (Option·map (cut 0x3a) r) (λ s r. andThen (amountIn (wholeNumber 64 s)) (λ n.
+    unseen (Option·map (cut 0x3a) r) (got (kind, n))))
 
 bandwidthFrom : List ℕ × Option (List ℕ) → Read (List ℕ × ℕ)
-bandwidthFrom c = andThen (textIn 12 (c .0)) (λ kind. bandwidthRest kind (c .1))
+bandwidthFrom c = andThen (textIn (c .0)) (λ kind. bandwidthRest kind (c .1))
 
 see-bandwidth : (v : List ℕ) → mapRead (bandwidthIs v) (bandwidthOf v) ≡ bandwidthFrom (cut 0x3a v)
 unfolding bandwidthFrom bandwidthRest records.bandwidthOf
@@ -100,19 +99,19 @@ pub bandwidth-back : (v : List ℕ) (b : bandwidth.Bandwidth) → bare v ≡ tru
 unfolding bandwidthFrom bandwidthRest
 bandwidth-back v b h e =
     gives-got (λ x. BandwidthBack (x .0) (x .1)) (bandwidthFrom (cut 0x3a v)) _ (sym (see-bandwidth v) ∙ ap (mapRead (bandwidthIs v)) e)
-    (gives-test _ isUtf8 _ (cut 0x3a v .0) _ (λ u.
-    gives-cut _ 13 0x3a (cut 0x3a v .1) (behind-bare 0x3a v h) _ (λ s r x y z. gives-number _ 13 (wholeNumber 64 s) _ (λ n q.
-    gives-unseen _ 14 (Option·map (cut 0x3a) r) _ (bandwidth-again (cut 0x3a v .0) n (front-bare 0x3a v h) (front-lacks 0x3a v) u (number-below 64 s n q))))))
+    (gives-test _ isUtf8 (cut 0x3a v .0) _ (λ u.
+    gives-cut _ 0x3a (cut 0x3a v .1) (behind-bare 0x3a v h) _ (λ s r x y z. gives-number _ (wholeNumber 64 s) _ (λ n q.
+    gives-unseen _ (Option·map (cut 0x3a) r) _ (bandwidth-again (cut 0x3a v .0) n (front-bare 0x3a v h) (front-lacks 0x3a v) u (number-below 64 s n q))))))
 
 -- ---- a: a name, and perhaps a value
 abbrev pub attributeIs : List ℕ → attribute.Attribute → List ℕ × Option (List ℕ)
 attributeIs v a = (part v (a .attribute), maybeIn (part v) (a .value))
 
 attributeRest : List ℕ → Option (List ℕ) → Read (List ℕ × Option (List ℕ))
-attributeRest name r = andThen (choiceIn 24 r) (λ value. got (name, value))
+attributeRest name r = andThen (choiceIn r) (λ value. got (name, value))
 
 attributeFrom : List ℕ × Option (List ℕ) → Read (List ℕ × Option (List ℕ))
-attributeFrom c = andThen (textIn 23 (c .0)) (λ name. attributeRest name (c .1))
+attributeFrom c = andThen (textIn (c .0)) (λ name. attributeRest name (c .1))
 
 see-attribute : (v : List ℕ) → mapRead (attributeIs v) (attributeOf v) ≡ attributeFrom (cut 0x3a v)
 unfolding attributeFrom attributeRest records.attributeOf
@@ -145,15 +144,15 @@ pub attribute-back : (v : List ℕ) (a : attribute.Attribute) → bare v ≡ tru
 unfolding attributeFrom attributeRest
 attribute-back v a h e =
     gives-got (λ y. AttributeBack (y .0) (y .1)) (attributeFrom (cut 0x3a v)) _ (sym (see-attribute v) ∙ ap (mapRead (attributeIs v)) e)
-    (gives-test _ isUtf8 _ (cut 0x3a v .0) _ (λ u.
-    gives-then _ (λ o. IfGiven (λ r. bare r ≡ true) o × IfGiven (λ r. isUtf8 r ≡ true) o) (choiceIn 24 (cut 0x3a v .1)) _ (choose (cut 0x3a v .1) (behind-bare 0x3a v h)) (λ o q.
+    (gives-test _ isUtf8 (cut 0x3a v .0) _ (λ u.
+    gives-then _ (λ o. IfGiven (λ r. bare r ≡ true) o × IfGiven (λ r. isUtf8 r ≡ true) o) (choiceIn (cut 0x3a v .1)) _ (choose (cut 0x3a v .1) (behind-bare 0x3a v h)) (λ o q.
     attribute-again (cut 0x3a v .0) o (front-bare 0x3a v h) (front-lacks 0x3a v) u (q .0) (q .1))))
   where
-    choose : (o : Option (List ℕ)) → IfGiven (λ r. bare r ≡ true) o → Gives (λ o. IfGiven (λ r. bare r ≡ true) o × IfGiven (λ r. isUtf8 r ≡ true) o) (choiceIn 24 o)
+    choose : (o : Option (List ℕ)) → IfGiven (λ r. bare r ≡ true) o → Gives (λ o. IfGiven (λ r. bare r ≡ true) o × IfGiven (λ r. isUtf8 r ≡ true) o) (choiceIn o)
     choose none b = (tt, tt)
     choose (some s) b = go (isUtf8 s) refl
       where
-        go : (t : Bool) → isUtf8 s ≡ t → Gives (λ o. IfGiven (λ r. bare r ≡ true) o × IfGiven (λ r. isUtf8 r ≡ true) o) (mapRead some (cond t (got s) (refused (encoding 24))))
+        go : (t : Bool) → isUtf8 s ≡ t → Gives (λ o. IfGiven (λ r. bare r ≡ true) o × IfGiven (λ r. isUtf8 r ≡ true) o) (mapRead some (cond t (got s) lost))
         go true q = (b, q)
         go false q = tt
 
@@ -166,14 +165,13 @@ abbrev portsFrom : Option (List ℕ) → (MaybeNumber → Read Port) → Read Po
 portsFrom none k = k (record { there = false; value = 0 })
 portsFrom (some r) k = portNumber 30 (wholeNumber 16 r) (λ n. k (record { there = true; value = n }))
 
-see-ports : (s : List ℕ)
-    → portOf s ≡ cond (isUtf8 s) (portNumber 28 (wholeNumber 16 (cut 0x2f s .0)) (λ port. portsFrom (cut 0x2f s .1) (λ num. got (record { port = port; «num_ports» = num })))) (refused (encoding 29))
-unfolding cut MediaLine.portOf
+see-ports : (s : List ℕ) → portsOf s ≡ portNumber 28 (wholeNumber 16 (cut 0x2f s .0)) (λ port. portsFrom (cut 0x2f s .1) (λ num. got (record { port = port; «num_ports» = num })))
+unfolding cut
 see-ports s = go (ltb (indexOf 0x2f s) (length s))
   where
     go : (b : Bool)
-        → cond (isUtf8 s) (portNumber 28 (wholeNumber 16 (take (indexOf 0x2f s) s)) (λ port. cond b (portNumber 30 (wholeNumber 16 (drop (indexOf 0x2f s + 1) s)) (λ n. got (record { port = port; «num_ports» = record { there = true; value = n } }))) (got (record { port = port; «num_ports» = record { there = false; value = 0 } })))) (refused (encoding 29))
-        ≡ cond (isUtf8 s) (portNumber 28 (wholeNumber 16 (take (indexOf 0x2f s) s)) (λ port. portsFrom (cond b (some (drop (indexOf 0x2f s + 1) s)) none) (λ num. got (record { port = port; «num_ports» = num })))) (refused (encoding 29))
+        → portNumber 28 (wholeNumber 16 (take (indexOf 0x2f s) s)) (λ port. cond b (portNumber 30 (wholeNumber 16 (drop (indexOf 0x2f s + 1) s)) (λ n. got (record { port = port; «num_ports» = record { there = true; value = n } }))) (got (record { port = port; «num_ports» = record { there = false; value = 0 } })))
+        ≡ portNumber 28 (wholeNumber 16 (take (indexOf 0x2f s) s)) (λ port. portsFrom (cond b (some (drop (indexOf 0x2f s + 1) s)) none) (λ num. got (record { port = port; «num_ports» = num })))
     go true = refl
     go false = refl
 
@@ -189,15 +187,19 @@ gives-port P w s k h = go (wholeNumber 16 s) refl
     go Encoding q = tt
     go Format q = tt
 
-ports-given : (s : List ℕ) → Gives (λ p. Ports (p .port) (numIn (p .«num_ports»))) (portOf s)
-ports-given s = rw (see-ports s) (go (isUtf8 s))
+ports-given : (s : List ℕ) → Gives (λ p. Ports (p .port) (numIn (p .«num_ports»))) (portIn s)
+ports-given s = go (isUtf8 s)
   where
     num : (port : ℕ) → port < 2 ^ 16 → (o : Option (List ℕ)) → Gives (λ p. Ports (p .port) (numIn (p .«num_ports»))) (portsFrom o (λ num. got (record { port = port; «num_ports» = num })))
     num port l none = (l, tt)
     num port l (some r) = gives-port _ 30 r _ (λ n h. (l, h))
 
-    go : (b : Bool) → Gives (λ p. Ports (p .port) (numIn (p .«num_ports»))) (cond b (portNumber 28 (wholeNumber 16 (cut 0x2f s .0)) (λ port. portsFrom (cut 0x2f s .1) (λ num. got (record { port = port; «num_ports» = num })))) (refused (encoding 29)))
-    go true = gives-port _ 28 (cut 0x2f s .0) _ (λ port l. num port l (cut 0x2f s .1))
+    kept : (r : Read Port) → Gives (λ p. Ports (p .port) (numIn (p .«num_ports»))) r → Gives (λ p. Ports (p .port) (numIn (p .«num_ports»))) (mapRead (λ p. p) r)
+    kept (got p) g = g
+    kept (refused w) g = tt
+
+    go : (b : Bool) → Gives (λ p. Ports (p .port) (numIn (p .«num_ports»))) (cond b (mapRead (λ p. p) (portsOf s)) lost)
+    go true = kept (portsOf s) (rw (see-ports s) (gives-port _ 28 (cut 0x2f s .0) _ (λ port l. num port l (cut 0x2f s .1))))
     go false = tt
 
 -- what is written of the ports
@@ -222,10 +224,10 @@ ports-cut : (port : ℕ) (num : Option ℕ) → cut 0x2f (portText port num) ≡
 ports-cut port none = cut-back 0x2f (digits port) none (digits-lack 0x2f port (λ l g. omega arith))
 ports-cut port (some n) = cut-back 0x2f (digits port) (some (digits n)) (digits-lack 0x2f port (λ l g. omega arith))
 
-ports-again : (port : ℕ) (num : Option ℕ) → Ports port num → portOf (portText port num) ≡ got (record { port = port; «num_ports» = maybeNumber num })
+ports-again : (port : ℕ) (num : Option ℕ) → Ports port num → portIn (portText port num) ≡ got (record { port = port; «num_ports» = maybeNumber num })
 ports-again port num h =
-    see-ports (portText port num)
-    ∙ rw (ascii-utf8 (portText port num) (ports-pass (λ b. ltb b 0x80) digits-ascii refl port num), ports-cut port num, number-back 16 port (h .0)) (go num (h .1))
+    rw (ascii-utf8 (portText port num) (ports-pass (λ b. ltb b 0x80) digits-ascii refl port num), see-ports (portText port num), ports-cut port num, number-back 16 port (h .0))
+    (ap (mapRead (λ p. p)) (go num (h .1)))
   where
     go : (num : Option ℕ) → IfGiven (λ n. n < 2 ^ 16) num → portsFrom (Option·map digits num) (λ num. got (record { port = port; «num_ports» = num })) ≡ got (record { port = port; «num_ports» = maybeNumber num })
     go none l = refl
@@ -233,13 +235,13 @@ ports-again port num h =
 
 mediaRest : List ℕ → Option (List ℕ) → Read (Media (List ℕ))
 mediaRest name r =
-    onSeen 28 (Option·map (cut 0x20) r) (λ s r. andThen (portOf s) (λ p.
-    onSeen 31 (Option·map (cut 0x20) r) (λ s r. andThen (textIn 31 s) (λ proto.
-    onSeen 32 (Option·map alone r) (λ s u. andThen (textIn 32 s) (λ fmt.
+    onSeen (Option·map (cut 0x20) r) (λ s r. andThen (portIn s) (λ p.
+    onSeen (Option·map (cut 0x20) r) (λ s r. andThen (textIn s) (λ proto.
+    onSeen (Option·map alone r) (λ s u. andThen (textIn s) (λ fmt.
     got (record { media = name; port = p .port; numPorts = numIn (p .«num_ports»); proto = proto; fmt = fmt; mediaTitle = none; key = none })))))))
 
 mediaFrom : List ℕ × Option (List ℕ) → Read (Media (List ℕ))
-mediaFrom c = andThen (textIn 27 (c .0)) (λ name. mediaRest name (c .1))
+mediaFrom c = andThen (textIn (c .0)) (λ name. mediaRest name (c .1))
 
 see-media : (v : List ℕ) → mapRead (mediaIn (part v)) (mediaOf v) ≡ mediaFrom (cut 0x20 v)
 unfolding mediaFrom mediaRest MediaLine.mediaOf
@@ -295,8 +297,8 @@ pub media-back : (v : List ℕ) (m : media.Media) → bare v ≡ true → mediaO
 unfolding mediaFrom mediaRest
 media-back v m h e =
     gives-got MediaBack (mediaFrom (cut 0x20 v)) _ (sym (see-media v) ∙ ap (mapRead (mediaIn (part v))) e)
-    (gives-test _ isUtf8 _ (cut 0x20 v .0) _ (λ u.
-    gives-cut _ 28 0x20 (cut 0x20 v .1) (behind-bare 0x20 v h) _ (λ s r x y z. gives-then _ (λ p. Ports (p .port) (numIn (p .«num_ports»))) (portOf s) _ (ports-given s) (λ p q.
-    gives-cut _ 31 0x20 r z _ (λ proto r b l z. gives-test _ isUtf8 _ proto _ (λ t.
-    gives-alone _ 32 0x20 r z _ (λ fmt c. gives-test _ isUtf8 _ fmt _ (λ d.
+    (gives-test _ isUtf8 (cut 0x20 v .0) _ (λ u.
+    gives-cut _ 0x20 (cut 0x20 v .1) (behind-bare 0x20 v h) _ (λ s r x y z. gives-then _ (λ p. Ports (p .port) (numIn (p .«num_ports»))) (portIn s) _ (ports-given s) (λ p q.
+    gives-cut _ 0x20 r z _ (λ proto r b l z. gives-test _ isUtf8 proto _ (λ t.
+    gives-alone _ 0x20 r z _ (λ fmt c. gives-test _ isUtf8 fmt _ (λ d.
     media-again (record { media = cut 0x20 v .0; port = p .port; numPorts = numIn (p .«num_ports»); proto = proto; fmt = fmt; mediaTitle = none; key = none }) (front-bare 0x20 v h) (front-lacks 0x20 v) u q b l t c d))))))))

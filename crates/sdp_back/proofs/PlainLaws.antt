@@ -100,10 +100,10 @@ module _ (ρ : Reading (List ℕ)) (v : List ℕ) (b : bare v ≡ true) (h : Pla
   last-goes g keep = on Kept _ (medias-plain _ (each-last MediaPlain g keep (ρ .session .tables .medias) (T .medias)))
 
   repeat-plain : (r : Read RepeatLine) → Going Kept (repeated (part v) ρ v r)
-  repeat-plain (refused w) = off Kept _ _
+  repeat-plain (refused w) = off Kept _
   repeat-plain (got r) =
       past-cond Kept (ltb (length (ρ .session .tables .repeats)) 64) _ _
-      (past-cond Kept (leb (length (ρ .session .tables .offsets) + length (r .offsets)) 256) _ _ (on Kept _ (times-plain _ _ _ _)) (off Kept _ _)) (off Kept _ _)
+      (past-cond Kept (leb (length (ρ .session .tables .offsets) + length (r .offsets)) 256) _ _ (on Kept _ (times-plain _ _ _ _)) (off Kept _)) (off Kept _)
 
   step-plain : (x : Role) → Going Kept (stepRole (part v) ρ v x)
   unfolding steps.stepRole
@@ -123,7 +123,7 @@ module _ (ρ : Reading (List ℕ)) (v : List ℕ) (b : bare v ≡ true) (h : Pla
       past-once Kept 16 (given (ρ .session .head .connection)) (connectionOf v) _ (λ c q.
       head-goes _ (record { origin = H .origin; name = H .name; description = H .description; uri = H .uri; connection = connection-back v c b q; key = H .key }))
   step-plain role.Zone =
-      past-once Kept 17 (ρ .zoned) (zonesOf v) _ (λ zs q. past-cond Kept (leb (length zs) 64) _ _ (on Kept _ (times-plain _ _ _ _)) (off Kept _ _))
+      past-once Kept 17 (ρ .zoned) (zonesOf v) _ (λ zs q. past-cond Kept (leb (length zs) 64) _ _ (on Kept _ (times-plain _ _ _ _)) (off Kept _))
   step-plain role.Email =
       past-row Kept 1 16 _ (wholeOf 37 v) _ (λ p q.
       tables-kept _ (record { emails = each-append TextBack (ρ .session .tables .emails) _ (T .emails) (λ w. whole-back 37 w v p b q, tt); phones = T .phones; connections = T .connections; bandwidths = T .bandwidths; attributes = T .attributes; medias = T .medias }))
@@ -140,7 +140,7 @@ module _ (ρ : Reading (List ℕ)) (v : List ℕ) (b : bare v ≡ true) (h : Pla
       past-row Kept 9 512 _ (attributeOf v) _ (λ x q.
       tables-kept _ (record { emails = T .emails; phones = T .phones; connections = T .connections; bandwidths = T .bandwidths; attributes = each-append (λ (a : Attribute (List ℕ)). AttributeBack (a .attribute) (a .value)) (ρ .session .tables .attributes) _ (T .attributes) (attribute-back v x b q, tt); medias = T .medias }))
   step-plain role.Time = past-row Kept 5 32 _ (timesOf v) _ (λ t q. times-plain _ _ _ _)
-  step-plain role.Repeat = past-cond Kept (eqb (length (ρ .session .tables .times)) 0) _ _ (off Kept _ _) (repeat-plain (repeatOf v))
+  step-plain role.Repeat = past-cond Kept (eqb (length (ρ .session .tables .times)) 0) _ _ (off Kept _) (repeat-plain (repeatOf v))
   step-plain role.Media =
       past-row Kept 10 32 _ (mediaOf v) _ (λ m q. medias-plain _ (each-append MediaPlain (ρ .session .tables .medias) _ (T .medias) (record { line = media-back v m b q; title = tt; key = refl }, tt)))
   step-plain role.MediaTitle =
@@ -195,7 +195,7 @@ Whole (refused x) = Unit {0}
 
 form-plain : (ρ : Reading (List ℕ)) (p : ℕ) (l : List ℕ) → lacks 10 l ≡ true → Plain (ρ .session) → (g : Form) → formOf l ≡ g → Going (λ τ. Plain (τ .session)) (stepForm bytesAt ρ p l g)
 form-plain ρ p l b h Blank e = on (λ τ. Plain (τ .session)) ρ h
-form-plain ρ p l b h (Bad f) e = off (λ τ. Plain (τ .session)) _ _
+form-plain ρ p l b h (Bad f) e = off (λ τ. Plain (τ .session)) _
 form-plain ρ p l b h (Good c) e = step-plain ρ (drop 2 l) (every-drop (λ b. not (dropped b)) 2 l (good-bare l c b e)) h (roleAt (length (ρ .session .tables .medias)) c)
 
 run-plain : (rs : List Raw) → Each (λ r. lacks 10 (r .body) ≡ true) rs → (ρ : Reading (List ℕ)) (n p : ℕ) → Plain (ρ .session) → Whole (run bytesAt ρ n p rs)
@@ -204,9 +204,9 @@ run-plain [] b ρ n p h = h
 run-plain (r ∷ rs) b ρ n p h =
     go (stepForm bytesAt ρ p (content r) (formOf (content r))) (form-plain ρ p (content r) (content-lacks r (b .0)) h (formOf (content r)) refl) (λ τ. run-plain rs (b .1) τ (n + 1) (p + width r))
   where
-    go : (σ : Stepped (List ℕ)) → Going (λ τ. Plain (τ .session)) σ → ((τ : Reading (List ℕ)) → Plain (τ .session) → Whole (run bytesAt τ (n + 1) (p + width r) rs)) → Whole (after bytesAt σ n (λ τ. run bytesAt τ (n + 1) (p + width r) rs))
+    go : (σ : Stepped (List ℕ)) → Going (λ τ. Plain (τ .session)) σ → ((τ : Reading (List ℕ)) → Plain (τ .session) → Whole (run bytesAt τ (n + 1) (p + width r) rs)) → Whole (after bytesAt σ n (p + 2) (λ τ. run bytesAt τ (n + 1) (p + width r) rs))
     go (goes τ) g ih = ih τ (g τ refl)
-    go (stops m w) g ih = tt
+    go (stops w) g ih = tt
 
 empty-plain : Plain empty
 empty-plain = record {

@@ -6,13 +6,14 @@ use Prim.Native.Nat.{ℕ, _+_, _^_, _<_}
 use native.Mathlib.Omega.{arith}
 use borrow.Author.Tests.{ne-eqb}
 use Rattle.sdp_number.specs.Number.{wholeNumber, typedTime}
-use Rattle.sdp_split.specs.Split.{wordAt, words}
+use Rattle.sdp_split.specs.Split.{part, words, nextWord, later}
+use Rattle.sdp_split.specs.declared.Piece.{Piece}
+use Rattle.sdp_judge.specs.Read as judge
 use Rattle.sdp_judge.specs.Read.{Read, got, refused, andThen}
 use Rattle.sdp_fields.specs.Records as records
 use Rattle.sdp_fields.specs.Records.{timesOf}
 use Rattle.sdp_lists.specs.Lists as lists
-use Rattle.sdp_lists.specs.Lists.{repeatHead, numbered, repeatOf, offsetsOf, pairsOf, zonesOf}
-use Rattle.sdp_lists.specs.declared.RepeatHead.{RepeatHead}
+use Rattle.sdp_lists.specs.Lists.{repeatOf, offsetsOf, pairsOf, zonesOf}
 use Rattle.sdp_lists.specs.declared.Zone as zone
 use Rattle.sdp_area.specs.Session.{Time, Zone}
 use Rattle.sdp_step.specs.Step.{timeIn, zoneIn}
@@ -25,22 +26,23 @@ use Rattle.sdp_row.specs.Written.{spaced, timeValue, signedText, zoneText}
 use Rattle.sdp_same.specs.Fits.{Each, FitTime, FitZone}
 use Rattle.sdp_put.proofs.ByteLaws.{every, bare}
 use Rattle.sdp_back.proofs.NumberLaws.{number-back, time-back, offset-back}
-use Rattle.sdp_back.proofs.WordLaws.{Word, tails, joined-bare, words-back, digits-word, time-word}
-use Rattle.sdp_back.proofs.FieldLaws.{Backs, left, mapRead, onSeen, unseen, first, see-number, see-time, see-end, see-word, see-then}
+use Rattle.sdp_back.proofs.WordLaws.{Word, spell, tails, joined-bare, words-back, digits-word, time-word}
+use Rattle.sdp_back.proofs.FieldLaws.{Backs, mapRead, onSeen, unseen, first, amountIn, see-number, see-end, see-next}
 
 -- ---- t
 timesFrom : List (List ℕ) → Read Time
 timesFrom ws =
-    onSeen 15 (first ws) (λ s ws. andThen (numbered 15 (wholeNumber 64 s)) (λ start.
-    onSeen 16 (first ws) (λ s ws. andThen (numbered 16 (wholeNumber 64 s)) (λ stop.
-    unseen 17 (first ws) (got (record { startTime = start; stopTime = stop }))))))
+    onSeen (first ws) (λ s ws. andThen (amountIn (wholeNumber 64 s)) (λ start.
+    onSeen (first ws) (λ s ws. andThen (amountIn (wholeNumber 64 s)) (λ stop.
+    unseen (first ws) (got (record { startTime = start; stopTime = stop }))))))
 
-see-times : (v : List ℕ) → mapRead timeIn (timesOf v) ≡ timesFrom (words v)
-unfolding timesFrom records.timesOf
+see-times : (v : List ℕ) → mapRead timeIn (timesOf v) ≡ timesFrom (spell v)
+unfolding timesFrom records.timesOf judge.nextNumber
 see-times v =
-    see-number _ 15 v (left v) (wordAt v 0) _ (see-word v 0) _ _ (λ start e.
-    see-number _ 16 v (left v) (wordAt v e) _ (see-word v e) _ _ (λ stop e.
-    see-end _ 17 v (left v) (wordAt v e) _ (see-word v e) (got _)))
+    let ws = words v in
+    see-number _ 15 v _ (nextWord ws) _ (see-next v ws) _ _ (λ start e.
+    see-number _ 16 v _ (nextWord (later ws)) _ (see-next v (later ws)) _ _ (λ stop e.
+    see-end _ 17 v _ (nextWord (later (later ws))) _ (see-next v (later (later ws))) (got _)))
 
 pub time-line-back : (t : Time) → FitTime t → Backs timesOf (λ v. timeIn) (timeValue t) t
 unfolding timesFrom tails
@@ -51,34 +53,28 @@ time-line-back t f =
     })
 
 -- ---- r
-headFrom : List (List ℕ) → Read (ℕ × ℕ × List (List ℕ))
-headFrom ws =
-    onSeen 18 (first ws) (λ s ws. andThen (numbered 18 (typedTime s)) (λ interval.
-    onSeen 19 (first ws) (λ s ws. andThen (numbered 19 (typedTime s)) (λ duration.
-    got (interval, duration, ws)))))
-
-same : {A : Type 0} (r : Read A) → mapRead (λ x. x) r ≡ r
-same (got a) = refl
-same (refused w) = refl
-
+-- words that spell times
 module _ (v : List ℕ) where
-  abbrev headIs : RepeatHead → ℕ × ℕ × List (List ℕ)
-  headIs h = (h .«repeat_interval», h .«active_duration», left v (h .next))
+  offsets-back : (ws : List Piece) (ns : List ℕ) → map (part v) ws ≡ map timeText ns → Each (λ n. n < 2 ^ 64) ns → offsetsOf v ws ≡ got ns
+  unfolding lists.offsetsOf
+  offsets-back [] [] e h = refl
+  offsets-back [] (n ∷ ns) e h = absurd (let z : _≡_ {A = ℕ} 0 1 = cc in omega arith)
+  offsets-back (p ∷ ws) [] e h = absurd (let z : _≡_ {A = ℕ} 0 1 = cc in omega arith)
+  offsets-back (p ∷ ws) (n ∷ ns) e h =
+      let x : part v p ≡ timeText n = cc in
+      let y : map (part v) ws ≡ map timeText ns = cc in
+      rw (x, time-back n (h .0), offsets-back ws ns y (h .1))
 
-  see-head : mapRead headIs (repeatHead v) ≡ headFrom (words v)
-  unfolding headFrom lists.repeatHead
-  see-head =
-      see-time _ 18 v (left v) (wordAt v 0) _ (see-word v 0) _ _ (λ interval e.
-      see-time _ 19 v (left v) (wordAt v e) _ (see-word v e) _ _ (λ duration e. refl))
-
-  see-repeat : repeatOf v ≡ andThen (headFrom (words v)) (λ h. andThen (offsetsOf (h .2)) (λ os. got (record { interval = h .0; duration = h .1; offsets = os })))
-  unfolding lists.repeatOf
-  see-repeat = sym (same (repeatOf v)) ∙ see-then (λ x. x) headIs (repeatHead v) _ see-head _ _ (λ h. same _)
-
-offsets-back : (ns : List ℕ) → Each (λ n. n < 2 ^ 64) ns → offsetsOf (map timeText ns) ≡ got ns
-unfolding lists.offsetsOf
-offsets-back [] h = refl
-offsets-back (n ∷ ns) h = rw (time-back n (h .0), offsets-back ns (h .1))
+  repeat-back : (ws : List Piece) (interval duration : ℕ) (ns : List ℕ) → words v ≡ ws → map (part v) ws ≡ timeText interval ∷ timeText duration ∷ map timeText ns
+      → interval < 2 ^ 64 → duration < 2 ^ 64 → Each (λ n. n < 2 ^ 64) ns → repeatOf v ≡ got (record { interval = interval; duration = duration; offsets = ns })
+  unfolding lists.repeatOf judge.nextTime
+  repeat-back [] interval duration ns q e a b h = absurd (let z : _≡_ {A = ℕ} 0 1 = cc in omega arith)
+  repeat-back (p ∷ []) interval duration ns q e a b h = absurd (let z : _≡_ {A = ℕ} 0 1 = cc in omega arith)
+  repeat-back (p ∷ r ∷ ws) interval duration ns q e a b h =
+      let x : part v p ≡ timeText interval = cc in
+      let y : part v r ≡ timeText duration = cc in
+      let z : map (part v) ws ≡ map timeText ns = cc in
+      rw (q, x, time-back interval a, y, time-back duration b, offsets-back ws ns z h)
 
 times-words : (ns : List ℕ) → Each Word (map timeText ns)
 times-words [] = tt
@@ -90,12 +86,9 @@ repeatValue interval duration ns = timeText interval ++ tails (timeText duration
 
 pub repeat-line-back : (interval duration : ℕ) (ns : List ℕ) → interval < 2 ^ 64 → duration < 2 ^ 64 → Each (λ n. n < 2 ^ 64) ns
     → (repeatOf (repeatValue interval duration ns) ≡ got (record { interval = interval; duration = duration; offsets = ns })) × (bare (repeatValue interval duration ns) ≡ true)
-unfolding headFrom
 repeat-line-back interval duration ns a b h =
     let w : Each Word (timeText duration ∷ map timeText ns) = (time-word duration, times-words ns) in (
-      (see-repeat (repeatValue interval duration ns)
-          ∙ ap (λ ws. andThen (headFrom ws) (λ h. andThen (offsetsOf (h .2)) (λ os. got (record { interval = h .0; duration = h .1; offsets = os })))) (words-back (timeText interval) (timeText duration ∷ map timeText ns) (time-word interval) w)
-          ∙ rw (time-back interval a, time-back duration b, offsets-back ns h)),
+      repeat-back (repeatValue interval duration ns) _ interval duration ns refl (words-back (timeText interval) (timeText duration ∷ map timeText ns) (time-word interval) w) a b h,
       joined-bare (timeText interval) (timeText duration ∷ map timeText ns) (time-word interval) w,
     )
 
@@ -116,11 +109,17 @@ pairs-words : (zs : List Zone) → Each Word (pairWords zs)
 pairs-words [] = tt
 pairs-words (z ∷ zs) = (digits-word (z .adjustmentTime), (signed-word (z .offset), pairs-words zs))
 
-pairs-back : (zs : List Zone) → Each FitZone zs → mapRead (map zoneIn) (pairsOf (pairWords zs)) ≡ got zs
+pairs-back : (v : List ℕ) (ws : List Piece) (zs : List Zone) → map (part v) ws ≡ pairWords zs → Each FitZone zs → mapRead (map zoneIn) (pairsOf v ws) ≡ got zs
 unfolding lists.pairsOf
-pairs-back [] h = refl
-pairs-back (z ∷ zs) h =
-    rw (number-back 64 (z .adjustmentTime) (h .0 .adjustmentTime), offset-back (z .offset) (h .0 .offset)) (go (pairsOf (pairWords zs)) (pairs-back zs (h .1)))
+pairs-back v [] [] e h = refl
+pairs-back v [] (z ∷ zs) e h = absurd (let z : _≡_ {A = ℕ} 0 1 = cc in omega arith)
+pairs-back v (a ∷ ws) [] e h = absurd (let z : _≡_ {A = ℕ} 0 1 = cc in omega arith)
+pairs-back v (a ∷ []) (z ∷ zs) e h = absurd (let z : _≡_ {A = ℕ} 0 1 = cc in omega arith)
+pairs-back v (a ∷ o ∷ ws) (z ∷ zs) e h =
+    let x : part v a ≡ digits (z .adjustmentTime) = cc in
+    let y : part v o ≡ signedText (z .offset) = cc in
+    let r : map (part v) ws ≡ pairWords zs = cc in
+    rw (x, number-back 64 (z .adjustmentTime) (h .0 .adjustmentTime), y, offset-back (z .offset) (h .0 .offset)) (go (pairsOf v ws) (pairs-back v ws zs r (h .1)))
   where
     go : (r : Read (List zone.Zone)) → mapRead (map zoneIn) r ≡ got zs → mapRead (map zoneIn) (andThen r (λ zs. got (record { «adjustment_time» = z .adjustmentTime; offset = z .offset } ∷ zs))) ≡ got (z ∷ zs)
     go (got ys) e = let q : map zoneIn ys ≡ zs = cc in ap (λ xs. got (z ∷ xs)) q
@@ -141,6 +140,6 @@ zones-line-back z zs h =
     let q : zonesValue z zs ≡ digits (z .adjustmentTime) ++ tails (signedText (z .offset) ∷ pairWords zs) = rw (later-text 2 zs (omega arith)) (append-assoc (digits (z .adjustmentTime)) (spaced (signedText (z .offset))) (tails (pairWords zs))) in
     let w : Each Word (signedText (z .offset) ∷ pairWords zs) = (signed-word (z .offset), pairs-words zs) in
     rw q (record {
-      says = ap (λ ws. mapRead (map zoneIn) (pairsOf ws)) (words-back (digits (z .adjustmentTime)) (signedText (z .offset) ∷ pairWords zs) (digits-word (z .adjustmentTime)) w) ∙ pairs-back (z ∷ zs) h;
+      says = pairs-back _ (words _) (z ∷ zs) (words-back (digits (z .adjustmentTime)) (signedText (z .offset) ∷ pairWords zs) (digits-word (z .adjustmentTime)) w) h;
       bare = joined-bare (digits (z .adjustmentTime)) (signedText (z .offset) ∷ pairWords zs) (digits-word (z .adjustmentTime)) w;
     })
