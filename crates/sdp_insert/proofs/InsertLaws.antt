@@ -1,4 +1,4 @@
--- Lines put into a text leave its answer, but for the refused line's number. Assumes nothing.
+-- Lines put into a text leave its answer, but for the refused line's number and its bad byte's place. Assumes nothing.
 use mathlib.Core.Path.{_≡_, refl, sym, ap, _∙_}
 use mathlib.Core.Logic.{_⊎_, inl, inr}
 use mathlib.Core.List.{List}
@@ -23,26 +23,28 @@ use Rattle.sdp_same.specs.Said.{bytesAt, said, saidVerdict}
 use Rattle.sdp_same.proofs.LinesLaws.{lines-said}
 use Rattle.sdp_same.proofs.SoundLaws.{refusal-number}
 use Rattle.sdp_same.proofs.SameLaws.{read-is}
-use Rattle.sdp_insert.specs.Insert.{ended, Inserted, blank, begun, alone, aboveFrom, above, SameSession, SameRefusal, SameAnswer}
+use Rattle.sdp_insert.specs.Insert.{ended, Inserted, blank, begun, alone, aboveFrom, above, bytesFrom, bytesAbove, SameSession, SameRefusal, SameAnswer}
 use Rattle.sdp_insert.proofs.SplitLaws.{split-line}
 use Rattle.sdp_insert.proofs.RunLaws.{Follows, follows-past, run-follows}
 
 -- ---- up to the version
-begin-follows : {t t′ : List ℕ} (i : Inserted t t′) (n p p′ : ℕ) → Follows n (above i) (begin bytesAt n p (split t)) (begin bytesAt n p′ (split t′))
+begin-follows : {t t′ : List ℕ} (i : Inserted t t′) (n p : ℕ) → Follows n (above i) (bytesAbove i) (begin bytesAt n p (split t)) (begin bytesAt n p (split t′))
 unfolding Run.begin Run.run Lines.split Lines.content Lines.formOf Lines.hasNulOrCr Lines.plainForm Runs.indexOf
-begin-follows (blank {t = t} {t′ = t′} l h e i) n p p′ =
+begin-follows (blank {t = t} {t′ = t′} l h e i) n p =
     rw (split-line l t h, split-line l t′ h, e)
-    (follows-past n (above i) (above (blank l h e i)) _ _ (λ k. refl) (begin-follows i (n + 1) (p + width (ended l)) (p′ + width (ended l))))
-begin-follows (begun {t = t} {t′ = t′} l h e i) n p p′ =
+    (follows-past n (above i) (above (blank l h e i)) (bytesAbove i) (bytesAbove (blank l h e i)) _ _ (λ k. refl) (λ k. refl) (begin-follows i (n + 1) (p + width (ended l))))
+begin-follows (begun {t = t} {t′ = t′} l h e i) n p =
     rw (split-line l t h, split-line l t′ h, e)
-    (follows-past n (λ k. 0 + aboveFrom i k) (above (begun l h e i)) _ _ (λ k. omega arith)
-    (let x : n + 1 + 0 ≡ n + 1 = omega arith in rw x at (run-follows i fresh refl (n + 1) 0 (p + width (ended l)) (p′ + width (ended l)))))
-begin-follows alone n p p′ = inl (record { session = empty; first = refl; second = refl })
+    (follows-past n (λ k. 0 + aboveFrom i k) (above (begun l h e i)) (λ k. 0 + bytesFrom i k) (bytesAbove (begun l h e i)) _ _ (λ k. omega arith) (λ k. omega arith)
+    (let x : n + 1 + 0 ≡ n + 1 = omega arith in
+    let y : p + width (ended l) + 0 ≡ p + width (ended l) = omega arith in
+    rw (x, y) at (run-follows i fresh refl (n + 1) 0 (p + width (ended l)) 0)))
+begin-follows alone n p = inl (record { session = empty; first = refl; second = refl })
 
 -- strings as bytes
-pub lines-follow : {t t′ : List ℕ} (i : Inserted t t′) → Follows 1 (above i) (lines bytesAt t) (lines bytesAt t′)
+pub lines-follow : {t t′ : List ℕ} (i : Inserted t t′) → Follows 1 (above i) (bytesAbove i) (lines bytesAt t) (lines bytesAt t′)
 unfolding Run.lines
-lines-follow i = begin-follows i 1 0 0
+lines-follow i = begin-follows i 1 0
 
 -- ---- strings as places again
 module _ (t : List ℕ) where
@@ -64,14 +66,15 @@ module _ (t : List ℕ) where
   unfolding Run.readText
   read-short a few = rw (lt-ltb (length a) size few)
 
--- ---- over the promise of read: "the same session, or the same refusal with its line moved down by the insertions above it"
+-- ---- over the promise of read: "the same session, or the same refusal with its line moved down by the insertions above it", and
+-- its place by their bytes
 pub insertion : {t t′ : List ℕ} (i : Inserted t t′) → length t ≤ longestText → length t′ ≤ longestText → (a a′ : List ℕ) → SameAnswer i a a′
 insertion {t} {t′} i short short′ a a′ = record {
   full = go (lines-follow i);
   short = λ few few′. record { read = read-short t a few; read′ = read-short t′ a′ few′ };
 }
   where
-    go : Follows 1 (above i) (lines bytesAt t) (lines bytesAt t′) → size ≤ length a → size ≤ length a′ → SameSession t t′ a a′ ⊎ SameRefusal i a a′
+    go : Follows 1 (above i) (bytesAbove i) (lines bytesAt t) (lines bytesAt t′) → size ≤ length a → size ≤ length a′ → SameSession t t′ a a′ ⊎ SameRefusal i a a′
     go (inl h) room room′ =
         let x = accepted-from t (h .session) (h .first) in
         let x′ = accepted-from t′ (h .session) (h .second) in
@@ -91,6 +94,7 @@ insertion {t} {t′} i short short′ a a′ = record {
           number = h .number;
           field = h .field;
           k = h .k;
+          place = h .place;
           refusal = refusal-number t _ x;
           read = read-is t a short room _ x;
           read′ = read-is t′ a′ short′ room′ _ x′;

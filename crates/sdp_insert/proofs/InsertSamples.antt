@@ -11,7 +11,7 @@ use Rattle.sdp_lines.specs.declared.Form.the-variants.{Good}
 use Rattle.sdp_roles.specs.Roles
 use Rattle.sdp_roles.specs.Roles.{beforeMedia, fromMedia}
 use Rattle.sdp_roles.specs.declared.Role.the-variants.{Nothing}
-use Rattle.sdp_insert.specs.Insert.{hasLf, endedForm, Idle, version, Inserted, begun, same, keep, put, above}
+use Rattle.sdp_insert.specs.Insert.{hasLf, endedForm, Idle, version, Inserted, begun, same, keep, put, above, bytesAbove}
 
 -- m=a 1 b c
 abbrev media : List ℕ
@@ -37,6 +37,11 @@ sample = begun version refl refl (put (13 ∷ []) refl tt (put later refl refl (
 pub sample-above : (above sample 0 ≡ 0) × (above sample 1 ≡ 2) × (above sample 2 ≡ 4)
 unfolding sample
 sample-above = (refl, refl, refl)
+
+-- CR LF and `v=1` with its LF are 6 bytes; `t=` with its LF and an empty line 4 more
+pub sample-bytes : (bytesAbove sample 0 ≡ 0) × (bytesAbove sample 1 ≡ 6) × (bytesAbove sample 2 ≡ 10)
+unfolding sample
+sample-bytes = (refl, refl, refl)
 
 -- before a media `t=` has a use
 pub time-used : Idle 0 (endedForm time) → ⊥

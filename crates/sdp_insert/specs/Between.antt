@@ -32,7 +32,7 @@ abbrev pub AllIdle : ℕ → List (List ℕ) → Type 0
 AllIdle medias [] = Unit
 AllIdle medias (l ∷ ls) = Idle medias (endedForm l) × AllIdle medias ls
 
--- above says that m lines were put in behind the first n: k lines of the first text stand above a line
+-- above says that m lines, or bytes, were put in behind the first n lines: k lines of the first text stand above a line
 pub record Below (n m : ℕ) (above : ℕ → ℕ) : Type 0 where
   pub before : (k : ℕ) → k < n → above k ≡ 0
   pub behind : (k : ℕ) → n ≤ k → above k ≡ m

@@ -1,6 +1,7 @@
 -- Demand 3, first half: "Take a text whose first non-empty line is `v=0`. Insert, after that line and between whole lines, empty
 -- lines or well-formed lines whose letter has no use at that place. If both texts are within 32,768 bytes, the answer is demand 2's answer for
--- the first text: the same session, or the same refusal with its line moved down by the insertions above it."
+-- the first text: the same session, or the same refusal with its line moved down by the insertions above it." Document 02, P2: "In demand 3
+-- the place moves by the inserted bytes above it."
 use mathlib.Core.Path.{_≡_}
 use mathlib.Core.Logic.{_⊎_}
 use mathlib.Core.Bool.{Bool, true, false, _||_}
@@ -19,7 +20,7 @@ use Rattle.sdp_area.specs.Area.{size}
 use Rattle.sdp_roles.specs.Roles.{roleAt}
 use Rattle.sdp_roles.specs.declared.Role.the-variants.{Nothing}
 use Rattle.sdp_strings.specs.Strings.{spanAt}
-use Rattle.sdp_read.specs.Run.{accepted, answer, onLine, outcomeOf, lines, readText}
+use Rattle.sdp_read.specs.Run.{Verdict, accepted, refused, answer, placeOf, outcomeOf, lines, readText}
 use Rattle.sdp_same.specs.Said.{said}
 use Rattle.sdp_bound.specs.Kept.{roleOf, opens}
 
@@ -84,6 +85,21 @@ above (begun l h e i) zero = 0
 above (begun l h e i) (suc k) = aboveFrom i k
 above alone k = 0
 
+-- document 02, P2, "the inserted bytes above it": the same in bytes. A line put in has its own LF, and its CR is one of its bytes
+abbrev pub bytesFrom : {medias : ℕ} {t t′ : List ℕ} → InsertedFrom medias t t′ → ℕ → ℕ
+bytesFrom (same medias t) k = 0
+bytesFrom (keep l h i) zero = 0
+bytesFrom (keep l h i) (suc k) = bytesFrom i k
+bytesFrom (put l h u i) k = length l + 1 + bytesFrom i k
+
+-- the same from the first line on
+abbrev pub bytesAbove : {t t′ : List ℕ} → Inserted t t′ → ℕ → ℕ
+bytesAbove (blank l h e i) zero = 0
+bytesAbove (blank l h e i) (suc k) = bytesAbove i k
+bytesAbove (begun l h e i) zero = 0
+bytesAbove (begun l h e i) (suc k) = bytesFrom i k
+bytesAbove alone k = 0
+
 -- ---- the answers: t is read into the area a, t′ into the area a′
 -- "the same session": counts, numbers, presence, owners and string bytes agree. The two sessions are what the texts say, which the bytes of
 -- the areas alone would not tell: these hold a place's last two bytes
@@ -96,14 +112,20 @@ pub record SameSession (t t′ a a′ : List ℕ) : Type 0 where
   pub read′ : readText t′ a′ ≡ outcomeOf a′ (accepted session′)
   pub said : said (bytesOf t) session ≡ said (bytesOf t′) session′
 
--- "the same refusal with its line moved down by the insertions above it": the refused line has k lines of t above it
+-- a refusal of a line; with 8 it names the byte at place, with any other number none
+abbrev pub onByte : {S : Type 0} → ℕ → ℕ → ℕ → ℕ → Verdict S
+onByte number line field place = refused (record { number = number; line = line; field = field; place = placeOf number place; len = 0 })
+
+-- "the same refusal with its line moved down by the insertions above it", and its place by their bytes: the refused line has k lines of t
+-- above it
 pub record SameRefusal {t t′ : List ℕ} (i : Inserted t t′) (a a′ : List ℕ) : Type 0 where
   pub number : ℕ
   pub field : ℕ
   pub k : ℕ
+  pub place : ℕ
   pub refusal : 0 < number
-  pub read : readText t a ≡ outcomeOf a (onLine number (1 + k) field)
-  pub read′ : readText t′ a′ ≡ outcomeOf a′ (onLine number (1 + k + above i k) field)
+  pub read : readText t a ≡ outcomeOf a (onByte number (1 + k) field place)
+  pub read′ : readText t′ a′ ≡ outcomeOf a′ (onByte number (1 + k + above i k) field (place + bytesAbove i k))
 
 -- "Area too short": 2 for both, "area unchanged"
 pub record TooShort (t t′ a a′ : List ℕ) : Type 0 where
