@@ -4,7 +4,7 @@ use mathlib.Core.Path.{_≡_}
 use mathlib.Core.Bool.{false}
 use mathlib.Core.List.{List}
 use Rattle.sdp_numbers.specs.Refusals as refusals
-use Rattle.sdp_utf8.specs.Utf8.{isUtf8}
+use Rattle.sdp_utf8.specs.Utf8.{utf8End, isUtf8}
 use Rattle.sdp_split.specs.Split.{part, Inside}
 use Rattle.sdp_split.specs.declared.Piece.{Piece}
 use Rattle.sdp_judge.specs.Read.{badByte}
@@ -18,6 +18,8 @@ pub record NamesByte (v : List ℕ) (w : Wrong) : Type 0 where
   pub inside : Inside v piece
   pub at : w .at ≡ badByte v piece
   pub bad : isUtf8 (part v piece) ≡ false
+  -- nothing before it is bad: it is where the whole value stops being UTF-8
+  pub first : w .at ≡ utf8End v
 
 -- a refusal with 8 names a byte, another one none
 pub record Blames (v : List ℕ) (w : Wrong) : Type 0 where

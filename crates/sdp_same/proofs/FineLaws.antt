@@ -43,7 +43,7 @@ use Rattle.sdp_split.proofs.WordLaws.{AllInside, words-inside, next-inside, lat
 use Rattle.sdp_number.proofs.NumberLaws.{number-below}
 use Rattle.sdp_step.specs.Step.{maybeIn, originIn, connectionIn, attributeIn, bandwidthIn, portsIn, mediaIn, timeIn, zoneIn}
 use Rattle.sdp_same.specs.Fits.{IfGiven, Each, FitOrigin, FitConnection, FitBandwidth, FitAttribute, FitMedia, FitTime, FitZone}
-use Rattle.sdp_same.proofs.TokenLaws.{token-utf8}
+use Rattle.sdp_utf8.proofs.TokenLaws.{token-utf8}
 
 -- a piece of v that is UTF-8
 pub record Fine (v : List ℕ) (p : Piece) : Type 0 where

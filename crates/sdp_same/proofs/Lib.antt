@@ -5,7 +5,6 @@ pub mod TableLaws
 pub mod DecodeLaws
 pub mod StepLaws
 pub mod LinesLaws
-pub mod TokenLaws
 pub mod FineLaws
 pub mod RowLaws
 pub mod KeptLaws

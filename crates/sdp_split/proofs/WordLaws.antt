@@ -101,30 +101,28 @@ word-none v i h = go (wordsAt v i) h
     go [] h = refl
     go (p ∷ ws) h = absurd (let z : _≡_ {A = ℕ} 0 1 = cc in omega arith)
 
-pub word-next : (v : List ℕ) (i : ℕ) (p : Piece) (e : ℕ) → wordAt v i ≡ Got p e
-    → (wordsAt v i ≡ p ∷ wordsAt v e) × ((i < e) × (e ≤ length v))
+-- where it stands: behind the spaces, up to the next one
+pub word-place : (v : List ℕ) (i : ℕ) (p : Piece) (e : ℕ) → wordAt v i ≡ Got p e
+    → (wordsAt v i ≡ p ∷ wordsAt v e) × (p .at ≡ i + spaces (drop i v)) × (p .len ≡ indexOf 0x20 (drop (p .at) v)) × (e ≡ p .at + p .len) × (0 < p .len) × (e ≤ length v)
 unfolding wordAt
-word-next v i p e h = go (i + spaces (drop i v)) refl (decLt _ (length v))
+word-place v i p e h = go (i + spaces (drop i v)) refl (decLt _ (length v))
   where
-    go : (j : ℕ) → j ≡ i + spaces (drop i v) → Dec (j < length v) → (wordsAt v i ≡ p ∷ wordsAt v e) × ((i < e) × (e ≤ length v))
+    go : (j : ℕ) → j ≡ i + spaces (drop i v) → Dec (j < length v)
+        → (wordsAt v i ≡ p ∷ wordsAt v e) × (p .at ≡ i + spaces (drop i v)) × (p .len ≡ indexOf 0x20 (drop (p .at) v)) × (e ≡ p .at + p .len) × (0 < p .len) × (e ≤ length v)
     go j q (yes l) =
         let w = here v i j q l in
         let k : Got (record { at = j; len = indexOf 0x20 (drop j v) }) (j + indexOf 0x20 (drop j v)) ≡ Got p e = sym (ap nextWord (w .0)) ∙ h in
         let x : record { at = j; len = indexOf 0x20 (drop j v) } ≡ p = cc in
         let y : j + indexOf 0x20 (drop j v) ≡ e = cc in
-        rw (← x, ← y) (w .0, (omega (arith, w .1, q), omega (arith, index-le 0x20 (drop j v), length-drop j v, l)))
+        rw (← x, ← y) (w .0, q, refl, refl, w .1, omega (arith, index-le 0x20 (drop j v), length-drop j v, l))
     go j q (no l) = absurd (let k = sym (ap nextWord (gone v i j q (omega arith))) ∙ h in let z : _≡_ {A = ℕ} 0 1 = cc in omega arith)
 
+pub word-next : (v : List ℕ) (i : ℕ) (p : Piece) (e : ℕ) → wordAt v i ≡ Got p e
+    → (wordsAt v i ≡ p ∷ wordsAt v e) × ((i < e) × (e ≤ length v))
+word-next v i p e h = let w = word-place v i p e h in (w .0, (omega (arith, w .1, w .3, w .4), w .5))
+
 pub word-within : (v : List ℕ) (i : ℕ) → Within v (wordAt v i)
-unfolding wordAt
-word-within v i p e h =
-    let w = word-next v i p e h in
-    let x : p .at + p .len ≡ e = go (wordsAt v i) h in
-    (omega (arith, w .1 .1), w .1 .1)
-  where
-    go : (ws : List Piece) → nextWord ws ≡ Got p e → p .at + p .len ≡ e
-    go [] h = absurd (let z : _≡_ {A = ℕ} 0 1 = cc in omega arith)
-    go (q ∷ ws) h = let x : q ≡ p = cc in let y : q .at + q .len ≡ e = cc in sym (ap (λ (r : Piece). r .at + r .len) x) ∙ y
+word-within v i p e h = let w = word-place v i p e h in (omega (arith, w .3, w .5), w .5)
 
 -- ---- all words lie within the value
 abbrev pub AllInside : List ℕ → List Piece → Type 0

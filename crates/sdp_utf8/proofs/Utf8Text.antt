@@ -65,6 +65,11 @@ text-append (more (b ∷ c) s k t) u =
     let l = length-append (b ∷ c) s in
     rw w (omega arith)
 
+-- one text behind another
+pub text-join : {s u : List ℕ} → Text s → Text u → Text (s ++ u)
+text-join none t = t
+text-join {u = u} (more c s k r) t = rw (append-assoc c s u) (more c (s ++ u) k (text-join r t))
+
 beginning : (n : ℕ) (s : List ℕ) → length s ≤ n → Text (take (utf8End s) s)
 unfolding utf8End endFrom
 beginning zero [] h = none
