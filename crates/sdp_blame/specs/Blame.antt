@@ -12,7 +12,7 @@ use Rattle.sdp_judge.specs.declared.Wrong.{Wrong}
 use Rattle.sdp_blame.specs.Field.{FieldOf}
 
 -- it is "the end of the longest well-formed beginning" of the refused field, which is not UTF-8
-pub record NamesByte (v : List ℕ) (w : Wrong) : Type 0 where
+pub record BadByte (v : List ℕ) (w : Wrong) : Type 0 where
   pub piece : Piece
   pub field : FieldOf v (w .field) piece
   pub inside : Inside v piece
@@ -23,5 +23,5 @@ pub record NamesByte (v : List ℕ) (w : Wrong) : Type 0 where
 
 -- a refusal with 8 names a byte, another one none
 pub record Blames (v : List ℕ) (w : Wrong) : Type 0 where
-  pub byte : w .number ≡ refusals.encoding → NamesByte v w
+  pub byte : w .number ≡ refusals.encoding → BadByte v w
   pub none : (w .number ≡ refusals.encoding → ⊥) → w .at ≡ 0

@@ -1,15 +1,15 @@
 -- A text that is refused with 8: its answer names the bad byte of the refused field. With any other number but 7 it names no place.
 -- Assumes nothing.
-use Prim.Native.Nat.{ℕ, _+_, _≤_, _<_}
+use Prim.Native.Nat.{ℕ, _+_}
 use native.Mathlib.Omega.{arith}
-use mathlib.Core.Path.{_≡_, refl, sym, ap, _∙_, subst}
+use mathlib.Core.Path.{_≡_, refl, sym, ap, _∙_}
 use mathlib.Core.Bool.{Bool, true, false, cond}
 use mathlib.Core.List.{List, [], _∷_, _++_, append-assoc}
 use borrow.Author.Tests.{eq-eqb, ne-eqb}
 use lib.Dec.{ltb, eqb}
-use lib.ListN.{length, take, drop, length-take, length-drop, length-append}
+use lib.ListN.{length, drop, length-take, length-drop, length-append}
 use Rattle.sdp_numbers.specs.Refusals.{longestText}
-use Rattle.sdp_utf8.specs.Utf8.{utf8End, isUtf8}
+use Rattle.sdp_utf8.specs.Utf8.{utf8End}
 use Rattle.sdp_utf8.proofs.Utf8Text.{utf8-sound, utf8-longest}
 use Rattle.sdp_utf8.proofs.BreakLaws.{utf8-short}
 use Rattle.sdp_lines.specs.Lines.{Raw, split, content, width, formOf}
@@ -21,7 +21,7 @@ use Rattle.sdp_lines.specs.declared.Form.{Form}
 use Rattle.sdp_lines.specs.declared.Form.the-variants.{Blank, Good, Bad}
 use Rattle.sdp_lines.specs.Answers.{faultNumber}
 use Rattle.sdp_lines.proofs.LineLaws.{good-form}
-use Rattle.sdp_split.specs.Split.{part, Inside}
+use Rattle.sdp_split.specs.Split.{part}
 use Rattle.sdp_judge.specs.declared.Wrong.{Wrong}
 use Rattle.sdp_area.specs.Area.{size}
 use Rattle.sdp_strings.specs.Strings.{spanAt}
@@ -30,9 +30,9 @@ use Rattle.sdp_blame.specs.Blame.{Blames}
 use Rattle.sdp_blame.proofs.StepLaws.{step-blames}
 use Rattle.sdp_read.specs.Run as reader
 use Rattle.sdp_read.specs.Run.{Verdict, accepted, refused, noVersion, badVersion, isZero, wrongAt, outcomeOf, after, stepForm, run, version, beginForm, begin, lines, readText}
-use Rattle.sdp_same.proofs.StandsLaws.{Stands}
+use Rattle.sdp_turn.proofs.TurnLaws.{fault-told}
 use Rattle.sdp_same.proofs.LinesLaws.{piece-said, stands-drop, first-stands}
-use Rattle.sdp_byte.specs.Byte.{widths, valueOf, NamesByte}
+use Rattle.sdp_byte.specs.Byte.{widths, valueOf, NamesByte, Tells}
 
 -- ---- lines one by one
 module _ (t : List ℕ) where
@@ -63,7 +63,11 @@ module _ (t : List ℕ) where
   -- what an answer must say
   abbrev Told : Verdict Span → Type 0
   Told (accepted s) = Unit {0}
-  Told (refused x) = x .number ≡ 8 → NamesByte t x
+  Told (refused x) = Tells t x
+
+  -- no other number but 7 has a place
+  other : (number line field : ℕ) → (number ≡ 8 → ⊥) → Tells t (reader.answer number line field)
+  other number line field h = record { byte = λ e. absurd (h e); none = λ e f. refl }
 
   -- the refused line, of good form
   line-told : (above rs : List Raw) (r : Raw) (n p : ℕ) → Reached above (r ∷ rs) n p → (c : ℕ) → formOf (content r) ≡ Good c → (w : Wrong) → Blames (valueOf r) w → w .number ≡ 8
@@ -114,12 +118,15 @@ module _ (t : List ℕ) where
       stepped : (c : ℕ) → formOf (content r) ≡ Good c → (σ : Stepped Span) → step (spanAt (p + 2) (valueOf r)) ρ (valueOf r) c ≡ σ
           → ((τ : Reading Span) → Told (run spanAt τ (n + 1) (p + width r) rs)) → Told (after spanAt σ n (p + 2) (λ τ. run spanAt τ (n + 1) (p + width r) rs))
       stepped c f (goes τ) q ih = ih τ
-      stepped c f (stops w) q ih = line-told above rs r n p h c f w (step-blames (valueOf r) (spanAt (p + 2) (valueOf r)) ρ c w q)
+      stepped c f (stops w) q ih = record {
+        byte = line-told above rs r n p h c f w (step-blames (valueOf r) (spanAt (p + 2) (valueOf r)) ρ c w q);
+        none = λ e g. rw (ne-eqb (w .number) 8 e);
+      }
 
       form : (g : Form) → formOf (content r) ≡ g → ((τ : Reading Span) → Told (run spanAt τ (n + 1) (p + width r) rs))
           → Told (after spanAt (stepForm spanAt ρ p (content r) g) n (p + 2) (λ τ. run spanAt τ (n + 1) (p + width r) rs))
       form Blank f ih = ih ρ
-      form (Bad x) f ih = λ e. absurd (fault-other x e)
+      form (Bad x) f ih = rw (fault-told n (p + 2) x) (other (faultNumber x) n 0 (fault-other x))
       form (Good c) f ih = stepped c f (step (spanAt (p + 2) (valueOf r)) ρ (valueOf r) c) refl ih
 
   -- ---- and before it: 3 to 7
@@ -128,17 +135,17 @@ module _ (t : List ℕ) where
     where
       go : (a b : Bool) → Told (cond a (cond b k (refused (badVersion n p (length v)))) (refused noVersion))
       go true true = h
-      go true false = λ e. absurd (omega arith)
-      go false b = λ e. absurd (omega arith)
+      go true false = record { byte = λ e. absurd (omega arith); none = λ e f. absurd (f refl) }
+      go false b = other 6 0 0 (λ e. omega arith)
 
   begin-told : (rs above : List Raw) (n p : ℕ) → Reached above rs n p → Told (begin spanAt n p rs)
   unfolding reader.begin
-  begin-told [] above n p h = λ e. absurd (omega arith)
+  begin-told [] above n p h = other 6 0 0 (λ e. omega arith)
   begin-told (r ∷ rs) above n p h = form (formOf (content r)) (begin-told rs (above ++ (r ∷ [])) (n + 1) (p + width r) (past above rs r n p h))
     where
       form : (g : Form) → Told (begin spanAt (n + 1) (p + width r) rs) → Told (beginForm spanAt n p (content r) g (begin spanAt (n + 1) (p + width r) rs) (run spanAt fresh (n + 1) (p + width r) rs))
       form Blank ih = ih
-      form (Bad x) ih = λ e. absurd (fault-other x e)
+      form (Bad x) ih = other (faultNumber x) n 0 (fault-other x)
       form (Good c) ih = version-told n (p + 2) (valueOf r) c _ (run-told rs (above ++ (r ∷ [])) fresh (n + 1) (p + width r) (past above rs r n p h))
 
   lines-told : Told (lines spanAt t)
@@ -146,18 +153,15 @@ module _ (t : List ℕ) where
   lines-told = begin-told (split t) [] 1 0 begins
 
   -- ---- over the promise of read
-  outcome-told : (a : List ℕ) (v : Verdict Span) → Told v → outcomeOf a v .answer .number ≡ 8 → NamesByte t (outcomeOf a v .answer)
-  outcome-told a (accepted s) h e = absurd (omega arith)
-  outcome-told a (refused x) h e = h e
+  outcome-told : (a : List ℕ) (v : Verdict Span) → Told v → Tells t (outcomeOf a v .answer)
+  outcome-told a (accepted s) h = other 0 0 0 (λ e. omega arith)
+  outcome-told a (refused x) h = h
 
-  pub byte-named : (a : List ℕ) → readText t a .answer .number ≡ 8 → NamesByte t (readText t a .answer)
+  pub byte-told : (a : List ℕ) → Tells t (readText t a .answer)
   unfolding reader.readText
-  byte-named a = go (ltb (length a) size) (ltb longestText (length t))
+  byte-told a = go (ltb (length a) size) (ltb longestText (length t))
     where
-      answer : Bool → Bool → reader.Outcome
-      answer b c = cond b (record { answer = reader.answer 2 0 0; area = a }) (cond c (record { answer = reader.answer 1 0 0; area = a }) (outcomeOf a (lines spanAt t)))
-
-      go : (b c : Bool) → answer b c .answer .number ≡ 8 → NamesByte t (answer b c .answer)
-      go true c e = absurd (omega arith)
-      go false true e = absurd (omega arith)
-      go false false e = outcome-told a (lines spanAt t) lines-told e
+      go : (b c : Bool) → Tells t (cond b (record { answer = reader.answer 2 0 0; area = a }) (cond c (record { answer = reader.answer 1 0 0; area = a }) (outcomeOf a (lines spanAt t))) .answer)
+      go true c = other 2 0 0 (λ e. omega arith)
+      go false true = other 1 0 0 (λ e. omega arith)
+      go false false = outcome-told a (lines spanAt t) lines-told

@@ -37,8 +37,7 @@ put-between : (ls xs : List (List ℕ)) (medias : ℕ) (y : List ℕ) → NoneHa
 put-between [] xs medias y g h u = put-all xs medias y h u
 put-between (l ∷ ls) xs medias y g h u =
     let ih = put-between ls xs (medias + opens (roleOf medias (endedForm l))) y (g .1) h u in
-    rw (append-assoc l (10 ∷ whole ls) y, append-assoc l (10 ∷ whole ls) (whole xs ++ y))
-    (
+    rw (append-assoc l (10 ∷ whole ls) y, append-assoc l (10 ∷ whole ls) (whole xs ++ y)) (
       keep l (g .0) (ih .0),
       below-next (length ls) (length xs) (aboveFrom (ih .0)) (aboveFrom (keep l (g .0) (ih .0))) refl (λ k. refl) (ih .1),
       below-next (length ls) (length (whole xs)) (bytesFrom (ih .0)) (bytesFrom (keep l (g .0) (ih .0))) refl (λ k. refl) (ih .2),
@@ -52,16 +51,14 @@ pub text-between : (bs : List (List ℕ)) (v : List ℕ) (ls xs : List (List ℕ
     × Below (length (bs ++ (v ∷ ls))) (length (whole xs)) (bytesAbove i)
 text-between [] v ls xs y b e g h u =
     let r = put-between ls xs 0 y (g .1) h u in
-    rw (append-assoc v (10 ∷ whole ls) y, append-assoc v (10 ∷ whole ls) (whole xs ++ y))
-    (
+    rw (append-assoc v (10 ∷ whole ls) y, append-assoc v (10 ∷ whole ls) (whole xs ++ y)) (
       begun v (g .0) e (r .0),
       below-next (length ls) (length xs) (aboveFrom (r .0)) (above (begun v (g .0) e (r .0))) refl (λ k. refl) (r .1),
       below-next (length ls) (length (whole xs)) (bytesFrom (r .0)) (bytesAbove (begun v (g .0) e (r .0))) refl (λ k. refl) (r .2),
     )
 text-between (l ∷ bs) v ls xs y b e g h u =
     let ih = text-between bs v ls xs y (b .1) e (g .1) h u in
-    rw (append-assoc l (10 ∷ whole (bs ++ (v ∷ ls))) y, append-assoc l (10 ∷ whole (bs ++ (v ∷ ls))) (whole xs ++ y))
-    (
+    rw (append-assoc l (10 ∷ whole (bs ++ (v ∷ ls))) y, append-assoc l (10 ∷ whole (bs ++ (v ∷ ls))) (whole xs ++ y)) (
       blank l (g .0) (b .0) (ih .0),
       below-next (length (bs ++ (v ∷ ls))) (length xs) (above (ih .0)) (above (blank l (g .0) (b .0) (ih .0))) refl (λ k. refl) (ih .1),
       below-next (length (bs ++ (v ∷ ls))) (length (whole xs)) (bytesAbove (ih .0)) (bytesAbove (blank l (g .0) (b .0) (ih .0))) refl (λ k. refl) (ih .2),

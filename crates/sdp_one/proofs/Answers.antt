@@ -24,6 +24,7 @@ use Rattle.sdp_split.proofs.first_piece.Reads as sdpSplitFirstPiece
 use Rattle.sdp_split.proofs.piece_after.Reads as sdpSplitPieceAfter
 use Rattle.sdp_split.proofs.rest_after.Reads as sdpSplitRestAfter
 use Rattle.sdp_judge.proofs.wrong_of.Reads as sdpJudgeWrongOf
+use Rattle.sdp_judge.proofs.not_utf8.Reads as sdpJudgeNotUtf8
 use Rattle.sdp_judge.proofs.text_of.Reads as sdpJudgeTextOf
 use Rattle.sdp_judge.proofs.number_of.Reads as sdpJudgeNumberOf
 use Rattle.sdp_judge.proofs.time_of.Reads as sdpJudgeTimeOf
@@ -33,7 +34,7 @@ use Rattle.sdp_judge.proofs.word_token.Reads as sdpJudgeWordToken
 use Rattle.sdp_judge.proofs.word_number.Reads as sdpJudgeWordNumber
 use Rattle.sdp_judge.proofs.word_time.Reads as sdpJudgeWordTime
 use Rattle.sdp_judge.proofs.whole.Reads as sdpJudgeWhole
-use Rattle.sdp_judge.proofs.offset.Reads as sdpJudgeOffset
+use Rattle.sdp_judge.proofs.offset_of.Reads as sdpJudgeOffsetOf
 use Rattle.sdp_fields.proofs.Origin.parse.Reads as sdpFieldsOriginParse
 use Rattle.sdp_fields.proofs.Connection.parse.Reads as sdpFieldsConnectionParse
 use Rattle.sdp_fields.proofs.Bandwidth.parse.Reads as sdpFieldsBandwidthParse
@@ -71,7 +72,6 @@ use Rattle.sdp_area.proofs.medias.Reads as sdpAreaMedias
 use Rattle.sdp_roles.proofs.role_at.Reads as sdpRolesRoleAt
 use Rattle.sdp_strings.proofs.span_of.Reads as sdpStringsSpanOf
 use Rattle.sdp_strings.proofs.maybe_of.Reads as sdpStringsMaybeOf
-use Rattle.sdp_step.proofs.refused.Reads as sdpStepRefused
 use Rattle.sdp_step.proofs.stored.Reads as sdpStepStored
 use Rattle.sdp_line.proofs.opening_line.Reads as sdpLineOpeningLine
 use Rattle.sdp_turn.proofs.search_of.Reads as sdpTurnSearchOf
@@ -192,6 +192,9 @@ sdp-split-rest-after κs a z z′ e e′ p q = same p q
 pub sdp-judge-wrong-of : OneAnswer sdpJudgeWrongOf.Learnt
 sdp-judge-wrong-of κs a z z′ e e′ p q = same p q
 
+pub sdp-judge-not-utf8 : OneAnswer sdpJudgeNotUtf8.Learnt
+sdp-judge-not-utf8 κs a z z′ e e′ p q = same p q
+
 pub sdp-judge-text-of : OneAnswer sdpJudgeTextOf.Learnt
 sdp-judge-text-of κs a z z′ e e′ p q = same p q
 
@@ -219,8 +222,8 @@ sdp-judge-word-time κs a z z′ e e′ p q = same p q
 pub sdp-judge-whole : OneAnswer sdpJudgeWhole.Learnt
 sdp-judge-whole κs a z z′ e e′ p q = same p q
 
-pub sdp-judge-offset : OneAnswer sdpJudgeOffset.Learnt
-sdp-judge-offset κs a z z′ e e′ p q = same p q
+pub sdp-judge-offset-of : OneAnswer sdpJudgeOffsetOf.Learnt
+sdp-judge-offset-of κs a z z′ e e′ p q = same p q
 
 -- ---- sdp_fields
 pub sdp-fields-Origin-parse : OneAnswer sdpFieldsOriginParse.Learnt
@@ -341,9 +344,6 @@ pub sdp-strings-maybe-of : OneAnswer sdpStringsMaybeOf.Learnt
 sdp-strings-maybe-of κs a z z′ e e′ p q = same p q
 
 -- ---- sdp_step
-pub sdp-step-refused : OneAnswer sdpStepRefused.Learnt
-sdp-step-refused κs a z z′ e e′ p q = same p q
-
 pub sdp-step-stored : OneAnswer sdpStepStored.Learnt
 sdp-step-stored κs a z z′ e e′ p q = same p q
 

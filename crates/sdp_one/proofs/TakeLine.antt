@@ -31,11 +31,11 @@ use Rattle.sdp_one.proofs.OneLaws.{same}
 
 handled-once : (x : Stepped Span) (r r′ : Taken) (a a′ t : List ℕ) → Handled x r a t → Handled x r′ a′ t → (r ≡ r′) × (seen r a ≡ seen r′ a′)
 handled-once (goes ρ) (Kept m) (Kept m′) a a′ t h k = (ap Kept (same (h .marks) (k .marks)), same (h .bytes) (k .bytes))
-handled-once (goes ρ) (Kept m) (Refused n f) a a′ t h k = absurd k
-handled-once (goes ρ) (Refused n f) r′ a a′ t h k = absurd h
-handled-once (stops n f) (Kept m) r′ a a′ t h k = absurd h
-handled-once (stops n f) (Refused i g) (Kept m) a a′ t h k = absurd k
-handled-once (stops n f) (Refused i g) (Refused j g′) a a′ t h k = (cc, same (h .2) (k .2))
+handled-once (goes ρ) (Kept m) (Refused w) a a′ t h k = absurd k
+handled-once (goes ρ) (Refused w) r′ a a′ t h k = absurd h
+handled-once (stops w) (Kept m) r′ a a′ t h k = absurd h
+handled-once (stops w) (Refused x) (Kept m) a a′ t h k = absurd k
+handled-once (stops w) (Refused x) (Refused y) a a′ t h k = (ap Refused (same (h .0) (k .0)), same (h .1) (k .1))
 
 left-once : (v : Verdict Span) (e e′ : Ended) (a a′ t : List ℕ) → Left v e a t → Left v e′ a′ t → (e ≡ e′) × (seenTurn (Over e) a ≡ seenTurn (Over e′) a′)
 left-once (accepted σ) Accepted Accepted a a′ t h k = (refl, same h k)

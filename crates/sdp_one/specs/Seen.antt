@@ -12,7 +12,7 @@ use Rattle.sdp_turn.specs.declared.Turn.the-variants.{Goes, Over}
 -- a line that is kept leaves all of the area, a refusal the bytes behind the session
 abbrev pub seen : Taken → List ℕ → List ℕ
 seen (Kept m) a = a
-seen (Refused n f) a = drop size a
+seen (Refused w) a = drop size a
 
 -- the same of what a line does to a run
 abbrev pub seenTurn : Turn → List ℕ → List ℕ

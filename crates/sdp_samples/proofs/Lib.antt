@@ -1,2 +1,3 @@
 pub mod SampleLaws
 pub mod PlaceLaws
+pub mod ByteLaws

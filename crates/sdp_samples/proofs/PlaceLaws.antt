@@ -21,7 +21,7 @@ use Rattle.sdp_samples.specs.Places.{ZonePlaces, R, Z, opened}
 use Rattle.sdp_samples.proofs.SampleLaws.{refuses}
 
 pub zone-places : ZonePlaces
-unfolding Order.orderOf Order.letters Expression.matches Expression.after Expression.maybeEmpty Runs.indexOf Ranges.fits Token.isToken Token.allToken Utf8.isUtf8 Utf8.utf8End Utf8.endFrom Utf8.charLen Number.allDigits Number.value Number.digitsBelow Number.dropPlus Number.numeral Number.wholeNumber Number.typedTime Lines.split Lines.chop Lines.content Lines.width Lines.hasNulOrCr Lines.plainForm Lines.formOf Split.spaces Split.wordAt Split.firstPiece Split.restAfter Split.wordsFrom Split.words Read.wholeOf Offset.offsetOf Records.addressOf Records.originOf Records.timesOf Lists.repeatHead Lists.offsetsOf Lists.repeatOf Lists.pairsOf Lists.zonesOf Roles.beforeMedia Step.row Step.stepRole Run.run Run.begin Run.lines
+unfolding Order.orderOf Order.letters Expression.matches Expression.after Expression.maybeEmpty Runs.indexOf Ranges.fits Token.isToken Token.allToken Utf8.isUtf8 Utf8.utf8End Utf8.endFrom Utf8.charLen Number.allDigits Number.value Number.digitsBelow Number.dropPlus Number.numeral Number.wholeNumber Number.typedTime Lines.split Lines.chop Lines.content Lines.width Lines.hasNulOrCr Lines.plainForm Lines.formOf Split.firstPiece Split.restAfter Split.wordsFrom Split.wordsAt Read.wholeOf Offset.zoneOffset Read.nextText Read.nextToken Read.nextNumber Read.nextTime Records.addressOf Records.originOf Records.timesOf Lists.offsetsOf Lists.repeatOf Lists.pairsOf Lists.zonesOf Roles.beforeMedia Step.row Step.stepRole Run.run Run.begin Run.lines
 zone-places = record {
   each-time = refl;
   first-time = refl;

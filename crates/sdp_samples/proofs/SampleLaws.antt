@@ -16,6 +16,7 @@ use Rattle.sdp_lines.specs.Strings.{bytesOf}
 use Rattle.sdp_lines.specs.declared.Answer.{Answer}
 use Rattle.sdp_lines.specs.declared.Span.{Span}
 use Rattle.sdp_split.specs.Split
+use Rattle.sdp_judge.specs.Read
 use Rattle.sdp_judge.specs.Offset
 use Rattle.sdp_fields.specs.Records
 use Rattle.sdp_lists.specs.Lists
@@ -63,7 +64,7 @@ v-text = refl
 
 -- "Proved together as a single statement: those marked P."
 pub samples : Samples
-unfolding Runs.indexOf Ranges.fits Token.isToken Token.allToken Utf8.isUtf8 Utf8.utf8End Utf8.endFrom Utf8.charLen Number.allDigits Number.value Number.digitsBelow Number.dropPlus Number.numeral Number.wholeNumber Number.typedTime Lines.split Lines.chop Lines.content Lines.width Lines.hasNulOrCr Lines.plainForm Lines.formOf Split.spaces Split.wordAt Split.firstPiece Split.restAfter Split.wordsFrom Split.words Offset.offsetOf Records.addressOf Records.originOf Records.timesOf Records.attributeOf Lists.repeatHead Lists.offsetsOf Lists.repeatOf Lists.pairsOf Lists.zonesOf Roles.beforeMedia Step.row Step.stepRole Run.run Run.begin Run.lines
+unfolding Runs.indexOf Ranges.fits Token.isToken Token.allToken Utf8.isUtf8 Utf8.utf8End Utf8.endFrom Utf8.charLen Number.allDigits Number.value Number.digitsBelow Number.dropPlus Number.numeral Number.wholeNumber Number.typedTime Lines.split Lines.chop Lines.content Lines.width Lines.hasNulOrCr Lines.plainForm Lines.formOf Split.firstPiece Split.restAfter Split.wordsFrom Split.wordsAt Offset.zoneOffset Read.nextText Read.nextToken Read.nextNumber Read.nextTime Records.addressOf Records.originOf Records.timesOf Records.attributeOf Lists.offsetsOf Lists.repeatOf Lists.pairsOf Lists.zonesOf Roles.beforeMedia Step.row Step.stepRole Run.run Run.begin Run.lines
 samples = record {
   empty-text = refuses [] _ refl refl;
   v-accepted = accepts «V» _ refl refl;
