@@ -112,7 +112,7 @@ static int failed(const char *what) {
 
 static int refused(struct sdp_answer answer) {
     char sentence[SDP_SENTENCE_SIZE];
-    fprintf(stderr, "example: %s\n", sdp_sentence(answer, sentence, sizeof sentence));
+    fprintf(stderr, "example: %s\n", sdp_sentence_in(answer, text, text_len, sentence, sizeof sentence));
     return 1;
 }
 

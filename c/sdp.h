@@ -54,7 +54,7 @@ enum sdp_refusal {
     SDP_EQUALS_NOT_SECOND = 5,     /* the first = is not the line's second byte; gives line */
     SDP_NO_VERSION = 6,            /* the first line that isn't empty is no v line, or there is none */
     SDP_VERSION_NOT_0 = 7,         /* gives line, and place and len of the value */
-    SDP_NOT_UTF8 = 8,              /* gives line and field */
+    SDP_NOT_UTF8 = 8,              /* gives line and field, and as place that of the first bad byte */
     SDP_BAD_FORM = 9,              /* of a number, a time or a token; gives line and field */
     SDP_MISSING_FIELD = 10,        /* gives line and field */
     SDP_TRAILING_DATA = 11,        /* gives line and field */
@@ -79,7 +79,8 @@ struct sdp_answer {
     uint64_t number; /* enum sdp_refusal */
     uint64_t line;   /* from 1 */
     uint64_t field;
-    uint64_t place;  /* from 0 */
+    uint64_t place;  /* from 0 in the text. For 7 where the value starts; for 8 where the first byte stands that is no
+                        part of the field's longest well-formed beginning, and of a cut-off character its first */
     uint64_t len;    /* on success of sdp_length and sdp_fill the length of the written text */
 };
 

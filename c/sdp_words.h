@@ -4,6 +4,10 @@
  *
  * That of sdp_starts has a number alone: struct sdp_answer refusal = {starts.number, 0, 0, 0, 0}.
  *
+ * Of sdp_read, give the text too (sdp_sentence_in). Then 8 also says which byte of its line it is for:
+ *
+ *     line 14: the session name is not UTF-8 from byte 512 on, the 9th byte of the line (refusal 8)
+ *
  * The words are those of docs/REFUSALS.md; a test (rust/sdp/tests/words.rs) holds them together.
  */
 #ifndef SDP_WORDS_H
@@ -18,7 +22,7 @@
 /* Enough for any sentence and the zero byte behind it; the test tries them all. */
 enum { SDP_SENTENCE_SIZE = 200 };
 
-/* The sentences, each with its number. What stands in braces is put in. */
+/* The sentences, each with its number. What stands in braces is put in; of a bad byte, from and nth where they are known. */
 static const struct {
     uint64_t number;
     const char *words;
@@ -30,7 +34,7 @@ static const struct {
     {5, "the first = is not the second byte of the line"},
     {6, "there is no version: the first line must be v=0"},
     {7, "the version is not 0"},
-    {8, "{field} is not UTF-8"},
+    {8, "{field} is not UTF-8{from}{nth}"},
     {9, "{field} is not {form}"},
     {10, "{field} is missing"},
     {11, "{field} must not be there"},
@@ -91,7 +95,7 @@ static const char *const sdp_fields[][2] = {
     {"the media's protocol", ""},
     {"the media's formats", ""},
     {"the media's title", ""},
-    {"the session's name", ""},
+    {"the session name", ""},
     {"the session's description", ""},
     {"the URI", ""},
     {"the e-mail address", ""},
@@ -124,8 +128,25 @@ static inline void sdp_put(char *out, size_t out_len, const char *words, size_t 
     snprintf(out + len, out_len - len, "%.*s", (int)words_len, words);
 }
 
-/* Puts the sentence of a refusal into out, with a zero byte behind it, cut where out_len is too short. Returns out. */
-static inline const char *sdp_sentence(struct sdp_answer answer, char *out, size_t out_len) {
+/* Which byte of its line stands at a place of the text, from 1; 0 where the text has no such place. */
+static inline uint64_t sdp_nth_in_line(const uint8_t *text, size_t text_len, uint64_t place) {
+    uint64_t nth = 1;
+    if (place >= text_len) return 0;
+    while (place > 0 && text[place - 1] != '\n') place--, nth++;
+    return nth;
+}
+
+/* What stands behind the digits of 1st, 2nd, 3rd, 4th, 11th, 21st. */
+static inline const char *sdp_ordinal(uint64_t number) {
+    uint64_t last = number % 10;
+    if (number % 100 - last == 10) return "th";
+    return last == 1 ? "st" : last == 2 ? "nd" : last == 3 ? "rd" : "th";
+}
+
+/* Puts the sentence of a refusal into out, with a zero byte behind it, cut where out_len is too short. Returns out. The text
+ * is the one that was read; with length 0 its pointer may be anything, and 8 doesn't say which byte of the line it is. */
+static inline const char *sdp_sentence_in(struct sdp_answer answer, const uint8_t *text, size_t text_len,
+                                          char *out, size_t out_len) {
     static const char *const none[2] = {"", ""};
 #define SDP_HAS(list, number) ((number) - 1 < sizeof(list) / sizeof *(list))
     const char *const *field = SDP_HAS(sdp_fields, answer.field) ? sdp_fields[answer.field - 1] : none;
@@ -134,12 +155,18 @@ static inline const char *sdp_sentence(struct sdp_answer answer, char *out, size
     const char *rest = "refused"; /* by a later archive */
     for (size_t i = 0; i < sizeof sdp_sentences / sizeof *sdp_sentences; i++)
         if (sdp_sentences[i].number == answer.number) rest = sdp_sentences[i].words;
-    char line[32], len[32], number[32];
+    char line[32], len[32], number[32], from[48] = "", nth[64] = "";
     snprintf(line, sizeof line, "line %" PRIu64 ": ", answer.line);
     snprintf(len, sizeof len, "%" PRIu64, answer.len);
     snprintf(number, sizeof number, " (refusal %" PRIu64 ")", answer.number);
-    const char *const known[][2] = {
-        {"{field}", field[0]}, {"{form}", field[1]}, {"{table}", table[0]}, {"{rows}", table[1]}, {"{len}", len}};
+    if (answer.place > 0) { /* 0 by an earlier archive: the version line stands there */
+        uint64_t at = sdp_nth_in_line(text, text_len, answer.place);
+        snprintf(from, sizeof from, " from byte %" PRIu64 " on", answer.place);
+        if (at > 0) snprintf(nth, sizeof nth, ", the %" PRIu64 "%s byte of the line", at, sdp_ordinal(at));
+    }
+    const char *const known[][2] = {{"{field}", field[0]}, {"{form}", field[1]}, {"{table}", table[0]},
+                                    {"{rows}", table[1]},  {"{len}", len},       {"{from}", from},
+                                    {"{nth}", nth}};
     if (out_len == 0) return out;
     out[0] = 0;
     if (answer.line > 0) sdp_put(out, out_len, line, sizeof line);
@@ -155,6 +182,11 @@ static inline const char *sdp_sentence(struct sdp_answer answer, char *out, size
     }
     sdp_put(out, out_len, number, sizeof number);
     return out;
+}
+
+/* The same without a text. */
+static inline const char *sdp_sentence(struct sdp_answer answer, char *out, size_t out_len) {
+    return sdp_sentence_in(answer, NULL, 0, out, out_len);
 }
 
 #endif

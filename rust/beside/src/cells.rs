@@ -7,8 +7,8 @@ use unicode_width::UnicodeWidthChar;
 pub struct Cell {
     pub shown: String,
     pub width: usize,
-    /// In the part of a line that differs from the other column.
-    pub differs: bool,
+    /// In the part of a line that differs from the other column, or the byte that a text is refused for.
+    pub marked: bool,
 }
 
 /// After a character that may be a picture: it is shown as one, and may take two columns then.
@@ -49,7 +49,7 @@ fn look(char: char) -> Look {
 /// can't be seen, and `\x20` for a space at the line's end.
 pub fn cells(line: &[u8]) -> Vec<Cell> {
     let mut cells: Vec<Cell> = Vec::new();
-    let cell = |shown: String, width: usize| Cell { shown, width, differs: false };
+    let cell = |shown: String, width: usize| Cell { shown, width, marked: false };
     let escape = |shown: String| cell(shown.clone(), shown.len());
     let hex = |byte: &u8| escape(format!("\\x{byte:02x}"));
     let mut rest = line;
@@ -88,8 +88,14 @@ pub fn mark_difference(left: &mut [Cell], right: &mut [Cell]) {
     let end = left[start..].iter().rev().zip(right[start..].iter().rev()).take_while(same).count();
     for side in [left, right] {
         let len = side.len();
-        side[start..len - end].iter_mut().for_each(|cell| cell.differs = true);
+        side[start..len - end].iter_mut().for_each(|cell| cell.marked = true);
     }
+}
+
+/// Marks the bad byte at a place of a line with these cells. What stands before it is UTF-8, so it is a cell of its own.
+pub fn mark_byte(line: &[u8], at: usize, of_line: &mut [Cell]) {
+    let before = cells(&line[..at]).len();
+    of_line[before].marked = true;
 }
 
 /// Columns that the cells take.

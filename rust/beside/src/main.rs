@@ -17,7 +17,8 @@ from standard input. The lines are numbered on both sides; between them stands a
   -  dropped: an empty line, or a letter that has no use there or no use any more
   +  added: what every session has and this text doesn't
   >  moved from here, and written where < stands
-  !  the line for which the text is refused; the refusal is below, in the words of docs/REFUSALS.md
+  !  the line for which the text is refused; the refusal is below, in the words of docs/REFUSALS.md. Where a field is
+     not UTF-8, ^^^^ below the line marks the byte from which on it isn't
 The ends of lines are told above the columns, and not as changes. What can't be seen is shown as \\t, \\xff (a byte) or
 \\u{a0} (a character), a backslash as \\\\, a space at a line's end as \\x20. Long lines go on in the next row. No row is
 wider than 100 columns. There is colour only on a terminal, and none where NO_COLOR is set.

@@ -1,7 +1,7 @@
 //! The page: the text on the left, its canonical form on the right, a mark between them. For a refused text the text
-//! alone, with the refused line marked.
+//! alone, with the refused line marked, and the byte where one is not UTF-8.
 use crate::align::{align, lines, Dropped, Row};
-use crate::cells::{cells, columns, mark_difference, pieces, Cell};
+use crate::cells::{cells, columns, mark_byte, mark_difference, pieces, Cell};
 use sdp::Error;
 
 /// No row is wider than this.
@@ -116,14 +116,14 @@ impl Pen {
         self.put(Ink::Faint, &shown, shown.len(), digits);
     }
 
-    /// A piece of a line, in a column of this width. What differs is also in reverse.
+    /// A piece of a line, in a column of this width. What is marked is also in reverse.
     fn piece(&mut self, piece: &[Cell], ink: Ink, column: usize) {
         let width = columns(piece);
         let mut rest = piece;
         while let Some(first) = rest.first() {
-            let len = rest.iter().take_while(|cell| cell.differs == first.differs).count();
+            let len = rest.iter().take_while(|cell| cell.marked == first.marked).count();
             let shown: String = rest[..len].iter().map(|cell| cell.shown.as_str()).collect();
-            if first.differs && self.colour {
+            if first.marked && self.colour {
                 self.put(ink, &format!("\x1b[7m{shown}"), 0, 0);
             } else {
                 self.put(ink, &shown, 0, 0);
@@ -239,12 +239,23 @@ fn refused(mut pen: Pen, text: &[u8], error: Error) -> String {
     pen.end();
     for (count, bytes) in left.iter().enumerate() {
         let this = count as u64 + 1 == at;
-        let side = line(count, bytes, if this { Ink::Refused } else { Ink::Plain });
+        let mut side = line(count, bytes, if this { Ink::Refused } else { Ink::Plain });
+        if let Some(nth) = error.byte_in_line().filter(|_| this) {
+            mark_byte(bytes, nth as usize - 1, &mut side.cells);
+        }
         for (n, piece) in pieces(&side.cells, width).into_iter().enumerate() {
             pen.number(side.number.filter(|_| n == 0), digits);
             pen.mark(if this && n == 0 { '!' } else { ' ' }, side.ink);
             pen.piece(piece, side.ink, width);
             pen.end();
+            // carets below the byte; the ! tells them from a line that goes on
+            if let Some(cell) = piece.iter().position(|cell| cell.marked) {
+                pen.number(None, digits);
+                pen.mark('!', side.ink);
+                pen.spaces += columns(&piece[..cell]);
+                pen.put(side.ink, &"^".repeat(piece[cell].width), 0, 0);
+                pen.end();
+            }
         }
     }
     pen.end();

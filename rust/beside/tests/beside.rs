@@ -68,6 +68,17 @@ fn texts() -> Vec<Vec<u8>> {
     for part in ["x", "\\", "\u{6f22}", "e\u{301}", "\u{301}", "\u{1f3b5}", "\u{10ffff}", " ", "\t"] {
         texts.push(format!("v=0\ns={}\nt=+1 0\n", part.repeat(300)).into_bytes());
         texts.push(format!("v=0\na={}", part.repeat(2_000)).into_bytes());
+        // bad bytes behind them, in the first row of the line and in later ones
+        for times in [0, 1, 7, 60, 300] {
+            for bad in [&b"\xff"[..], b"\xff\xff tail", b"\xe2\x82\t", b"\xed\xa0\x80   "] {
+                texts.push([format!("v=0\ns=x{}", part.repeat(times)).as_bytes(), bad].concat());
+            }
+        }
+    }
+    // a bad byte that just fits into its row, or not
+    for room in 85..100 {
+        texts.push([b"v=0\na=", &vec![b'x'; room][..], b"\xff tail"].concat());
+        texts.push([format!("{}v=0\na=", "\n".repeat(1_200)).as_bytes(), &vec![b'x'; room], b"\xff"].concat());
     }
     // numbers of four digits
     texts.push(format!("{}v=0\na={}", "\n".repeat(1_200), "x".repeat(500)).into_bytes());
@@ -298,6 +309,47 @@ fn refusals_in_words() {
     assert!(refused > generated() / 4);
 }
 
+/// A bad byte is marked by carets in a row of their own, just below the escape that shows it, and by colour.
+#[test]
+fn the_bad_byte_is_marked() {
+    let (mut marked, mut folded) = (0, 0);
+    for Case { text, written, page } in cases() {
+        let carets = |row: &str| row.trim_start().starts_with("! ") && row.trim_matches(['!', ' ']) == "^^^^";
+        let rows: Vec<&str> = page.split("\n\nrefused ").next().unwrap().lines().collect();
+        let Some(at) = written.as_ref().err().and_then(|error| error.bad_byte()) else {
+            assert!(!rows.iter().any(|row| carets(row)), "{page}");
+            continue;
+        };
+        let found: Vec<usize> = (0..rows.len()).filter(|row| carets(rows[*row])).collect();
+        let [caret] = found[..] else { panic!("one row has the carets:\n{page}") };
+        // the escape above them
+        let (above, escape) = (rows[caret - 1], format!("\\x{:02x}", text[at as usize]));
+        let column = rows[caret].len() - 4;
+        let mut starts = above.match_indices(&escape).map(|(start, _)| start);
+        let start = starts.find(|start| width(&above[..*start]) == column);
+        let start = start.unwrap_or_else(|| panic!("{escape} stands above them:\n{page}"));
+        // it is this one of several: what is shown of the line before it is what stands before it
+        let error = written.as_ref().unwrap_err();
+        let number = format!("{} !", error.line());
+        let first = (0..caret).rev().find(|row| rows[*row].trim_start().starts_with(&number)).unwrap();
+        let margin = rows[first].find('!').unwrap() + 2;
+        let mut shown: String = rows[first..caret - 1].iter().map(|row| &row[margin..]).collect();
+        shown += &above[margin..start];
+        let line = lines(text)[error.line() as usize - 1];
+        let before = &line[..error.byte_in_line().unwrap() as usize - 1];
+        let due: String = cells(before).into_iter().map(|cell| cell.shown).collect();
+        // a space before it is shown as one, since no line ends there
+        assert_eq!(shown.trim_end(), due.strip_suffix("\\x20").unwrap_or(&due).trim_end(), "{page}");
+        let colour = page_of(text, written, true);
+        assert_eq!(colour.matches("\x1b[7m").count(), 1, "{page}");
+        assert!(colour.contains(&format!("\x1b[1;31m\x1b[7m{escape}\x1b[0m")), "{page}");
+        marked += 1;
+        folded += u64::from(caret > first + 1);
+    }
+    println!("beside: {marked} bad bytes marked, {folded} of them in a line that goes on");
+    assert!(marked > 200 && folded > 50);
+}
+
 // ---- the program
 
 /// As cargo runs the tests: under the kit's emulator where the program is x86-64 and the machine is not.
@@ -311,7 +363,7 @@ fn run(words: &[&str], input: &[u8]) -> Output {
 #[test]
 fn stored_pages() {
     let paths = texts_in("tests/stored");
-    assert!(paths.len() >= 4);
+    assert!(paths.len() >= 5);
     for path in paths {
         let due = fs::read_to_string(path.with_extension("page")).unwrap_or_else(|error| panic!("{}: {error}", path.display()));
         let text = fs::read(&path).unwrap();

@@ -3,11 +3,29 @@
 use crate::area::{self, SIZE};
 use crate::{placed, theirs, Answer};
 use generate::shrink;
-use oracle::Session;
+use oracle::{bad_byte, Refusal, Session};
 use std::collections::BTreeMap;
 
 /// Bytes behind the area that must stay as they are.
 const BEYOND: usize = 40;
+
+/// Holds a refusal of a text to the crate's: all five numbers, but for the place of 8. The crate doesn't say it ("Demand 2
+/// leaves it out"), so that one is held to the computation of `bad_byte`.
+pub fn refused(text: &[u8], ours: Answer, crates: Refusal) -> Result<(), String> {
+    let Refusal { number, line, field, place, len } = crates;
+    let due = Answer { number, line, field, place, len };
+    let without = if number == 8 { Answer { place: 0, ..ours } } else { ours };
+    if without != due {
+        return Err(format!("ours {ours:?}\nthe crate {due:?}"));
+    }
+    if number == 8 {
+        let place = bad_byte::find(text, line, field)?.place as u64;
+        if ours.place != place {
+            return Err(format!("ours {ours:?}\nthe bad byte stands at {place}"));
+        }
+    }
+    Ok(())
+}
 
 pub struct Bench<R> {
     reader: R,
@@ -37,19 +55,11 @@ impl<R: Fn(&[u8], &mut [u8]) -> Answer> Bench<R> {
         let kept = text.to_vec();
         let ours = (self.reader)(text, &mut self.room);
         let crates = oracle::read(&kept);
-        let due = crates.as_ref().err().map_or(Answer::default(), |refusal| Answer {
-            number: refusal.number,
-            line: refusal.line,
-            field: refusal.field,
-            place: refusal.place,
-            len: refusal.len,
-        });
         if text != kept {
             return Err("the text was changed".into());
         }
-        if ours != due {
-            return Err(format!("ours {ours:?}\nthe crate {due:?}"));
-        }
+        // an answer of zeros is that for an accepted text
+        refused(text, ours, crates.as_ref().err().copied().unwrap_or_default())?;
         if self.room[SIZE..] != self.found[SIZE..] {
             return Err("bytes beyond the area were changed".into());
         }

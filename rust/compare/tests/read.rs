@@ -4,8 +4,10 @@ use compare::area::{all_zero, decode, PARTS, SIZE};
 use compare::bench::{Bench, Tally};
 use compare::{area_size, read, Answer};
 use generate::random::{count, from_env};
-use generate::sessions::{self, LONGEST, PAIRS, TABLES};
+use generate::sessions::{self, fields_of, LONGEST, PAIRS, TABLES};
 use generate::{every_string, texts, Random};
+use oracle::bad_byte;
+use std::collections::BTreeMap;
 
 fn bench() -> Bench<fn(&[u8], &mut [u8]) -> Answer> {
     Bench::new(read)
@@ -24,7 +26,8 @@ fn sample(lines: &[&[u8]]) -> Vec<u8> {
 /// Number, line and field of a sample; compared with the crate as well.
 fn answer(lines: &[&[u8]]) -> (u64, u64, u64) {
     let answer = bench().same(&sample(lines));
-    assert!(answer.number == 7 || (answer.place, answer.len) == (0, 0));
+    assert!(matches!(answer.number, 7 | 8) || answer.place == 0);
+    assert!(answer.number == 7 || answer.len == 0);
     (answer.number, answer.line, answer.field)
 }
 
@@ -152,37 +155,131 @@ fn k_lines() {
     assert_eq!(answer(&lines), (21, 1 + 5_000 + 17, 1));
 }
 
-/// Demand 3 for k: such lines put in behind the first line that isn't empty change nothing but the line of a refusal.
+/// Document 02, P2: 8 has the place of the first byte that is not part of the field's longest well-formed beginning.
+/// rust/oracle/tests/bad_byte.rs has samples of every field.
 #[test]
-fn k_lines_put_in() {
-    let mut random = Random::of_test("k lines put in");
-    let (mut accepted, mut refused, mut lines) = (0, 0, 0);
+fn the_bad_byte() {
     let mut bench = bench();
-    let due = count(6_000);
+    let ones: [(&[u8], u64, u64, u64); 14] = [
+        (b"v=0\ns=\xed\xa0\x80", 2, 34, 6),
+        (b"v=0\r\n\r\n\ns=x\xff\xff\r\n", 4, 34, 11),
+        (b"v=0\nx=\xff\nk=\xff\ns=\xff", 4, 34, 14),
+        // a character that is cut off at the field's end: its first byte
+        (b"v=0\no=- \xc3\xa9\xe2\x82 0 I J h", 2, 2, 10),
+        (b"v=0\nb=A\xc3:\xa9", 2, 12, 7),
+        (b"v=0\na=x:\xf0\x9f\x8e\r\n", 2, 24, 8),
+        // a unit and a sign belong to the field
+        (b"v=0\nt=0 0\nr=\xffd 1", 3, 18, 12),
+        (b"v=0\nt=0 0\nr=7d 1\xc3h", 3, 19, 16),
+        (b"v=0\nt=0 0\nr=7d 1h 0 5\xff 6\xff", 3, 20, 21),
+        (b"v=0\nz=0 -\xff", 2, 22, 9),
+        (b"v=0\nz=0 -1h  7\xff", 2, 21, 14),
+        // 29 is the whole port, also behind the slash
+        (b"v=0\nm=a \xff/2 p f", 2, 29, 8),
+        (b"v=0\nm=a 1/2\xff p f", 2, 29, 11),
+        (b"v=0\nm=a 1  9 \xff", 2, 32, 13),
+    ];
+    for (text, line, field, place) in ones {
+        assert_eq!(bench.same(text), Answer { number: 8, line, field, place, len: 0 }, "{}", text.escape_ascii());
+    }
+    // up to the last place of the longest text
+    for len in [LONGEST - 1, LONGEST] {
+        let mut text = b"v=0\ns=".to_vec();
+        text.resize(len - 1, b'x');
+        text.push(0xff);
+        assert_eq!(bench.same(&text).place, len as u64 - 1);
+    }
+}
+
+/// Each field with 8, in whole texts, and in each of the ways that are easily missed.
+#[test]
+fn the_bad_byte_of_each_field() {
+    let mut random = Random::of_test("bad bytes");
+    let mut bench = bench();
+    let due = count(200);
+    let mut ways: BTreeMap<&str, u64> = BTreeMap::new();
+    for field in fields_of(8) {
+        let mut seen = 0;
+        for _ in 0..due {
+            let text = sessions::aimed_text(&mut random, 8, field);
+            let answer = bench.same(&text);
+            if (answer.number, answer.field) != (8, field) {
+                continue; // a CR at the text's end, or another line before it
+            }
+            seen += 1;
+            let place = answer.place as usize;
+            let whole = bad_byte::find(&text, answer.line, field).unwrap().field;
+            let (before, bytes) = (&text[whole.start..place], &text[whole.clone()]);
+            let cut_off = std::str::from_utf8(bytes).unwrap_err().error_len().is_none();
+            let separated = text.get(whole.end).map_or(false, |byte| b" :".contains(byte));
+            let listed = text[..whole.start].rsplit(|byte| *byte == b'\n').next().unwrap();
+            for (way, holds) in [
+                ("first of its field", before.is_empty()),
+                ("behind characters of several bytes", !before.is_ascii()),
+                ("a character cut off by the field's end", cut_off),
+                ("one cut off, with a field behind it", cut_off && separated),
+                ("in a time with a unit", matches!(field, 18..=20 | 22) && b"dhms".contains(&bytes[bytes.len() - 1])),
+                ("behind a sign", field == 22 && before.starts_with(b"-")),
+                ("behind the slash of a port", field == 29 && before.contains(&b'/')),
+                ("before the slash of a port", field == 29 && !before.contains(&b'/') && bytes.contains(&b'/')),
+                ("behind an earlier pair", matches!(field, 21 | 22) && listed.split(|byte| *byte == b' ').count() > 3),
+                ("below CR LF", text[..place].windows(2).any(|two| two == b"\r\n")),
+                ("below LF alone", !text[..place].contains(&b'\r')),
+                ("below an empty line", text[..place].windows(2).any(|two| two == b"\n\n")),
+                ("below a k line", text[..place].windows(3).any(|three| three == b"\nk=")),
+            ] {
+                *ways.entry(way).or_default() += u64::from(holds);
+            }
+        }
+        assert!(seen * 2 > due, "field {field} was refused with 8 in {seen} of {due} texts");
+    }
+    println!("bad bytes: {due} texts for each of {} fields, {ways:#?}", fields_of(8).len());
+    assert!(due < 100 || ways.values().all(|seen| *seen > 0), "each way is met");
+}
+
+/// Demand 3: lines without a use, put in behind the first line that isn't empty, change nothing but the line of a refusal,
+/// which moves by the lines above it, and with 8 the place, which moves by their bytes.
+fn put_in(name: &str, idle: impl Fn(&mut Random, bool) -> Vec<u8>) {
+    let mut random = Random::of_test(name);
+    let (mut accepted, mut refused, mut lines) = (0, 0, 0);
+    let mut moved: BTreeMap<u64, u64> = BTreeMap::new();
+    let mut bench = bench();
+    let (due, fields) = (count(6_000), fields_of(8));
     for round in 0..due {
-        let text = if round % 2 == 0 { sessions::text(&mut random) } else { texts::text(&mut random) };
+        let text = match round % 3 {
+            0 => sessions::text(&mut random),
+            1 => texts::text(&mut random),
+            _ => sessions::aimed_text(&mut random, 8, fields[round as usize / 3 % fields.len()]),
+        };
         let whole: Vec<&[u8]> = text.split_inclusive(|byte| *byte == b'\n').collect();
         let Some(first) = whole.iter().position(|line| !matches!(line, [b'\n'] | [b'\r', b'\n'])) else { continue };
-        let (mut with, mut above) = (Vec::new(), vec![0]);
+        // how many lines and bytes were put in above each line
+        let (mut with, mut above) = (Vec::new(), vec![(0, 0)]);
         for (at, line) in whole.iter().enumerate() {
             with.extend(*line);
-            let mut put = 0;
+            let (mut put, start) = (0, with.len());
+            let in_media = whole[..=at].iter().any(|line| line.starts_with(b"m="));
             // none is put after a last line that has no LF
             while at >= first && line.ends_with(b"\n") && random.once_in(3) {
-                with.extend(sessions::key_line(&mut random));
+                with.extend(idle(&mut random, in_media));
                 with.extend(random.pick(&[&b"\n"[..], b"\r\n"]));
                 put += 1;
             }
-            above.push(above[at] + put);
+            above.push((above[at].0 + put, above[at].1 + (with.len() - start) as u64));
         }
         if with.len() > LONGEST {
             continue;
         }
         let (before, mut area) = (bench.same(&text), bench.area().to_vec());
         let after = bench.same(&with);
-        let line = if before.line == 0 { 0 } else { before.line + above[before.line as usize - 1] };
-        assert_eq!(after, Answer { line, ..before }, "{}", with.escape_ascii());
-        lines += above[whole.len()];
+        let (more_lines, more_bytes) = (before.line as usize).checked_sub(1).map_or((0, 0), |line| above[line]);
+        let more_bytes = if before.number == 8 { more_bytes } else { 0 };
+        let due = Answer { line: before.line + more_lines, place: before.place + more_bytes, ..before };
+        assert_eq!(after, due, "{}", with.escape_ascii());
+        lines += above[whole.len()].0;
+        if more_bytes > 0 {
+            *moved.entry(before.field).or_default() += 1;
+        }
         if before.number > 0 {
             refused += 1;
             continue;
@@ -194,8 +291,24 @@ fn k_lines_put_in() {
         assert_eq!(read(&with, &mut area), Answer::default());
         assert_eq!(area, bench.area());
     }
-    println!("k lines: {lines} put in, {accepted} texts accepted and {refused} refused");
+    println!("{name}: {lines} lines, {accepted} texts accepted and {refused} refused");
+    println!("{name}: {} places of 8 moved, by field {moved:?}", moved.values().sum::<u64>());
     assert!(accepted * 5 > due && refused * 5 > due && lines > due);
+    assert!(due < 3_000 || moved.keys().copied().eq(fields), "a place of each field was moved");
+}
+
+#[test]
+fn k_lines_put_in() {
+    put_in("k lines put in", |random, _| sessions::key_line(random));
+}
+
+/// Empty lines, and lines of any letter that has no use where they stand.
+#[test]
+fn idle_lines_put_in() {
+    put_in("idle lines put in", |random, in_media| match random.below(3) {
+        0 => Vec::new(),
+        _ => sessions::ignored(random, sessions::useless(in_media)),
+    });
 }
 
 #[test]
@@ -382,10 +495,10 @@ fn every_short_value() {
     for before in [&b"v=0\nt=0 0\n"[..], b"v=0\nm=a 1 p f\n"] {
         for letter in *b"vosiuepcbtrzkamx" {
             let few = b"osiuepvx".contains(&letter);
-            every_string(b" 1:/-+d\xff(", if few { 3 } else { 4 }, |value| {
-                let text = [before, &[letter, b'='], value].concat();
-                tally.add(bench.same(&text));
-            });
+            let mut each = |value: &[u8]| tally.add(bench.same(&[before, &[letter, b'='], value].concat()));
+            every_string(b" 1:/-+d\xff(", if few { 3 } else { 4 }, &mut each);
+            // a character of two bytes, whole and cut off at every border
+            every_string(b" 1:/-d\xc3\xa9", if few { 3 } else { 4 }, &mut each);
         }
     }
     println!("short values:\n{tally}");
@@ -532,6 +645,11 @@ fn good_texts_and_damaged_copies() {
     }
     println!("copies: {good} good texts accepted, and damaged copies:\n{tally}");
     assert!(good > 0 && tally.of(0) > 0 && tally.of(0) < tally.all());
+    if tally.all() >= 20_000 {
+        for field in fields_of(8) {
+            assert!(tally.0.get(&(8, field)).map_or(false, |seen| *seen >= 12), "few bad bytes in field {field}");
+        }
+    }
 }
 
 /// The main run: at least a hundred thousand texts unless `COUNT` says otherwise.

@@ -2,7 +2,7 @@
 //! that have landed: of the refusals with what each gives, of the fields and of the tables, none less and none more.
 #[path = "../../sdp/tests/page/mod.rs"]
 mod pages;
-use generate::sessions::PAIRS;
+use generate::sessions::{fields_of, PAIRS};
 use pages::{file, table};
 use sdp::words::{Field, FIELDS, SENTENCES, TABLES};
 use std::collections::{BTreeMap, BTreeSet};
@@ -24,11 +24,16 @@ fn paragraph(heading: &str, start: &str) -> String {
 /// The requests that have landed and bring refusals of their own.
 const LANDED: [&str; 1] = ["P3"];
 
+/// The paragraph of a request in document 02.
+fn request(name: &str) -> String {
+    let paper = file("../shared/docs/02-change-requests.md");
+    paper.lines().find(|line| line.starts_with(&format!("**{name}."))).expect("a request").to_string()
+}
+
 /// The numbers that a request brings, with their words, by its sentence `Refusals, in order: 2, 1, 23 as for writing; 28
 /// adjustment times fall; ..`.
-fn brought(request: &str) -> Vec<(u64, String)> {
-    let paper = file("../shared/docs/02-change-requests.md");
-    let paragraph = paper.lines().find(|line| line.starts_with(&format!("**{request}."))).expect("a request");
+fn brought(name: &str) -> Vec<(u64, String)> {
+    let paragraph = request(name);
     let (_, list) = paragraph.split_once("Refusals, in order: ").expect("its refusals");
     let items = list.split('.').next().unwrap().split([';', ',']).filter_map(|item| item.trim().split_once(' '));
     let numbered = items.filter_map(|(number, words)| Some((number.parse().ok()?, words.to_string())));
@@ -65,6 +70,11 @@ fn refusals() {
             assert_eq!(before, None, "{number} stands once");
         }
     }
+    // P2: "Refusal 8 now returns that place besides line and field."
+    assert!(request("P2").contains(" Refusal 8 now returns that place besides line and field. "));
+    let of_8 = &mut due.get_mut(&8).expect("document 01 has 8").1;
+    assert_eq!(*of_8, given("line and field"));
+    of_8.extend(given("place"));
     let page = rows("Refusals");
     for (number, words) in LANDED.into_iter().flat_map(brought) {
         assert_eq!(due.insert(number, (None, BTreeSet::new())), None, "{number} stands once");
@@ -86,8 +96,7 @@ fn refusals() {
 /// What P4 took away keeps its number and its sentence, since an answer may have been kept; the page says so.
 #[test]
 fn retired() {
-    let paper = file("../shared/docs/02-change-requests.md");
-    let request = paper.lines().find(|line| line.starts_with("**P4.")).expect("a request");
+    let request = request("P4");
     assert!(request.ends_with("Refusals: 19 never occurs any more; fields 25 and 26 stay reserved."), "{request}");
     let when = &rows("Refusals")[&19][1];
     assert!(when.starts_with("never"), "docs/REFUSALS.md has 19 for: {when}");
@@ -151,10 +160,7 @@ fn tables() {
 /// Of the pairs of a number and a field that there are, the page says what is so.
 #[test]
 fn pairs() {
-    let with = |number: u64| {
-        let fields = PAIRS.iter().filter(|pair| pair.0 == number).map(|pair| pair.1 as usize);
-        fields.collect::<BTreeSet<_>>()
-    };
+    let with = |number: u64| fields_of(number).into_iter().map(|field| field as usize).collect::<BTreeSet<_>>();
     let named = |test: fn(&Field) -> bool| {
         let numbers = (1..=FIELDS.len()).filter(|number| test(&FIELDS[number - 1]));
         numbers.collect::<BTreeSet<_>>()

@@ -1,8 +1,11 @@
 //! The view of the crate `sdp` beside sdp-types: made into a session of that crate, it is the one that the crate reads.
+use compare::bench::refused;
 use compare::made::keyed;
+use compare::Answer;
 use generate::random::{count, from_env};
 use generate::sessions::{self, LONGEST, TABLES};
 use generate::{shrink, Random};
+use oracle::refusal::line_start;
 use oracle::sdp_types::{self, AddrType, NetType};
 use sdp::{Area, Rows, SessionBuf};
 
@@ -98,19 +101,34 @@ fn session(view: sdp::Session) -> sdp_types::Session {
     }
 }
 
+/// Of 8, that the error and its sentence name the byte by its place, and by its number in the line; of others, that none is
+/// named.
+fn names_its_byte(text: &[u8], error: &sdp::Error) -> bool {
+    let words = error.to_string();
+    match (error.bad_byte(), error.byte_in_line()) {
+        (Some(place), Some(nth)) => {
+            let start = line_start(text, error.line() as usize) as u64;
+            (error.number(), error.place(), start + nth) == (8, place, place + 1)
+                && words.contains(&format!(" is not UTF-8 from byte {place} on, the {nth}"))
+                && words.ends_with(" byte of the line (refusal 8)")
+        }
+        (None, None) => error.number() != 8 && !words.contains(" from byte "),
+        _ => false,
+    }
+}
+
 /// The crate's session of an accepted text, if both sides agree.
 fn agree(text: &[u8], area: &mut Area) -> Result<Option<sdp_types::Session>, String> {
     match (sdp::read(text, area), oracle::read(text)) {
         (Err(error), Err(refusal)) => {
-            let ours = [error.number(), error.line(), error.field(), error.place(), error.len()];
-            let due = [refusal.number, refusal.line, refusal.field, refusal.place, refusal.len];
-            let line = format!("line {}: ", refusal.line);
+            let (number, line, field) = (error.number(), error.line(), error.field());
+            refused(text, Answer { number, line, field, place: error.place(), len: error.len() }, refusal)?;
             let words = error.to_string();
-            let with_line = words.starts_with(&line) == (refusal.line > 0);
-            if ours == due && with_line && words.ends_with(&format!(" (refusal {})", refusal.number)) {
+            let with_line = words.starts_with(&format!("line {line}: ")) == (line > 0);
+            if with_line && words.ends_with(&format!(" (refusal {number})")) && names_its_byte(text, &error) {
                 Ok(None)
             } else {
-                Err(format!("ours {words}, {ours:?}, the crate {due:?}"))
+                Err(format!("ours {words}, the crate {refusal:?}"))
             }
         }
         (Ok(view), Ok(due)) => {

@@ -185,8 +185,17 @@ pub fn key_line(random: &mut Random) -> Vec<u8> {
     }
 }
 
+/// The letters of SDP that have no use before the first m line, or from it on.
+pub fn useless(in_media: bool) -> &'static [u8] {
+    if in_media {
+        b"vosueptrzk"
+    } else {
+        b"vk"
+    }
+}
+
 /// A line that has no use where it stands: an unknown letter with any bytes, or one of `useless` with any value.
-fn ignored(random: &mut Random, useless: &[u8]) -> Vec<u8> {
+pub fn ignored(random: &mut Random, useless: &[u8]) -> Vec<u8> {
     let letter = match random.below(3) {
         0 => random.letter(useless),
         1 => random.letter(b"xqVMAO \xff\x7f"),
@@ -260,8 +269,7 @@ pub fn good(random: &mut Random) -> Vec<Vec<u8>> {
     for _ in 0..several(random) {
         let at = random.between(1, lines.len());
         let in_media = lines[..at].iter().any(|line| line[0] == b'm');
-        let useless: &[u8] = if in_media { b"vosueptrzk" } else { b"vk" };
-        lines.insert(at, ignored(random, useless));
+        lines.insert(at, ignored(random, useless(in_media)));
     }
     lines
 }
@@ -314,11 +322,21 @@ pub const PAIRS: [(u64, u64); 63] = [
     (8, 34), (8, 35), (8, 36), (8, 37), (8, 38),
 ];
 
+/// The fields that a refusal with this number can name.
+pub fn fields_of(number: u64) -> Vec<u64> {
+    PAIRS.iter().filter(|pair| pair.0 == number).map(|pair| pair.1).collect()
+}
+
 /// Not UTF-8, and without the bytes of `none`.
 fn broken(random: &mut Random, none: &[u8]) -> Vec<u8> {
     let middle = fields::BROKEN[random.below(fields::BROKEN.len())];
     // what follows must not complete the character
     [&free(random, 4, none)[..], middle, &random.pick(&[&b""[..], b"z", b"0"])[..]].concat()
+}
+
+/// The same, with a unit or none behind it.
+fn broken_time(random: &mut Random, none: &[u8]) -> Vec<u8> {
+    [&broken(random, none)[..], random.pick(&["", "d", "h", "m", "s"]).as_bytes()].concat()
 }
 
 /// No number: beyond the bits, with a sign or mark that has no place, or nothing at all where that is possible.
@@ -386,7 +404,8 @@ pub fn aimed(random: &mut Random, number: u64, field: u64) -> (u8, Vec<u8>) {
                 break;
             }
             all.push(match (kind, at == field, number) {
-                (Zone, true, 8) => [random.pick(&[&b""[..], b"-"]), &broken(random, b" -")[..]].concat(),
+                (Zone, true, 8) => [random.pick(&[&b""[..], b"-"]), &broken_time(random, b" -")[..]].concat(),
+                (Typed, true, 8) => broken_time(random, b" "),
                 (_, true, 8) => broken(random, b" "),
                 (Number, true, _) => no_number(random, u64::MAX),
                 (Typed, true, _) => no_typed(random, u64::MAX),

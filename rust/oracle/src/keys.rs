@@ -12,7 +12,7 @@ pub struct Left {
 }
 
 /// A CR belongs to the ending only where an LF follows.
-fn without_end(line: &[u8]) -> &[u8] {
+pub(crate) fn without_end(line: &[u8]) -> &[u8] {
     match line {
         [start @ .., b'\r', b'\n'] | [start @ .., b'\n'] => start,
         last => last,
@@ -39,8 +39,8 @@ pub fn without(text: &[u8]) -> Left {
 }
 
 impl Left {
-    /// A refusal of what is left, with its line in the whole text. A place needs no moving: only 7 has one, and no line is
-    /// taken out above the version.
+    /// A refusal of what is left, with its line in the whole text. A place needs no moving: by the crate only 7 has one, and no
+    /// line is taken out above the version.
     pub fn in_whole(&self, refusal: Refusal) -> Refusal {
         let of_key = (8..=11).contains(&refusal.number) && matches!(refusal.field, 25 | 26);
         assert!(refusal.number != 19 && !of_key, "a k line was left in: {refusal:?}");

@@ -1,5 +1,7 @@
 //! What the project's answers are compared with: the running crate without k lines and keys, its refusals in document 01's
-//! numbers, and the two rules that document 01 adds on top of it. Nothing here calls the project's own code.
+//! numbers, the two rules that document 01 adds on top of it, and the bad byte of document 02. Nothing here calls the
+//! project's own code.
+pub mod bad_byte;
 pub mod fold;
 pub mod keys;
 pub mod leaf;

@@ -1,7 +1,8 @@
 //! The crate's refusals in the numbers of document 01, "Refusal numbers".
 use sdp_types::{ParserError, Session};
 
-/// Number, line, field, place and length; what document 01 doesn't name for a number is 0.
+/// Number, line, field, place and length; what document 01 doesn't name for a number is 0. So 8 has no place here:
+/// `bad_byte` finds it.
 #[derive(Debug, Clone, Copy, PartialEq, Eq, Default)]
 pub struct Refusal {
     pub number: u64,

@@ -13,7 +13,7 @@
 //! - `m` the value of an m line, whose first format is set as its number of ports, or 0 if it is no number: the fields,
 //!   with 1 for present before the number of ports.
 use crate::leaf::{self, Numeral};
-use crate::{limits, order, texts, written, Refusal, Session};
+use crate::{bad_byte, limits, order, texts, written, Refusal, Session};
 use generate::{fields, Random};
 use sdp_types::{Media, Origin};
 use std::collections::BTreeSet;
@@ -81,7 +81,7 @@ fn answer(out: &mut String, kind: u8, bytes: &[u8]) {
                 line('w', &answers.concat());
                 out.push_str(&text);
             }
-            Err(refusal) => line('w', &refused(refusal)),
+            Err(refusal) => line('w', &refused(bytes, refusal)),
         },
         b'o' => writeln!(out, "o {}", with_username(bytes)).unwrap(),
         b'm' => writeln!(out, "m {}", with_num_ports(bytes)).unwrap(),
@@ -96,13 +96,16 @@ fn reading(text: &[u8]) -> [u64; 15] {
             let counts = limits::counts(&session).map(|count| count as u64);
             numbers[5..].copy_from_slice(&counts);
         }
-        Err(refusal) => numbers[..5].copy_from_slice(&refused(refusal)),
+        Err(refusal) => numbers[..5].copy_from_slice(&refused(text, refusal)),
     }
     numbers
 }
 
-fn refused(refusal: Refusal) -> [u64; 5] {
-    [refusal.number, refusal.line, refusal.field, refusal.place, refusal.len]
+/// The crate's refusal, and for 8 the place of the bad byte, which it doesn't say.
+fn refused(text: &[u8], refusal: Refusal) -> [u64; 5] {
+    let Refusal { number, line, field, place, len } = refusal;
+    let bad_byte = || bad_byte::find(text, line, field).unwrap_or_else(|why| panic!("{}: {why}", text.escape_ascii()));
+    [number, line, field, if number == 8 { bad_byte().place as u64 } else { place }, len]
 }
 
 /// The session of one line behind `v=0`.
@@ -468,6 +471,13 @@ fn whole_texts(list: &mut List) {
         b"t=0 0\nr=1 1 x",
     ] {
         list.add("rw", &[b"v=0\n", line].concat());
+    }
+    // 8 has the place of the byte within its field too: with a sign, with a unit, of a character cut off the first byte
+    for text in [
+        &b"v=0\r\n\nx=\xff\no=u \xc3\xa9\xe2\x82 0"[..], b"v=0\nt=0 0\nr=1 1 2 3\xffd", b"v=0\nz=0 -1\xff",
+        b"v=0\na=x:y\xc3", b"v=0\nb=A\xc3:\xa9", b"v=0\ns=x\xff\xff",
+    ] {
+        list.add("r", text);
     }
 }
 

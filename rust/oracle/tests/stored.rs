@@ -103,6 +103,7 @@ fn the_texts_have_each_refusal() {
     for answer in answers("r") {
         assert_eq!(answer.len(), 15);
         assert!(answer[0] == 0 || answer[5..].iter().all(|count| *count == 0));
+        assert_eq!(answer[3] > 0, matches!(answer[0], 7 | 8), "7 and 8 have a place, and no other");
         numbers.insert(answer[0]);
         if (8..=11).contains(&answer[0]) {
             pairs.insert((answer[0], answer[2]));

@@ -29,7 +29,7 @@ impl Area {
 
     #[inline]
     pub(crate) fn read(&mut self, text: &[u8]) -> Result<(), Error> {
-        Error::check(ffi::read(text, &mut self.0)).map(|_| ())
+        Error::check_in(ffi::read(text, &mut self.0), text).map(|_| ())
     }
 }
 

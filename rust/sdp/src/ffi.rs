@@ -12,7 +12,7 @@ use crate::MOST_STARTS;
 #[repr(C)]
 #[derive(Debug, Clone, Copy, PartialEq, Eq)]
 pub struct Numeral {
-    /// 0 for read, 8 for not UTF-8, 9 for a bad format
+    /// 0 for read, 8 for not UTF-8, 9 for a bad format; where the bad byte stands, [`utf8_end`] tells
     pub number: u64,
     /// the number, or 0 where there is none
     pub value: u64,
@@ -50,7 +50,8 @@ pub struct Answer {
     pub line: u64,
     /// the field for 8 to 11, the table for 21
     pub field: u64,
-    /// for 7: where the version's value starts
+    /// for 7: where the version's value starts; for 8: where the first byte stands that is not part of the longest
+    /// well-formed beginning of the field; from 0 in the text
     pub place: u64,
     /// for 7: the bytes of the version's value; of [`length`] and [`fill`]: the written length, and with 22 the length needed
     pub len: u64,

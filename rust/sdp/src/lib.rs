@@ -14,7 +14,7 @@
 //! | `session.origin` where no o line was | [`Session::origin`]: the same; [`Session::origin_line`] gives `None` |
 //! | `session.write(&mut output)?` | `session.write_to(&mut output)?`; or [`Session::to_vec`], `to_string()` |
 //! | nothing | [`Session::write`] into a slice, of the length that [`Session::written_len`] says or of [`ROOM`] bytes |
-//! | `ParserError` | [`Error`]: a number, a line, a field, and a sentence |
+//! | `ParserError` | [`Error`]: a number, a line, a field, the byte that is not UTF-8, and a sentence |
 //! | nothing | [`kept`]: the session of an area that was kept |
 //! | nothing | [`Session::starts`]: the instants at which the session starts within a window |
 //!

@@ -21,7 +21,8 @@ pub struct Table {
 }
 
 /// The sentences of the refusals, each with its number. What stands in braces is put in: the name and the form of the
-/// field, the name and the rows of the table, the length.
+/// field, the name and the rows of the table, the length; and for 8 ` from byte 512 on` and `, the 9th byte of the line`,
+/// or nothing where that isn't known.
 pub const SENTENCES: [(u64, &str); 25] = [
     (1, "the text has more than 32768 bytes"),
     (2, "the area has fewer than 14558 bytes"),
@@ -30,7 +31,7 @@ pub const SENTENCES: [(u64, &str); 25] = [
     (5, "the first = is not the second byte of the line"),
     (6, "there is no version: the first line must be v=0"),
     (7, "the version is not 0"),
-    (8, "{field} is not UTF-8"),
+    (8, "{field} is not UTF-8{from}{nth}"),
     (9, "{field} is not {form}"),
     (10, "{field} is missing"),
     (11, "{field} must not be there"),
@@ -95,7 +96,7 @@ pub const FIELDS: [Field; 38] = [
     field("the media's protocol", ""),
     field("the media's formats", ""),
     field("the media's title", ""),
-    field("the session's name", ""),
+    field("the session name", ""),
     field("the session's description", ""),
     field("the URI", ""),
     field("the e-mail address", ""),
@@ -125,8 +126,24 @@ fn entry<T>(list: &'static [T], number: u64) -> Option<&'static T> {
     list.get(usize::try_from(number).ok()?.checked_sub(1)?)
 }
 
-/// The sentence of a refusal, without its line and number.
-pub(crate) fn sentence(f: &mut fmt::Formatter<'_>, answer: &Answer) -> fmt::Result {
+/// What stands behind the digits of 1st, 2nd, 3rd, 4th, 11th, 21st.
+fn ordinal(number: u64) -> &'static str {
+    match (number % 100, number % 10) {
+        (11..=13, _) => "th",
+        (_, 1) => "st",
+        (_, 2) => "nd",
+        (_, 3) => "rd",
+        _ => "th",
+    }
+}
+
+/// The sentence of a refusal, without its line and number; `from` is the place of a bad byte, `nth` which of its line it is.
+pub(crate) fn sentence(
+    f: &mut fmt::Formatter<'_>,
+    answer: &Answer,
+    from: Option<u64>,
+    nth: Option<u64>,
+) -> fmt::Result {
     let Some((_, mut rest)) = SENTENCES.iter().find(|(number, _)| *number == answer.number).copied() else {
         return f.write_str("refused"); // by a later archive
     };
@@ -140,6 +157,8 @@ pub(crate) fn sentence(f: &mut fmt::Formatter<'_>, answer: &Answer) -> fmt::Resu
             "form" => f.write_str(field.map_or("", |field| field.form))?,
             "table" => f.write_str(table.map_or("", |table| table.name))?,
             "rows" => f.write_str(table.map_or("", |table| table.rows))?,
+            "from" => from.map_or(Ok(()), |place| write!(f, " from byte {place} on"))?,
+            "nth" => nth.map_or(Ok(()), |nth| write!(f, ", the {nth}{} byte of the line", ordinal(nth)))?,
             _ => write!(f, "{}", answer.len)?,
         }
         rest = after;

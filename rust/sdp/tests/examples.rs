@@ -112,6 +112,10 @@ fn inputs_and_statuses() {
                  d, h, m, s or nothing (refusal 9)"
             )
         );
+        assert_eq!(
+            run(&[], b"v=0\r\n\r\no=- 1\xc3\xa9 \xe2\x82"),
+            sentence("line 3: the origin's version is not UTF-8 from byte 15 on, the 9th byte of the line (refusal 8)")
+        );
         // of these the text is good, and its list of starts is not
         for (lines, told) in [
             ("t=7 0\nz=9 0 8 0\n", "starts: the adjustment times of the z line fall (refusal 28)\n"),

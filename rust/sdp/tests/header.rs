@@ -268,7 +268,7 @@ fn all_functions_from_c() {
     let texts = ["v=0\ns=Desk 4\nz=60 -1h\n", "v=1\n", "+60", "65536", "2d", "IN", "a b", "", "t=\r", "\n"];
     let texts = texts.into_iter().chain(starting).map(str::as_bytes);
     let mut refused = BTreeSet::new();
-    for text in texts.chain([&b"\xff"[..]]) {
+    for text in texts.chain([&b"\xff"[..], b"v=0\r\na=x:\xc3"]) {
         let mut due = format!("{} {}\n", ffi::utf8_end(text), u64::from(ffi::is_token(text)));
         for numeral in [ffi::number16(text), ffi::number64(text), ffi::typed_time(text)] {
             due += &format!("{} {}\n", numeral.number, numeral.value);

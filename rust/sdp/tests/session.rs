@@ -391,7 +391,7 @@ fn errors() {
     let error = refused(b"\n\nv=zero\n");
     assert_eq!((error.number(), error.line(), error.field(), error.place(), error.len()), (7, 3, 0, 4, 4));
     assert_eq!(refused(b"").to_string(), "there is no version: the first line must be v=0 (refusal 6)");
-    assert_eq!(refused(b"v=0\ns=\xe9\n").to_string(), "line 2: the session's name is not UTF-8 (refusal 8)");
+    assert_eq!((error.bad_byte(), error.byte_in_line()), (None, None));
     let sentence = "line 2: there is an r line with no t line before it (refusal 20)";
     assert_eq!(refused(b"v=0\nr=1 1\n").to_string(), sentence);
     assert_eq!(format!("{error:?}"), "Error(line 3: the version is not 0 (refusal 7))");
@@ -402,6 +402,31 @@ fn errors() {
     let error = io::Error::from(error);
     assert_eq!((error.kind(), &error.to_string()[..]), (ErrorKind::InvalidData, &boxed.to_string()[..]));
     assert_eq!(error.get_ref().unwrap().downcast_ref::<Error>(), boxed.downcast_ref());
+}
+
+/// Where a field is not UTF-8: the byte's place in the text, its number in the line, and the sentence.
+#[test]
+fn the_bad_byte() {
+    let cases: [(&[u8], u64, u64, &str); 9] = [
+        (b"v=0\ns=\xe9\n", 6, 3, "line 2: the session name is not UTF-8 from byte 6 on, the 3rd"),
+        (b"v=0\r\n\r\ns=B\xfchne 4\r\n", 10, 4, "line 3: the session name is not UTF-8 from byte 10 on, the 4th"),
+        // of a character that is cut off, its first byte; those before it count by bytes
+        (b"v=0\ne=\xc3\xa9\xe2\x82\n", 8, 5, "line 2: the e-mail address is not UTF-8 from byte 8 on, the 5th"),
+        (b"v=0\no=- 0  \xff IN IP4 h", 11, 8, "line 2: the origin's version is not UTF-8 from byte 11 on, the 8th"),
+        (b"v=0\nt=0 0\nr=\xffd 1", 12, 3, "line 3: the repeat interval is not UTF-8 from byte 12 on, the 3rd"),
+        (b"v=0\nz=0 -1\xff", 10, 7, "line 2: a zone's offset is not UTF-8 from byte 10 on, the 7th"),
+        (b"v=0\nm=a 1/\xc3 p f", 10, 7, "line 2: the port's encoding is not UTF-8 from byte 10 on, the 7th"),
+        (b"v=0\na=x:y:\xed\xa0\x80", 10, 7, "line 2: the attribute's value is not UTF-8 from byte 10 on, the 7th"),
+        (b"v=0\nk=\xff\nx=\xff\nb=:\xff", 15, 4, "line 4: the bandwidth's value is not UTF-8 from byte 15 on, the 4th"),
+    ];
+    for (text, place, nth, words) in cases {
+        let error = refused(text);
+        assert_eq!((error.bad_byte(), error.byte_in_line(), error.place()), (Some(place), Some(nth), place), "{error}");
+        assert_eq!((error.number(), error.len()), (8, 0), "{error}");
+        assert_eq!(error.to_string(), format!("{words} byte of the line (refusal 8)"));
+    }
+    let text = [b"v=0\nu=", &vec![b'x'; 109][..], b"\xff"].concat();
+    assert!(refused(&text).to_string().ends_with(" not UTF-8 from byte 115 on, the 112th byte of the line (refusal 8)"));
 }
 
 #[test]

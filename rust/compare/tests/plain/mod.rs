@@ -10,7 +10,7 @@ use compare::area::{
 use compare::Answer;
 
 /// What each slip does wrong. The comparison must find every one.
-pub const SLIPS: [&str; 61] = [
+pub const SLIPS: [&str; 73] = [
     "a text of 32,769 bytes is read",
     "a text of 32,768 bytes is refused",
     "a text that is too long clears the area",
@@ -72,6 +72,18 @@ pub const SLIPS: [&str; 61] = [
     "a k line of bad form is ignored",
     "a k line may stand before the version",
     "k lines are not counted",
+    "8 has no place",
+    "9 has a place",
+    "8 has a length",
+    "a bad byte is counted from 1",
+    "a bad byte is counted from its line",
+    "a bad byte is counted from its value",
+    "a bad byte's field is taken for the value's start",
+    "a bad byte is told by its field's start",
+    "of a character cut off the end is told",
+    "the last of two bad bytes is told",
+    "CRs above a bad byte are not counted",
+    "k lines above a bad byte are not counted",
 ];
 
 pub struct Plain {
@@ -87,8 +99,15 @@ fn refusal(number: u64, line: u64, field: u64) -> Answer {
     }
 }
 
-/// A field's refusal: its number.
-type Read<T> = Result<T, u64>;
+/// A field's refusal: its number, and for 8 where in the text the bad byte stands.
+type Read<T> = Result<T, (u64, usize)>;
+
+fn wrong(line: u64, field: u64) -> impl Fn((u64, usize)) -> Answer {
+    move |(number, place)| Answer {
+        place: place as u64,
+        ..refusal(number, line, field)
+    }
+}
 
 impl Plain {
     fn slips(&self, slip: &str) -> bool {
@@ -117,7 +136,11 @@ impl Plain {
             titled: false,
             keys: 0,
         };
-        let answer = reader.all().err().unwrap_or_default();
+        let mut answer = reader.all().err().unwrap_or_default();
+        if answer.number == 8 {
+            answer.place = reader.counted(answer.place as usize) as u64;
+            answer.len = u64::from(self.slips("8 has a length"));
+        }
         let mut bytes = encode(&reader.seen);
         if answer.number != 0 && !self.slips("a refused session stays in the area") {
             bytes.fill(0);
@@ -252,6 +275,26 @@ impl<'a> Reader<'a> {
         Ok(())
     }
 
+    /// The place of a bad byte; slips count it in other ways.
+    fn counted(&self, place: usize) -> usize {
+        let lines = || self.text[..place].split_inclusive(|byte| *byte == b'\n');
+        // what stands before it in its line, behind the `=`
+        let in_value = lines().last().map_or(0, |line| line.len().saturating_sub(2));
+        let in_field = self.text[..place].iter().rev().take_while(|byte| !b" :=".contains(byte)).count();
+        match self.plain.slip {
+            "8 has no place" => 0,
+            "a bad byte is counted from 1" => place + 1,
+            "a bad byte is counted from its line" => in_value + 2,
+            "a bad byte is counted from its value" => in_value,
+            "a bad byte's field is taken for the value's start" => place - in_value + in_field.min(in_value),
+            "CRs above a bad byte are not counted" => place - lines().filter(|line| line.ends_with(b"\r\n")).count(),
+            "k lines above a bad byte are not counted" => {
+                lines().filter(|line| !line.starts_with(b"k=")).map(<[u8]>::len).sum()
+            }
+            _ => place,
+        }
+    }
+
     fn version(&self, line: u64, value: Span) -> Result<(), Answer> {
         if self.bytes(value) == b"0" || self.bytes(value) == b"00" && self.slips("version 00 passes") {
             return Ok(());
@@ -276,10 +319,26 @@ impl<'a> Reader<'a> {
     }
 
     fn text(&self, span: Span) -> Read<Span> {
-        if std::str::from_utf8(self.bytes(span)).is_err() {
-            return Err(8);
+        let Err(error) = std::str::from_utf8(self.bytes(span)) else {
+            return Ok(span);
+        };
+        let mut place = span.place + error.valid_up_to();
+        if self.slips("a bad byte is told by its field's start") {
+            place = span.place;
         }
-        Ok(span)
+        if self.slips("of a character cut off the end is told") && error.error_len().is_none() {
+            place = span.end();
+        }
+        if self.slips("the last of two bad bytes is told") {
+            let tail = span.end() - self.bytes(span).iter().rev().take_while(|byte| byte.is_ascii()).count();
+            place = place.max(tail - 1);
+        }
+        Err((8, place))
+    }
+
+    /// 9 has no place.
+    fn bad_form(&self, span: Span) -> (u64, usize) {
+        (9, if self.slips("9 has a place") { span.place } else { 0 })
     }
 
     fn number(&self, span: Span, bits: u32) -> Read<u64> {
@@ -287,12 +346,12 @@ impl<'a> Reader<'a> {
         let bytes = self.bytes(span);
         let digits = bytes.strip_prefix(b"+").unwrap_or(bytes);
         if digits.is_empty() || !digits.iter().all(u8::is_ascii_digit) {
-            return Err(9);
+            return Err(self.bad_form(span));
         }
         if digits.len() < bytes.len() && self.slips("+ is refused")
             || digits.len() > 1 && digits[0] == b'0' && self.slips("zeros before a number are refused")
         {
-            return Err(9);
+            return Err(self.bad_form(span));
         }
         let mut value: u128 = 0;
         for digit in digits {
@@ -305,14 +364,14 @@ impl<'a> Reader<'a> {
             return Ok(0);
         }
         if value >> bits != 0 {
-            return Err(9);
+            return Err(self.bad_form(span));
         }
         Ok(value as u64)
     }
 
     fn typed(&self, span: Span) -> Read<u64> {
         let factor = match self.bytes(span).last() {
-            None => return Err(9),
+            None => return Err(self.bad_form(span)),
             Some(b'd') => 86_400,
             Some(b'h') => 3_600,
             Some(b'm') => 60,
@@ -321,7 +380,7 @@ impl<'a> Reader<'a> {
             Some(_) => return self.number(span, 64),
         };
         if self.slips("a unit alone is no UTF-8") && self.bytes(span)[..span.len - 1] == *b"" {
-            return Err(8);
+            return Err((8, span.place));
         }
         let number = self.number(
             Span {
@@ -330,7 +389,7 @@ impl<'a> Reader<'a> {
             },
             64,
         )?;
-        number.checked_mul(factor).ok_or(9)
+        number.checked_mul(factor).ok_or(self.bad_form(span))
     }
 
     fn zone(&self, span: Span) -> Read<i64> {
@@ -341,13 +400,13 @@ impl<'a> Reader<'a> {
             len: span.len - cut,
         })?;
         if minus && value == 1 << 63 && self.slips("-2^63 is refused") {
-            return Err(9);
+            return Err(self.bad_form(span));
         }
         if minus && value <= 1 << 63 {
             let sign = if self.slips("the sign of a zone is dropped") && value < 1 << 63 { 1 } else { -1 };
             return Ok((value as i64).wrapping_mul(sign));
         }
-        i64::try_from(value).map_err(|_| 9)
+        i64::try_from(value).map_err(|_| self.bad_form(span))
     }
 
     fn token(&self, span: Span) -> Read<Span> {
@@ -356,7 +415,7 @@ impl<'a> Reader<'a> {
         }
         let good = |byte: &u8| byte.is_ascii_alphanumeric() || b"!#$%&'*+-.^_`{|}~".contains(byte);
         if span.len == 0 || !self.bytes(span).iter().all(good) {
-            return Err(9);
+            return Err(self.bad_form(span));
         }
         Ok(span)
     }
@@ -414,7 +473,7 @@ impl<'a> Reader<'a> {
             owner => owner,
         };
         // a refusal of a field
-        let at = |field: u64| move |number: u64| refusal(number, line, field);
+        let at = |field: u64| wrong(line, field);
         let missing = |field: u64| refusal(10, line, field);
         match (in_media, letter) {
             (false, b'o') => {
@@ -600,13 +659,13 @@ impl<'a> Reader<'a> {
                 len: value.end() - cut - 1,
             };
         }
-        let first = self.text(pieces[0]).map_err(|number| refusal(number, line, field))?;
+        let first = self.text(pieces[0]).map_err(wrong(line, field))?;
         let second = pieces.get(1).map(|span| self.text(*span)).transpose();
-        Ok((first, second.map_err(|number| refusal(number, line, field + 1))?))
+        Ok((first, second.map_err(wrong(line, field + 1))?))
     }
 
     fn media(&mut self, line: u64, value: Span) -> Result<(), Answer> {
-        let at = |field: u64| move |number: u64| refusal(number, line, field);
+        let at = |field: u64| wrong(line, field);
         let mut pieces = self.pieces(value, 4, b' ');
         if self.slips("a run of spaces in an m line is one") {
             pieces = self.words(value);

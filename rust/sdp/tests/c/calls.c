@@ -43,9 +43,10 @@ int main(void) {
     size_t len = fread(text, 1, sizeof text, stdin);
     struct sdp_piece p = sdp_cut(text, len, 0, 7);
     struct sdp_order order = sdp_letter_order(text, len);
-    char sentence[SDP_SENTENCE_SIZE];
+    char sentence[SDP_SENTENCE_SIZE], with_text[SDP_SENTENCE_SIZE];
     struct sdp_answer bad = {SDP_BAD_FORM, 2, 15, 0, 0};
     if (strstr(sdp_sentence(bad, sentence, sizeof sentence), "start time") == NULL) return 1;
+    if (strcmp(sdp_sentence_in(bad, text, len, with_text, sizeof with_text), sentence) != 0) return 1;
     printf("%zu %d\n", sdp_utf8_end(text, len), sdp_is_token(text, len) ? 1 : 0);
     numeral(sdp_number16(text, len));
     numeral(sdp_number64(text, len));
