@@ -1,5 +1,5 @@
 -- Reading a value field by field, seen as reading the list of its words, or its cuts: places are left out, and so are refusals. Assumes nothing.
-use mathlib.Core.Path.{_≡_, refl, sym, ap, _∙_}
+use mathlib.Core.Path.{_≡_, refl, ap, _∙_}
 use mathlib.Core.Bool.{Bool, true, false, cond}
 use mathlib.Core.List.{List, [], _∷_, map}
 use mathlib.Core.Option.{Option, none, some, Option·map}
@@ -12,7 +12,7 @@ use borrow.Author.Tests.{lt-ltb, le-ltb, ltb-true, ltb-false}
 use Rattle.sdp_bytes.specs.Runs.{indexOf}
 use Rattle.sdp_bytes.specs.Token.{isToken}
 use Rattle.sdp_utf8.specs.Utf8.{isUtf8}
-use Rattle.sdp_number.specs.Number.{wholeNumber, typedTime}
+use Rattle.sdp_number.specs.Number.{wholeNumber}
 use Rattle.sdp_number.specs.declared.Number.{Number}
 use Rattle.sdp_number.specs.declared.Number.the-variants.{Value, Encoding, Format}
 use Rattle.sdp_split.specs.Split as split
@@ -20,13 +20,11 @@ use Rattle.sdp_split.specs.Split.{part, nextWord, later, firstPiece, pieceAfter
 use Rattle.sdp_split.specs.declared.Piece.{Piece}
 use Rattle.sdp_split.specs.declared.Field.{Field}
 use Rattle.sdp_split.specs.declared.Field.the-variants as field
-use Rattle.sdp_judge.specs.Read.{Read, got, refused, plain, encoding, format, missing, textOf, tokenOf, amountOf, numberOf, timeOf, choiceOf, absent, andThen, afterText, afterAmount, afterChoice, ending}
+use Rattle.sdp_judge.specs.Read.{Read, got, refused, plain, encoding, format, missing, textOf, tokenOf, amountOf, numberOf, choiceOf, absent, andThen, afterText, afterAmount, afterChoice, ending}
 use Rattle.sdp_judge.specs.declared.Wrong.{Wrong}
 use Rattle.sdp_judge.specs.declared.MaybePiece.{MaybePiece}
 use Rattle.sdp_judge.specs.declared.Text.{Text}
 use Rattle.sdp_judge.specs.declared.Text.the-variants as text
-use Rattle.sdp_judge.specs.declared.Amount.{Amount}
-use Rattle.sdp_judge.specs.declared.Amount.the-variants as amount
 use Rattle.sdp_judge.specs.declared.Choice.the-variants as choice
 use Rattle.sdp_media_line.specs.MediaLine as media
 use Rattle.sdp_media_line.specs.MediaLine.{portsOf, afterPort}
@@ -109,26 +107,18 @@ module _ {A B R : Type 0} (f : A → B) (w : ℕ) (v : List ℕ) (place : ℕ �
     pub see-token : mapRead f (afterText (tokenOf w v F) k) ≡ onSeen X (λ s r. andThen (tokenIn s) (λ a. k′ a r))
     see-token = see-string isToken (λ p. format w) (tokenOf w v) (λ p e. refl) refl
 
-  -- a number by a rule
-  module _ (k : ℕ → ℕ → Read A) (k′ : ℕ → R → Read B) (h : (n e : ℕ) → mapRead f (k n e) ≡ k′ n (place e)) where
-    see-amount : (rule : List ℕ → Number) (judge : Field → Amount) → ((p : Piece) (e : ℕ) → judge (field.Got p e) ≡ amountOf w v p e (rule (part v p))) → judge field.Nothing ≡ amount.Refused (missing w)
-        → mapRead f (afterAmount (judge F) k) ≡ onSeen X (λ s r. andThen (amountIn (rule s)) (λ n. k′ n r))
-    see-amount rule judge here gone = go F ∙ ap (λ y. onSeen y (λ s r. andThen (amountIn (rule s)) (λ n. k′ n r))) q
-      where
-        pick : (p : Piece) (e : ℕ) (n : Number) → mapRead f (afterAmount (amountOf w v p e n) k) ≡ andThen (amountIn n) (λ m. k′ m (place e))
-        pick p e (Value n) = h n e
-        pick p e Encoding = refl
-        pick p e Format = refl
+  pub see-number : (k : ℕ → ℕ → Read A) (k′ : ℕ → R → Read B) → ((n e : ℕ) → mapRead f (k n e) ≡ k′ n (place e))
+      → mapRead f (afterAmount (numberOf w v F) k) ≡ onSeen X (λ s r. andThen (amountIn (wholeNumber 64 s)) (λ n. k′ n r))
+  see-number k k′ h = go F ∙ ap (λ y. onSeen y (λ s r. andThen (amountIn (wholeNumber 64 s)) (λ n. k′ n r))) q
+    where
+      pick : (p : Piece) (e : ℕ) (n : Number) → mapRead f (afterAmount (amountOf w v p e n) k) ≡ andThen (amountIn n) (λ m. k′ m (place e))
+      pick p e (Value n) = h n e
+      pick p e Encoding = refl
+      pick p e Format = refl
 
-        go : (G : Field) → mapRead f (afterAmount (judge G) k) ≡ onSeen (seen v place G) (λ s r. andThen (amountIn (rule s)) (λ n. k′ n r))
-        go (field.Got p e) = rw (here p e) (pick p e (rule (part v p)))
-        go field.Nothing = rw gone
-
-    pub see-number : mapRead f (afterAmount (numberOf w v F) k) ≡ onSeen X (λ s r. andThen (amountIn (wholeNumber 64 s)) (λ n. k′ n r))
-    see-number = see-amount (wholeNumber 64) (numberOf w v) (λ p e. refl) refl
-
-    pub see-time : mapRead f (afterAmount (timeOf w v F) k) ≡ onSeen X (λ s r. andThen (amountIn (typedTime s)) (λ n. k′ n r))
-    see-time = see-amount typedTime (timeOf w v) (λ p e. refl) refl
+      go : (G : Field) → mapRead f (afterAmount (numberOf w v G) k) ≡ onSeen (seen v place G) (λ s r. andThen (amountIn (wholeNumber 64 s)) (λ n. k′ n r))
+      go (field.Got p e) = pick p e (wholeNumber 64 (part v p))
+      go field.Nothing = refl
 
   pub see-port : (k : Port → ℕ → Read A) (k′ : Port → R → Read B) → ((p : Port) (e : ℕ) → mapRead f (k p e) ≡ k′ p (place e))
       → mapRead f (afterPort v F k) ≡ onSeen X (λ s r. andThen (portIn s) (λ p. k′ p r))

@@ -18,7 +18,6 @@ use Rattle.sdp_number.specs.declared.Number.the-variants.{Value}
 use Rattle.sdp_number.proofs.NumberLaws.{typed-plain, typed-unit}
 use Rattle.sdp_judge.specs.Offset as signed-offset
 use Rattle.sdp_judge.specs.Offset.{zoneOffset}
-use Rattle.sdp_judge.specs.Read.{got}
 use Rattle.sdp_put.specs.Digits.{digits, timeText}
 use Rattle.sdp_put.proofs.DigitLaws.{digits-one, digits-more, digits-pass, time-form, time-pass, offset-minus, offset-plain}
 use Rattle.sdp_row.specs.Written.{signedText}

@@ -35,7 +35,9 @@ pub data FieldOf (v : List ℕ) : ℕ → Piece → Type 0 where
   -- "m: at the first three spaces"; "27 media name, .. 29 port encoding, .. 31 proto, 32 fmt"
   mediaName : (x : Piece) (e : ℕ) → firstPiece 0x20 v ≡ Got x e → FieldOf v fields.mediaName x
   port : (y x : Piece) (i e : ℕ) → firstPiece 0x20 v ≡ Got y i → pieceAfter 0x20 v i ≡ Got x e → FieldOf v fields.portEncoding x
-  proto : (y z x : Piece) (i j e : ℕ) → firstPiece 0x20 v ≡ Got y i → pieceAfter 0x20 v i ≡ Got z j → pieceAfter 0x20 v j ≡ Got x e → FieldOf v fields.proto x
-  fmt : (y z u x : Piece) (i j l e : ℕ) → firstPiece 0x20 v ≡ Got y i → pieceAfter 0x20 v i ≡ Got z j → pieceAfter 0x20 v j ≡ Got u l → restAfter v l ≡ Got x e → FieldOf v fields.fmt x
+  proto : (y z x : Piece) (i j e : ℕ) → firstPiece 0x20 v ≡ Got y i → pieceAfter 0x20 v i ≡ Got z j → pieceAfter 0x20 v j ≡ Got x e
+      → FieldOf v fields.proto x
+  fmt : (y z u x : Piece) (i j l e : ℕ) → firstPiece 0x20 v ≡ Got y i → pieceAfter 0x20 v i ≡ Got z j → pieceAfter 0x20 v j ≡ Got u l
+      → restAfter v l ≡ Got x e → FieldOf v fields.fmt x
   -- "33 media title", "34 s; 35 session i; 36 u; 37 e; 38 p": the whole value
   whole : (w : ℕ) → fields.mediaTitle ≤ w → w ≤ fields.phone → FieldOf v w (entire v)

@@ -14,7 +14,6 @@ use Rattle.sdp_utf8.proofs.Utf8Text.{utf8-sound, utf8-longest}
 use Rattle.sdp_utf8.proofs.BreakLaws.{utf8-short}
 use Rattle.sdp_lines.specs.Lines.{Raw, split, content, width, formOf}
 use Rattle.sdp_lines.specs.declared.Span.{Span}
-use Rattle.sdp_lines.specs.declared.Answer.{Answer}
 use Rattle.sdp_lines.specs.declared.Fault.{Fault}
 use Rattle.sdp_lines.specs.declared.Fault.the-variants as fault
 use Rattle.sdp_lines.specs.declared.Form.{Form}

@@ -91,15 +91,6 @@ module _ (w : ℕ) (v : List ℕ) where
   time-within f n e h q = let z = time-field f n e q in h (z .0) e (z .1) .1
 
 -- ---- the next of the words from place i on: r is the code's answer, x the case at hand. Where it ends, the words that are left begin
-module _ {A : Type 0} where
-  same-text : (t : Text) (k k′ : Piece → ℕ → Read A) → ((p : Piece) (e : ℕ) → t ≡ text.Got p e → k p e ≡ k′ p e) → afterText t k ≡ afterText t k′
-  same-text (text.Got p e) k k′ h = h p e refl
-  same-text (text.Refused x) k k′ h = refl
-
-  same-amount : (t : Amount) (k k′ : ℕ → ℕ → Read A) → ((n e : ℕ) → t ≡ amount.Got n e → k n e ≡ k′ n e) → afterAmount t k ≡ afterAmount t k′
-  same-amount (amount.Got n e) k k′ h = h n e refl
-  same-amount (amount.Refused x) k k′ h = refl
-
 later-at : (v : List ℕ) (i : ℕ) (p : Piece) (e : ℕ) → wordAt v i ≡ field.Got p e → later (wordsAt v i) ≡ wordsAt v e
 later-at v i p e h = ap later (word-next v i p e h .0)
 
@@ -110,23 +101,36 @@ module _ {A : Type 0} (w : ℕ) (v : List ℕ) (i : ℕ) where
   end-next k d q = by-end w k d q
 
   module _ {r x : Text} (k : Piece → List Piece → Read A) where
+    -- by whatever judges it
+    string-next : (judge : Field → Text) → ((f : Field) (p : Piece) (e : ℕ) → judge f ≡ text.Got p e → f ≡ field.Got p e) → r ≡ judge (wordAt v i) → r ≡ x
+        → afterText (judge (wordAt v i)) (λ p e. k p (later (wordsAt v i))) ≡ afterText x (λ p e. k p (wordsAt v e))
+    string-next judge fielded d q = go (judge (wordAt v i)) refl ∙ by-text (λ p e. k p (wordsAt v e)) d q
+      where
+        go : (t : Text) → judge (wordAt v i) ≡ t → afterText t (λ p e. k p (later (wordsAt v i))) ≡ afterText t (λ p e. k p (wordsAt v e))
+        go (text.Got p e) h = ap (k p) (later-at v i p e (fielded (wordAt v i) p e h))
+        go (text.Refused x) h = refl
+
     pub text-next : r ≡ textOf w v (wordAt v i) → r ≡ x → nextText w v (wordsAt v i) k ≡ afterText x (λ p e. k p (wordsAt v e))
     unfolding nextText split.wordAt
-    text-next d q = same-text (textOf w v (wordAt v i)) _ _ (λ p e h. ap (k p) (later-at v i p e (text-field w v (wordAt v i) p e h))) ∙ by-text (λ p e. k p (wordsAt v e)) d q
+    text-next = string-next (textOf w v) (text-field w v)
 
     pub token-next : r ≡ tokenOf w v (wordAt v i) → r ≡ x → nextToken w v (wordsAt v i) k ≡ afterText x (λ p e. k p (wordsAt v e))
     unfolding nextToken split.wordAt
-    token-next d q = same-text (tokenOf w v (wordAt v i)) _ _ (λ p e h. ap (k p) (later-at v i p e (token-field w v (wordAt v i) p e h))) ∙ by-text (λ p e. k p (wordsAt v e)) d q
+    token-next = string-next (tokenOf w v) (token-field w v)
 
   module _ {r x : Amount} (k : ℕ → List Piece → Read A) where
+    amount-next : (judge : Field → Amount) → ((f : Field) (n e : ℕ) → judge f ≡ amount.Got n e → (p : Piece) × (f ≡ field.Got p e)) → r ≡ judge (wordAt v i) → r ≡ x
+        → afterAmount (judge (wordAt v i)) (λ n e. k n (later (wordsAt v i))) ≡ afterAmount x (λ n e. k n (wordsAt v e))
+    amount-next judge fielded d q = go (judge (wordAt v i)) refl ∙ by-amount (λ n e. k n (wordsAt v e)) d q
+      where
+        go : (t : Amount) → judge (wordAt v i) ≡ t → afterAmount t (λ n e. k n (later (wordsAt v i))) ≡ afterAmount t (λ n e. k n (wordsAt v e))
+        go (amount.Got n e) h = let z = fielded (wordAt v i) n e h in ap (k n) (later-at v i (z .0) e (z .1))
+        go (amount.Refused x) h = refl
+
     pub number-next : r ≡ numberOf w v (wordAt v i) → r ≡ x → nextNumber w v (wordsAt v i) k ≡ afterAmount x (λ n e. k n (wordsAt v e))
     unfolding nextNumber split.wordAt
-    number-next d q =
-        same-amount (numberOf w v (wordAt v i)) _ _ (λ n e h. let z = number-field w v (wordAt v i) n e h in ap (k n) (later-at v i (z .0) e (z .1)))
-        ∙ by-amount (λ n e. k n (wordsAt v e)) d q
+    number-next = amount-next (numberOf w v) (number-field w v)
 
     pub time-next : r ≡ timeOf w v (wordAt v i) → r ≡ x → nextTime w v (wordsAt v i) k ≡ afterAmount x (λ n e. k n (wordsAt v e))
     unfolding nextTime split.wordAt
-    time-next d q =
-        same-amount (timeOf w v (wordAt v i)) _ _ (λ n e h. let z = time-field w v (wordAt v i) n e h in ap (k n) (later-at v i (z .0) e (z .1)))
-        ∙ by-amount (λ n e. k n (wordsAt v e)) d q
+    time-next = amount-next (timeOf w v) (time-field w v)

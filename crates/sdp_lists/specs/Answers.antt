@@ -18,13 +18,14 @@ use Rattle.sdp_lists.specs.declared.RepeatOffset.the-variants as offsets
 use Rattle.sdp_lists.specs.declared.ZoneRead.{ZoneRead}
 use Rattle.sdp_lists.specs.declared.ZoneRead.the-variants.{Got, Done, Refused}
 
--- the words 1 and 2 of an r line, and where the offsets begin
+-- the first two words of an r line, interval and duration, and where the offsets begin
 unfoldable pub repeatHead : List ℕ → Read RepeatHead
 repeatHead v =
     afterAmount (timeOf fields.interval v (wordAt v 0)) (λ interval e.
     afterAmount (timeOf fields.duration v (wordAt v e)) (λ duration e.
     got (record { «repeat_interval» = interval; «active_duration» = duration; next = e })))
 
+-- its answer, as the enum that the code hands out
 abbrev pub repeatAnswer : Read RepeatHead → RepeatRead
 repeatAnswer (got x) = repeat.Got x
 repeatAnswer (refused w) = repeat.Refused w

@@ -5,14 +5,14 @@ use native.Mathlib.Omega.{arith}
 use mathlib.Core.Path.{_≡_, refl, sym, ap, _∙_}
 use mathlib.Core.Bool.{Bool, true, false, _&&_}
 use mathlib.Core.List.{List, [], _∷_, _++_, append-assoc}
-use lib.ListN.{length, take, drop, length-append, length-drop, take-append-drop}
+use lib.ListN.{length, take, drop, length-drop, take-append-drop}
 use lib.Seq.{length-take-le}
 use lib.Dec.{leb}
 use borrow.Author.Tests.{eqb-false, ne-eqb, lt-leb, leb-true}
 use Rattle.sdp_bytes.proofs.ScanLaws.{and-left, and-right}
 use Rattle.sdp_bytes.specs.Ranges.{Range, _to_, within, fits}
 use Rattle.sdp_utf8.specs.Utf8.{charLen, stopAt, endFrom, utf8End, isUtf8}
-use Rattle.sdp_utf8.proofs.Utf8Laws.{charLen-le, utf8-next, utf8-stop}
+use Rattle.sdp_utf8.proofs.Utf8Laws.{utf8-next, utf8-stop}
 use Rattle.sdp_utf8.proofs.Utf8Text.{utf8-sound, text-append}
 
 -- ---- the end lies in the list

@@ -1,5 +1,5 @@
 -- `sdp_media_line::Port::parse` meets its contract. Assumes nothing.
-use mathlib.Core.Path.{refl, ap, _∙_}
+use mathlib.Core.Path.{ap, _∙_}
 use Rattle.sdp_utf8.specs.Utf8.{isUtf8}
 use Rattle.sdp_judge.proofs.ReadLaws.{judged}
 use Rattle.sdp_media_line.specs.MediaLine.{portsOf, portOf}
