@@ -25,16 +25,16 @@ use Rattle.sdp_blame.specs.Blame.{Blames}
 use Rattle.sdp_blame.proofs.NumberLaws.{Honest, number-honest, time-honest}
 use Rattle.sdp_blame.proofs.ValueLaws.{Stands, value-end}
 
--- a piece of v that is its field w, and where it stands
-pub record Known (v : List ℕ) (w : ℕ) (p : Piece) : Type 0 where
-  pub field : FieldOf v w p
+-- a piece of v that is its field w behind the letter l, and where it stands
+pub record Known (l : ℕ) (v : List ℕ) (w : ℕ) (p : Piece) : Type 0 where
+  pub field : FieldOf v l w p
   pub stands : Stands v p
 
-module _ (v : List ℕ) where
-  pub plain-blames : (n w : ℕ) → (n ≡ 8 → ⊥) → Blames v (plain n w)
+module _ (l : ℕ) (v : List ℕ) where
+  pub plain-blames : (n w : ℕ) → (n ≡ 8 → ⊥) → Blames l v (plain n w)
   plain-blames n w h = record { byte = λ e. absurd (h e); none = λ e. refl }
 
-  pub byte-blames : (w : ℕ) (p : Piece) → Known v w p → isUtf8 (part v p) ≡ false → Blames v (encoding w v p)
+  pub byte-blames : (w : ℕ) (p : Piece) → Known l v w p → isUtf8 (part v p) ≡ false → Blames l v (encoding w v p)
   byte-blames w p k h =
       let s = k .stands in
       record {
@@ -45,11 +45,11 @@ module _ (v : List ℕ) where
   -- a refusal blames as it should
   abbrev pub Fair : {A : Type 0} → Read A → Type 0
   Fair (got a) = Unit {0}
-  Fair (refused w) = Blames v w
+  Fair (refused w) = Blames l v w
 
   -- a field is the field w of v
   abbrev pub Knows : ℕ → Field → Type 0
-  Knows w f = (p : Piece) (e : ℕ) → f ≡ field.Got p e → Known v w p
+  Knows w f = (p : Piece) (e : ℕ) → f ≡ field.Got p e → Known l v w p
 
   module _ {A : Type 0} where
     pub fair-cond : (b : Bool) (r s : Read A) → (b ≡ true → Fair r) → (b ≡ false → Fair s) → Fair (cond b r s)
@@ -89,7 +89,7 @@ module _ (v : List ℕ) where
         go false q = byte-blames w p (g p e refl) q
 
     -- a number that a rule reads in the field p
-    fair-amount : (rule : List ℕ → Number) → Honest rule → (w : ℕ) (p : Piece) (e : ℕ) → Known v w p → (k : ℕ → ℕ → Read A) → ((n : ℕ) → isUtf8 (part v p) ≡ true → Fair (k n e)) → Fair (afterAmount (amountOf w v p e (rule (part v p))) k)
+    fair-amount : (rule : List ℕ → Number) → Honest rule → (w : ℕ) (p : Piece) (e : ℕ) → Known l v w p → (k : ℕ → ℕ → Read A) → ((n : ℕ) → isUtf8 (part v p) ≡ true → Fair (k n e)) → Fair (afterAmount (amountOf w v p e (rule (part v p))) k)
     fair-amount rule honest w p e g k h = go (rule (part v p)) refl
       where
         go : (x : Number) → rule (part v p) ≡ x → Fair (afterAmount (amountOf w v p e x) k)
@@ -106,7 +106,7 @@ module _ (v : List ℕ) where
     fair-time w (field.Got p e) g k h = fair-amount typedTime time-honest w p e (g p e refl) k (λ n. h n e p refl)
 
     -- the same of a word of a list
-    pub fair-numbered : (rule : List ℕ → Number) → Honest rule → (w : ℕ) (p : Piece) → Known v w p → (k : ℕ → Read A) → ((n : ℕ) → isUtf8 (part v p) ≡ true → Fair (k n))
+    pub fair-numbered : (rule : List ℕ → Number) → Honest rule → (w : ℕ) (p : Piece) → Known l v w p → (k : ℕ → Read A) → ((n : ℕ) → isUtf8 (part v p) ≡ true → Fair (k n))
         → Fair (andThen (numbered w v p (rule (part v p))) k)
     fair-numbered rule honest w p g k h = go (rule (part v p)) refl
       where

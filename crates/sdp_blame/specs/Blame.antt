@@ -1,4 +1,4 @@
--- Document 02, P2: "Refusal 8 now returns that place": the byte that the refusal of a value names.
+-- Document 02, P2: "Refusal 8 now returns that place": the byte that the refusal of a value behind the letter l names.
 use Prim.Native.Nat.{ℕ}
 use mathlib.Core.Path.{_≡_}
 use mathlib.Core.Bool.{false}
@@ -12,9 +12,9 @@ use Rattle.sdp_judge.specs.declared.Wrong.{Wrong}
 use Rattle.sdp_blame.specs.Field.{FieldOf}
 
 -- it is "the end of the longest well-formed beginning" of the refused field, which is not UTF-8
-pub record BadByte (v : List ℕ) (w : Wrong) : Type 0 where
+pub record BadByte (l : ℕ) (v : List ℕ) (w : Wrong) : Type 0 where
   pub piece : Piece
-  pub field : FieldOf v (w .field) piece
+  pub field : FieldOf v l (w .field) piece
   pub inside : Inside v piece
   pub at : w .at ≡ badByte v piece
   pub bad : isUtf8 (part v piece) ≡ false
@@ -22,6 +22,6 @@ pub record BadByte (v : List ℕ) (w : Wrong) : Type 0 where
   pub first : w .at ≡ utf8End v
 
 -- a refusal with 8 names a byte, another one none
-pub record Blames (v : List ℕ) (w : Wrong) : Type 0 where
-  pub byte : w .number ≡ refusals.encoding → BadByte v w
+pub record Blames (l : ℕ) (v : List ℕ) (w : Wrong) : Type 0 where
+  pub byte : w .number ≡ refusals.encoding → BadByte l v w
   pub none : (w .number ≡ refusals.encoding → ⊥) → w .at ≡ 0

@@ -69,7 +69,7 @@ module _ (t : List ℕ) where
   other number line field h = record { byte = λ e. absurd (h e); none = λ e f. refl }
 
   -- the refused line, of good form
-  line-told : (above rs : List Raw) (r : Raw) (n p : ℕ) → Reached above (r ∷ rs) n p → (c : ℕ) → formOf (content r) ≡ Good c → (w : Wrong) → Blames (valueOf r) w → w .number ≡ 8
+  line-told : (above rs : List Raw) (r : Raw) (n p : ℕ) → Reached above (r ∷ rs) n p → (c : ℕ) → formOf (content r) ≡ Good c → (w : Wrong) → Blames c (valueOf r) w → w .number ≡ 8
       → NamesByte t (wrongAt n (p + 2) w)
   line-told above rs r n p h c f w b e =
       let v = valueOf r in

@@ -32,9 +32,9 @@ pub record NamesByte (t : List ℕ) (x : Answer) : Type 0 where
   pub number : x .line ≡ length above + 1
   pub letter : ℕ
   pub form : formOf (content line) ≡ Good letter
-  -- the refused field of its value, by its number, and where it stands in t
+  -- the refused field of its value, by letter and number, and where it stands in t
   pub piece : Piece
-  pub field : FieldOf (valueOf line) (x .field) piece
+  pub field : FieldOf (valueOf line) letter (x .field) piece
   pub inside : Inside (valueOf line) piece
   pub start : ℕ
   pub starts : start ≡ widths above + 2 + piece .at

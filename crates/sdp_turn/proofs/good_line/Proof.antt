@@ -29,7 +29,7 @@ returns-2 c =
     let a = b .args in
     let v = bytesOf (a .text .now) (a .value) in
     turns-refused (λ ρ. step (spanAt (a .value .at .0) v) ρ v (a .letter)) (a .marks) (a .area .now) _ (a .number .0) (a .value .at .0) _ _
-    (λ ρ e. c .wrong-at .ensures (λ n. byte-fits (a .text .now) (a .value) _ (b .pre .1 .0) (b .pre .1 .1) (blamed-inside v _ (step-blames v (spanAt (a .value .at .0) v) ρ (a .letter) _ e) n)))
+    (λ ρ e. c .wrong-at .ensures (λ n. byte-fits (a .text .now) (a .value) _ (b .pre .1 .0) (b .pre .1 .1) (blamed-inside (a .letter) v _ (step-blames v (spanAt (a .value .at .0) v) ρ (a .letter) _ e) n)))
     (rw (c .before .before .w .given .1, part-is (a .text .now) (a .value)) at (k .take .ensures))
 
 pub good-line-spec : {M : Type 1} → statement M
