@@ -126,7 +126,8 @@ fn canon(text: &[u8], area: &mut [u8], out: &mut [u8]) -> usize
     requires { ⌜ (size ≤ length (now area)) × (roomOfAny ≤ length (now out)) ⌝ }
     ensures { λ r. ⌜ Holds (printed (now (text .entry)) (now (area .entry))) (now (out .exit)) r ⌝ }
 {
-    let a = read(text, area);
+    let told = read(text, area);
+    let a = told.answer;
     if a.number != 0 {
         return refusal(out, a);
     }

@@ -5,7 +5,7 @@ ghost use Rattle.sdp_bytes.specs.Token.{isToken};
 ghost use Rattle.sdp_number.specs.Number.{wholeNumber, typedTime};
 ghost use Rattle.sdp_lines.specs.Lines.{cutAt};
 ghost use Rattle.sdp_area.specs.Area.{size};
-ghost use Rattle.sdp_read.specs.Run.{readText};
+ghost use Rattle.sdp_read.specs.Run.{readText, toldOf};
 ghost use Rattle.sdp_write.specs.Write.{lengthText, fillText};
 ghost use Rattle.sdp_order.specs.Order.{orderOf, verdictOf};
 ghost use Rattle.sdp_hours.specs.Starts.{startsText};
@@ -20,6 +20,7 @@ use sdp_lines::Cursor;
 use sdp_lines::LineNumber;
 use sdp_lines::Place;
 use sdp_order::Verdict;
+use sdp_read::Told;
 use sdp_starts::Starts;
 
 // The end of the longest well-formed UTF-8 beginning of s.
@@ -74,10 +75,10 @@ pub extern "C" fn sdp_cut(text: &[u8], place: usize, line: usize) -> Piece
     piece_of(line, c.cut(text))
 }
 
-// Reads a text into the record area. docs/AREA.md has the area's layout and what it holds after each answer.
+// Reads a text into the record area, and counts its lines. docs/AREA.md has the area's layout and what it holds after each answer.
 #[no_mangle]
-pub extern "C" fn sdp_read(text: &[u8], area: &mut [u8]) -> Answer
-    ensures { λ r. ⌜ r ≡ readText (now (text .entry)) (now (area .entry)) .answer ⌝ }
+pub extern "C" fn sdp_read(text: &[u8], area: &mut [u8]) -> Told
+    ensures { λ r. ⌜ r ≡ toldOf (readText (now (text .entry)) (now (area .entry))) ⌝ }
     ensures { λ r. ⌜ now (area .exit) ≡ readText (now (text .entry)) (now (area .entry)) .area ⌝ }
 {
     sdp_read::read(text, area)

@@ -31,7 +31,7 @@ use Rattle.sdp_put.specs.Strings.{clean}
 use Rattle.sdp_put.specs.Digits.{digits}
 use Rattle.sdp_row.specs.Written as form
 use Rattle.sdp_row.specs.Written.{spaced, text, usernameText, originValue}
-use Rattle.sdp_bound.specs.Kept.{id}
+use Rattle.sdp_same.proofs.WrittenLaws.{id}
 use Rattle.sdp_same.specs.Fits.{Each}
 use Rattle.sdp_back.specs.Again.{placeholder}
 use Rattle.sdp_put.proofs.ByteLaws.{every, bare, clean-bare}

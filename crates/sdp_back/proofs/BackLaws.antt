@@ -14,13 +14,12 @@ use Rattle.sdp_row.specs.Written.{written}
 use Rattle.sdp_write.specs.Write as writer
 use Rattle.sdp_write.specs.Write.{answer, wrote, lengthText, fill, fillText}
 use Rattle.sdp_write.proofs.WriteLaws.{wrote-fill}
-use Rattle.sdp_bound.specs.Kept.{id}
 use Rattle.sdp_same.specs.Said.{saidMediaConnection, saidBandwidth, saidAttribute, saidMedia, said, bytesAt}
 use Rattle.sdp_same.specs.Sound.{FineIn, Rising, Sound}
 use Rattle.sdp_same.proofs.LinesLaws.{accepted-said, refused-said}
 use Rattle.sdp_same.proofs.SoundLaws.{read-sound}
 use Rattle.sdp_same.proofs.SameLaws.{read-is, read-fits, length-is, write-is, read-then-write}
-use Rattle.sdp_same.proofs.WrittenLaws.{written-said}
+use Rattle.sdp_same.proofs.WrittenLaws.{id, written-said}
 use Rattle.sdp_back.specs.Again.{again}
 use Rattle.sdp_back.specs.Back.{SaysAgain, ReadBack}
 use Rattle.sdp_back.specs.Keys.{withoutKeys, KeptFrom, KeptBack}

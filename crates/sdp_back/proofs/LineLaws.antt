@@ -24,7 +24,7 @@ use Rattle.sdp_step.specs.Step.{Reading, goes, once, row, zoneIn, zonesTaken, s
 use Rattle.sdp_row.specs.Written as form
 use Rattle.sdp_row.specs.Written.{line, stringLine, originValue, connectionLine, bandwidthLine, attributeLine, mediaLine, timeValue}
 use Rattle.sdp_row.proofs.FormLaws.{letter}
-use Rattle.sdp_bound.specs.Kept.{id}
+use Rattle.sdp_same.proofs.WrittenLaws.{id}
 use Rattle.sdp_same.specs.Fits.{Each, FitTime, FitZone}
 use Rattle.sdp_put.proofs.ByteLaws.{bare}
 use Rattle.sdp_back.proofs.FieldLaws.{Backs, mapRead}

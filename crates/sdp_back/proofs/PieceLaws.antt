@@ -29,7 +29,7 @@ use Rattle.sdp_step.specs.Step.{maybeIn, mediaIn}
 use Rattle.sdp_put.specs.Strings.{dropped}
 use Rattle.sdp_put.specs.Digits.{digits}
 use Rattle.sdp_row.specs.Written.{spaced, text, optional}
-use Rattle.sdp_bound.specs.Kept.{id}
+use Rattle.sdp_same.proofs.WrittenLaws.{id}
 use Rattle.sdp_same.specs.Fits.{IfGiven}
 use Rattle.sdp_put.proofs.ByteLaws.{every, every-append, every-take, every-drop, lacks, before-lacks, bare, clean-bare}
 use Rattle.sdp_put.proofs.DigitLaws.{digits-bare}

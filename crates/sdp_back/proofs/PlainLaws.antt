@@ -26,13 +26,13 @@ use Rattle.sdp_roles.specs.declared.Role.{Role}
 use Rattle.sdp_roles.specs.declared.Role.the-variants as role
 use Rattle.sdp_step.specs.Step as steps
 use Rattle.sdp_step.specs.Step.{Reading, Stepped, goes, stops, repeated, stepRole, fresh}
+use Rattle.sdp_step.proofs.GoingLaws.{Going, on, off, past-cond, past-once, past-row}
 use Rattle.sdp_read.specs.Run as reader
 use Rattle.sdp_read.specs.Run.{Verdict, accepted, refused, noVersion, badVersion, isZero, after, stepForm, run, beginForm, begin, lines}
 use Rattle.sdp_put.specs.Strings.{dropped, clean}
 use Rattle.sdp_same.specs.Fits.{IfGiven, Each}
 use Rattle.sdp_same.specs.Said.{bytesAt}
 use Rattle.sdp_same.proofs.RowLaws.{each-append, each-last}
-use Rattle.sdp_bound.proofs.StepLaws.{Going, on, off, past-cond, past-once, past-row}
 use Rattle.sdp_put.proofs.ByteLaws.{every, every-take, every-drop, lacks, bare}
 use Rattle.sdp_back.proofs.FieldLaws.{Backs}
 use Rattle.sdp_back.proofs.AddressLaws.{whole-back, ConnectionBack, connection-back, OriginBack, origin-back}

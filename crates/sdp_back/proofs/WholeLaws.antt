@@ -21,7 +21,7 @@ use Rattle.sdp_decode.specs.Rows as rows
 use Rattle.sdp_decode.specs.Rows.{each, mine}
 use Rattle.sdp_row.specs.Written as form
 use Rattle.sdp_row.specs.Written.{line, optional, stringLine, originLine, nameLine, bandwidthLine, connectionLine, attributeLine, mediaLines, repeatLine, timeLines, timesLines, zonesLine, headLines, contactLines, closingLines, written}
-use Rattle.sdp_bound.specs.Kept.{id}
+use Rattle.sdp_same.proofs.WrittenLaws.{id}
 use Rattle.sdp_same.specs.Fits.{IfGiven, Each, FitTime, FitRepeat, FitOffset, FitZone}
 use Rattle.sdp_same.specs.Sound.{Rising}
 use Rattle.sdp_same.specs.Said.{bytesAt}

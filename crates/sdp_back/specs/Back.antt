@@ -19,14 +19,14 @@ use Rattle.sdp_back.specs.Again.{again}
 pub record SaysAgain (s : Session (List ℕ)) (w b : List ℕ) : Type 0 where
   pub session : Session Span
   pub says : lines spanAt w ≡ accepted session
-  pub read : readText w b ≡ outcomeOf b (accepted session)
+  pub read : readText w b ≡ outcomeOf w b (accepted session)
   pub same : said (bytesOf w) session ≡ again s
 
 -- t was read into the area a, and is accepted; w, read into the area b, says again what t said
 pub record SaidAgain (t a w b : List ℕ) : Type 0 where
   pub session : Session Span
   pub says : lines spanAt t ≡ accepted session
-  pub read : readText t a ≡ outcomeOf a (accepted session)
+  pub read : readText t a ≡ outcomeOf t a (accepted session)
   pub again : SaysAgain (said (bytesOf t) session) w b
 
 -- t read into the area a, the area written to the output o with room, and what was written read into the area b within the limit

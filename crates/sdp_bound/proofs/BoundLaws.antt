@@ -16,7 +16,10 @@ use Rattle.sdp_lines.proofs.LineLaws.{good-form}
 use Rattle.sdp_area.specs.Session.{Session, empty}
 use Rattle.sdp_roles.specs.Roles.{roleAt}
 use Rattle.sdp_step.specs.Step.{Reading, Stepped, goes, stops, fresh}
+use Rattle.sdp_step.proofs.GoingLaws.{Going, on, off}
 use Rattle.sdp_roles.specs.declared.Role.{Role}
+use Rattle.sdp_counts.specs.Count
+use Rattle.sdp_counts.specs.Count.{roleOf, uses, opens, usedFrom, fromVersion, keptLines}
 use Rattle.sdp_read.specs.Run
 use Rattle.sdp_read.specs.Run.{Verdict, accepted, refused, after, stepForm, run, isZero, beginForm, begin, lines, readText}
 use Rattle.sdp_row.specs.Written
@@ -25,16 +28,16 @@ use Rattle.sdp_lines.specs.Strings.{bytesOf}
 use Rattle.sdp_write.specs.Write.{answer, textOf, fill, fillText}
 use Rattle.sdp_same.specs.Said.{said, bytesAt}
 use Rattle.sdp_same.specs.Same.{filled}
-use Rattle.sdp_same.proofs.WrittenLaws.{written-said}
+use Rattle.sdp_same.proofs.WrittenLaws.{id, written-said}
 use Rattle.sdp_same.proofs.LinesLaws.{accepted-said}
+use Rattle.sdp_same.proofs.MediaLaws.{line-medias}
 use Rattle.sdp_same.proofs.SameLaws.{fills, read-then-write}
-use Rattle.sdp_bound.specs.Kept.{roleOf, uses, opens, usedFrom, fromVersion, keptLines, kept, id}
 use Rattle.sdp_bound.specs.Bound.{bound, Enough}
 use Rattle.sdp_room.proofs.SumLaws
 use Rattle.sdp_room.proofs.SumLaws.{sum}
 use Rattle.sdp_room.proofs.CostLaws
 use Rattle.sdp_room.proofs.CostLaws.{cost, timesCost, written-cost}
-use Rattle.sdp_bound.proofs.StepLaws.{Going, on, off, Grown, step-grown}
+use Rattle.sdp_bound.proofs.StepLaws.{Grown, step-grown}
 
 -- ---- the lines of a text
 pub content-short : (r : Raw) → length (content r) ≤ length (r .body)
@@ -65,31 +68,30 @@ module _ (ρ : Reading (List ℕ)) (p : ℕ) (r : Raw) where
   abbrev medias : ℕ
   medias = length (ρ .session .tables .medias)
 
-  line-grown : (f : Form) → formOf (content r) ≡ f
-      → Going (Grown (length (r .body) + 1 + uses (roleOf medias f)) (opens (roleOf medias f)) ρ) (stepForm bytesAt ρ p (content r) f)
-  line-grown Blank e = on _ ρ (record { bytes = omega arith; medias = omega arith })
+  line-grown : (f : Form) → formOf (content r) ≡ f → Going (Grown (length (r .body) + 1 + uses (roleOf medias f)) ρ) (stepForm bytesAt ρ p (content r) f)
+  line-grown Blank e = on _ ρ (omega arith)
   line-grown (Bad f) e = off _ _
   line-grown (Good l) e = λ τ q.
-      let g = step-grown ρ (drop 2 (content r)) (roleAt medias l) τ q in
-      record { bytes = omega (arith, g .bytes, content-short r, good-form (content r) l e, length-drop 2 (content r)); medias = g .medias }
+      omega (arith, step-grown ρ (drop 2 (content r)) (roleAt medias l) τ q, content-short r, good-form (content r) l e, length-drop 2 (content r))
 
 run-cost : (rs : List Raw) (s : Session (List ℕ)) (ρ : Reading (List ℕ)) (n p : ℕ) → run bytesAt ρ n p rs ≡ accepted s
     → cost id s ≤ cost id (ρ .session) + (bodies rs + usedFrom (length (ρ .session .tables .medias)) rs)
-unfolding Run.run SumLaws.sum usedFrom
+unfolding Run.run SumLaws.sum Count.usedFrom
 run-cost [] s ρ n p e = let z : ρ .session ≡ s = cc in omega (arith, ap (cost id) z)
-run-cost (r ∷ rs) s ρ n p e = go (stepForm bytesAt ρ p (content r) (formOf (content r))) (line-grown ρ p r (formOf (content r)) refl) (λ τ. run-cost rs s τ (n + 1) (p + width r)) e
+run-cost (r ∷ rs) s ρ n p e =
+    go (stepForm bytesAt ρ p (content r) (formOf (content r))) (line-grown ρ p r (formOf (content r)) refl) (line-medias bytesAt ρ p (content r) (formOf (content r)))
+    (λ τ. run-cost rs s τ (n + 1) (p + width r)) e
   where
     x : Role
     x = roleOf (length (ρ .session .tables .medias)) (formOf (content r))
 
-    go : (σ : Stepped (List ℕ)) → Going (Grown (length (r .body) + 1 + uses x) (opens x) ρ) σ
+    go : (σ : Stepped (List ℕ)) → Going (Grown (length (r .body) + 1 + uses x) ρ) σ
+        → Going (λ τ. length (τ .session .tables .medias) ≡ length (ρ .session .tables .medias) + opens x) σ
         → ((τ : Reading (List ℕ)) → run bytesAt τ (n + 1) (p + width r) rs ≡ accepted s → cost id s ≤ cost id (τ .session) + (bodies rs + usedFrom (length (τ .session .tables .medias)) rs))
         → after bytesAt σ n (p + 2) (λ τ. run bytesAt τ (n + 1) (p + width r) rs) ≡ accepted s
         → cost id s ≤ cost id (ρ .session) + (length (r .body) + 1 + bodies rs + (uses x + usedFrom (length (ρ .session .tables .medias) + opens x) rs))
-    go (stops w) h ih e = absurd (let z : _≡_ {A = ℕ} 0 1 = cc in omega arith)
-    go (goes τ) h ih e =
-        let g = h τ refl in
-        omega (arith, ih τ e, g .bytes, ap (λ (k : ℕ). usedFrom k rs) (g .medias))
+    go (stops w) h m ih e = absurd (let z : _≡_ {A = ℕ} 0 1 = cc in omega arith)
+    go (goes τ) h m ih e = omega (arith, ih τ e, h τ refl, ap (λ (k : ℕ). usedFrom k rs) (m τ refl))
 
 -- ---- the version line, and the whole
 -- `v=0` alone is written with 40 bytes
@@ -98,7 +100,7 @@ unfolding CostLaws.cost CostLaws.timesCost SumLaws.sum Written.originLine Writte
 empty-cost = refl
 
 begin-cost : (rs : List Raw) (s : Session (List ℕ)) (n p : ℕ) → begin bytesAt n p rs ≡ accepted s → cost id s ≤ bodies rs + keptLines rs + 35
-unfolding Run.begin SumLaws.sum keptLines
+unfolding Run.begin SumLaws.sum Count.keptLines
 begin-cost [] s n p e = absurd (let z : _≡_ {A = ℕ} 0 1 = cc in omega arith)
 begin-cost (r ∷ rs) s n p e = form (formOf (content r)) (begin-cost rs s (n + 1) (p + width r)) e
   where
@@ -123,7 +125,7 @@ begin-cost (r ∷ rs) s n p e = form (formOf (content r)) (begin-cost rs s (n + 
 
 -- "An accepted text's written form is at most its length plus its kept lines (v= and all with a use) plus 36 bytes."
 pub written-bound : (t : List ℕ) (s : Session (List ℕ)) → lines bytesAt t ≡ accepted s → length (written id s) ≤ bound t
-unfolding Run.lines kept
+unfolding Run.lines
 written-bound t s e = omega (arith, written-cost id s, begin-cost (split t) s 1 0 e, bodies-short t)
 
 -- ---- over the promises of read and write: what is written of an area that read has just left

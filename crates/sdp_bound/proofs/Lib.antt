@@ -4,5 +4,5 @@ pub mod FieldLaws
 pub mod RecordLaws
 pub mod StepLaws
 pub mod BoundLaws
-pub mod KeptSamples
+pub mod BoundSamples
 pub mod RoomLaws

@@ -9,33 +9,20 @@ use Rattle.sdp_lines.specs.declared.Form.{Form}
 use Rattle.sdp_lines.specs.declared.Form.the-variants.{Blank, Good, Bad}
 use Rattle.sdp_lines.proofs.LineLaws.{good-form}
 use Rattle.sdp_roles.specs.Roles.{roleAt}
-use Rattle.sdp_roles.specs.declared.Role.{Role}
-use Rattle.sdp_roles.specs.declared.Role.the-variants as role
+use Rattle.sdp_roles.specs.Kinds.{Kind, unused, media, other, kindOf, byKind}
+use Rattle.sdp_counts.specs.Count
+use Rattle.sdp_counts.specs.Count.{roleOf, uses, opens, usedFrom, fromVersion, keptLines}
 use Rattle.sdp_read.specs.Run.{readText}
 use Rattle.sdp_same.proofs.SameLaws.{read-fits}
-use Rattle.sdp_bound.specs.Kept.{roleOf, uses, opens, usedFrom, fromVersion, keptLines, kept}
 use Rattle.sdp_bound.specs.Bound.{roomOfAny, Enough}
 use Rattle.sdp_room.proofs.SumLaws
 use Rattle.sdp_room.proofs.SumLaws.{sum}
 use Rattle.sdp_bound.proofs.BoundLaws.{content-short, bodies, bodies-short, enough}
 
-uses-once : (x : Role) → uses x ≤ 1
-uses-once role.Nothing = omega arith
-uses-once role.Media = omega arith
-uses-once role.Origin = omega arith
-uses-once role.Name = omega arith
-uses-once role.Description = omega arith
-uses-once role.Uri = omega arith
-uses-once role.Email = omega arith
-uses-once role.Phone = omega arith
-uses-once role.Connection = omega arith
-uses-once role.Bandwidth = omega arith
-uses-once role.Time = omega arith
-uses-once role.Repeat = omega arith
-uses-once role.Zone = omega arith
-uses-once role.Attribute = omega arith
-uses-once role.MediaTitle = omega arith
-uses-once role.MediaConnection = omega arith
+uses-once : (k : Kind) → byKind k 0 1 1 ≤ 1
+uses-once unused = omega arith
+uses-once media = omega arith
+uses-once other = omega arith
 
 -- a line with a use has a letter, an = and an LF
 line-three : (r : Raw) (medias : ℕ) → uses (roleOf medias (formOf (content r))) * 3 ≤ length (r .body) + 1
@@ -44,17 +31,17 @@ line-three r medias = go (formOf (content r)) refl
     go : (f : Form) → formOf (content r) ≡ f → uses (roleOf medias f) * 3 ≤ length (r .body) + 1
     go Blank e = omega arith
     go (Bad f) e = omega arith
-    go (Good l) e = omega (arith, uses-once (roleAt medias l), good-form (content r) l e, content-short r)
+    go (Good l) e = omega (arith, uses-once (kindOf (roleAt medias l)), good-form (content r) l e, content-short r)
 
 used-few : (rs : List Raw) (medias : ℕ) → usedFrom medias rs * 3 ≤ bodies rs
-unfolding usedFrom SumLaws.sum
+unfolding Count.usedFrom SumLaws.sum
 used-few [] medias = omega arith
 used-few (r ∷ rs) medias =
     omega (arith, line-three r medias, used-few rs (medias + opens (roleOf medias (formOf (content r)))))
 
 -- the version line takes one byte at least, whatever its form is
 kept-few : (rs : List Raw) → keptLines rs * 3 ≤ bodies rs + 2
-unfolding keptLines SumLaws.sum
+unfolding Count.keptLines SumLaws.sum
 kept-few [] = omega arith
 kept-few (r ∷ rs) = go (formOf (content r)) (kept-few rs)
   where
@@ -65,5 +52,4 @@ kept-few (r ∷ rs) = go (formOf (content r)) (kept-few rs)
 
 -- of any accepted text
 pub room : (t a : List ℕ) → readText t a .answer .number ≡ 0 → Enough roomOfAny t a
-unfolding kept
 room t a h = enough t a h roomOfAny (omega (arith, read-fits t a h .0, kept-few (split t), bodies-short t))

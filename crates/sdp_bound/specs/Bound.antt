@@ -6,7 +6,7 @@ use lib.ListN.{length}
 use Rattle.sdp_read.specs.Run.{readText}
 use Rattle.sdp_write.specs.Write.{answer, textOf, lengthText, fillText}
 use Rattle.sdp_same.specs.Same.{filled}
-use Rattle.sdp_bound.specs.Kept.{kept}
+use Rattle.sdp_counts.specs.Count.{kept}
 
 -- "An accepted text's written form is at most its length plus its kept lines (v= and all with a use) plus 36 bytes."
 abbrev pub bound : List ℕ → ℕ

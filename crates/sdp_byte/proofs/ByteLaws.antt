@@ -28,7 +28,7 @@ use Rattle.sdp_step.specs.Step.{Reading, Stepped, goes, stops, step, fresh}
 use Rattle.sdp_blame.specs.Blame.{Blames}
 use Rattle.sdp_blame.proofs.StepLaws.{step-blames}
 use Rattle.sdp_read.specs.Run as reader
-use Rattle.sdp_read.specs.Run.{Verdict, accepted, refused, noVersion, badVersion, isZero, wrongAt, outcomeOf, after, stepForm, run, version, beginForm, begin, lines, readText}
+use Rattle.sdp_read.specs.Run.{Verdict, accepted, refused, noVersion, badVersion, isZero, wrongAt, outcomeOf, untouched, after, stepForm, run, version, beginForm, begin, lines, readText}
 use Rattle.sdp_turn.proofs.TurnLaws.{fault-told}
 use Rattle.sdp_same.proofs.LinesLaws.{piece-said, stands-drop, first-stands}
 use Rattle.sdp_byte.specs.Byte.{widths, valueOf, NamesByte, Tells}
@@ -152,7 +152,7 @@ module _ (t : List ℕ) where
   lines-told = begin-told (split t) [] 1 0 begins
 
   -- ---- over the promise of read
-  outcome-told : (a : List ℕ) (v : Verdict Span) → Told v → Tells t (outcomeOf a v .answer)
+  outcome-told : (a : List ℕ) (v : Verdict Span) → Told v → Tells t (outcomeOf t a v .answer)
   outcome-told a (accepted s) h = other 0 0 0 (λ e. omega arith)
   outcome-told a (refused x) h = h
 
@@ -160,7 +160,7 @@ module _ (t : List ℕ) where
   unfolding reader.readText
   byte-told a = go (ltb (length a) size) (ltb longestText (length t))
     where
-      go : (b c : Bool) → Tells t (cond b (record { answer = reader.answer 2 0 0; area = a }) (cond c (record { answer = reader.answer 1 0 0; area = a }) (outcomeOf a (lines spanAt t))) .answer)
+      go : (b c : Bool) → Tells t (cond b (untouched a 2) (cond c (untouched a 1) (outcomeOf t a (lines spanAt t))) .answer)
       go true c = other 2 0 0 (λ e. omega arith)
       go false true = other 1 0 0 (λ e. omega arith)
       go false false = outcome-told a (lines spanAt t) lines-told

@@ -5,7 +5,7 @@ use Prim.Native.Nat.{ℕ, zero, suc, _+_, _≤_, _<_}
 use native.Mathlib.Omega.{arith}
 use lib.ListN.{length, length-append}
 use Rattle.sdp_lines.specs.Lines.{content}
-use Rattle.sdp_bound.specs.Kept.{roleOf, opens}
+use Rattle.sdp_counts.specs.Count.{roleOf, opens}
 use Rattle.sdp_insert.specs.Insert.{ended, endedForm, InsertedFrom, same, keep, put, version, Inserted, blank, begun, aboveFrom, above, bytesFrom, bytesAbove}
 use Rattle.sdp_insert.specs.Between.{whole, NoneHasLf, AllBlank, mediasAfter, AllIdle, Below}
 

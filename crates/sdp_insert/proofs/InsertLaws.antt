@@ -1,4 +1,4 @@
--- Lines put into a text leave its answer, but for the refused line's number and its bad byte's place. Assumes nothing.
+-- Lines put into a text leave its answer, but for the counts, the refused line's number and its bad byte's place. Assumes nothing.
 use mathlib.Core.Path.{_≡_, refl, sym, ap, _∙_}
 use mathlib.Core.Logic.{_⊎_, inl, inr}
 use mathlib.Core.List.{List}
@@ -18,7 +18,7 @@ use Rattle.sdp_area.specs.Area.{size}
 use Rattle.sdp_strings.specs.Strings.{spanAt}
 use Rattle.sdp_step.specs.Step.{fresh}
 use Rattle.sdp_read.specs.Run
-use Rattle.sdp_read.specs.Run.{Verdict, accepted, refused, answer, begin, lines, readText}
+use Rattle.sdp_read.specs.Run.{Verdict, accepted, refused, untouched, begin, lines, readText}
 use Rattle.sdp_same.specs.Said.{bytesAt, said, saidVerdict}
 use Rattle.sdp_same.proofs.LinesLaws.{lines-said}
 use Rattle.sdp_same.proofs.SoundLaws.{refusal-number}
@@ -26,6 +26,7 @@ use Rattle.sdp_same.proofs.SameLaws.{read-is}
 use Rattle.sdp_insert.specs.Insert.{ended, Inserted, blank, begun, alone, aboveFrom, above, bytesFrom, bytesAbove, SameSession, SameRefusal, SameAnswer}
 use Rattle.sdp_insert.proofs.SplitLaws.{split-line}
 use Rattle.sdp_insert.proofs.RunLaws.{Follows, follows-past, run-follows}
+use Rattle.sdp_insert.proofs.RiseLaws.{text-rise}
 
 -- ---- up to the version
 begin-follows : {t t′ : List ℕ} (i : Inserted t t′) (n p : ℕ) → Follows n (above i) (bytesAbove i) (begin bytesAt n p (split t)) (begin bytesAt n p (split t′))
@@ -62,7 +63,7 @@ module _ (t : List ℕ) where
       go (accepted x) q = absurd (let z : _≡_ {A = ℕ} 0 1 = cc in omega arith)
       go (refused x) q = let z : x ≡ y = cc in ap refused z
 
-  read-short : (a : List ℕ) → length a < size → readText t a ≡ record { answer = answer 2 0 0; area = a }
+  read-short : (a : List ℕ) → length a < size → readText t a ≡ untouched a 2
   unfolding Run.readText
   read-short a few = rw (lt-ltb (length a) size few)
 
@@ -74,18 +75,21 @@ insertion {t} {t′} i short short′ a a′ = record {
   short = λ few few′. record { read = read-short t a few; read′ = read-short t′ a′ few′ };
 }
   where
-    go : Follows 1 (above i) (bytesAbove i) (lines bytesAt t) (lines bytesAt t′) → size ≤ length a → size ≤ length a′ → SameSession t t′ a a′ ⊎ SameRefusal i a a′
+    go : Follows 1 (above i) (bytesAbove i) (lines bytesAt t) (lines bytesAt t′) → size ≤ length a → size ≤ length a′ → SameSession i a a′ ⊎ SameRefusal i a a′
     go (inl h) room room′ =
         let x = accepted-from t (h .session) (h .first) in
         let x′ = accepted-from t′ (h .session) (h .second) in
+        let left = read-is t a short room _ (x .1) in
+        let left′ = read-is t′ a′ short′ room′ _ (x′ .1) in
         inl (record {
           session = x .0;
           session′ = x′ .0;
           says = x .1;
           says′ = x′ .1;
-          read = read-is t a short room _ (x .1);
-          read′ = read-is t′ a′ short′ room′ _ (x′ .1);
+          read = left;
+          read′ = left′;
           said = x .2 ∙ sym (x′ .2);
+          rise = rw (left, left′) (text-rise i);
         })
     go (inr h) room room′ =
         let x = refused-from t _ (h .first) in

@@ -11,7 +11,7 @@ use Rattle.sdp_lines.specs.declared.Form.the-variants.{Good}
 use Rattle.sdp_roles.specs.Roles
 use Rattle.sdp_roles.specs.Roles.{beforeMedia, fromMedia}
 use Rattle.sdp_roles.specs.declared.Role.the-variants.{Nothing}
-use Rattle.sdp_insert.specs.Insert.{hasLf, endedForm, Idle, version, Inserted, begun, same, keep, put, above, bytesAbove}
+use Rattle.sdp_insert.specs.Insert.{hasLf, endedForm, Idle, version, Inserted, begun, same, keep, put, above, bytesAbove, linesPut, emptyPut, idlePut}
 
 -- m=a 1 b c
 abbrev media : List ℕ
@@ -42,6 +42,11 @@ sample-above = (refl, refl, refl)
 pub sample-bytes : (bytesAbove sample 0 ≡ 0) × (bytesAbove sample 1 ≡ 6) × (bytesAbove sample 2 ≡ 10)
 unfolding sample
 sample-bytes = (refl, refl, refl)
+
+-- CR LF and an empty line are empty, `v=1` and `t=` are ignored
+pub sample-put : (emptyPut sample ≡ 2) × (idlePut sample ≡ 2) × (linesPut sample ≡ 4)
+unfolding sample Lines.content Lines.chop Lines.formOf Lines.hasNulOrCr Lines.plainForm Runs.indexOf Roles.beforeMedia Roles.fromMedia
+sample-put = (refl, refl, refl)
 
 -- before a media `t=` has a use
 pub time-used : Idle 0 (endedForm time) → ⊥

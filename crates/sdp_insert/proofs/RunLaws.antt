@@ -10,14 +10,13 @@ use Rattle.sdp_lines.specs.Lines.{Raw, split, content, width, formOf}
 use Rattle.sdp_lines.specs.declared.Form.{Form}
 use Rattle.sdp_lines.specs.declared.Form.the-variants.{Blank, Good, Bad}
 use Rattle.sdp_area.specs.Session.{Session}
-use Rattle.sdp_roles.specs.Roles.{roleAt}
 use Rattle.sdp_step.specs.Step
 use Rattle.sdp_step.specs.Step.{Reading, Stepped, goes, stops, stepRole}
+use Rattle.sdp_counts.specs.Count.{roleOf, opens}
 use Rattle.sdp_read.specs.Run
 use Rattle.sdp_read.specs.Run.{Verdict, accepted, after, stepForm, run}
 use Rattle.sdp_same.specs.Said.{bytesAt}
-use Rattle.sdp_bound.specs.Kept.{roleOf, opens}
-use Rattle.sdp_bound.proofs.StepLaws.{step-grown}
+use Rattle.sdp_same.proofs.MediaLaws.{line-medias}
 use Rattle.sdp_insert.specs.Insert.{ended, endedForm, Idle, InsertedFrom, same, keep, put, aboveFrom, bytesFrom, onByte}
 use Rattle.sdp_insert.proofs.SplitLaws.{split-line}
 
@@ -106,13 +105,6 @@ ended-width : (l : List ℕ) → width (ended l) ≡ length l + 1
 unfolding Lines.width
 ended-width l = refl
 
--- the medias after a line
-medias-after : (ρ τ : Reading (List ℕ)) (p : ℕ) (l : List ℕ) (f : Form) → stepForm bytesAt ρ p l f ≡ goes τ
-    → length (τ .session .tables .medias) ≡ length (ρ .session .tables .medias) + opens (roleOf (length (ρ .session .tables .medias)) f)
-medias-after ρ τ p l Blank e = let z : ρ ≡ τ = cc in rw (← z) (omega arith)
-medias-after ρ τ p l (Good c) e = step-grown ρ (drop 2 l) (roleAt (length (ρ .session .tables .medias)) c) τ e .medias
-medias-after ρ τ p l (Bad f) e = absurd (let z : _≡_ {A = ℕ} 0 1 = cc in omega arith)
-
 -- ---- all lines
 -- the same lines, d further down, and c bytes
 run-down : (rs : List Raw) (ρ : Reading (List ℕ)) (n d p c : ℕ) → Follows n (λ k. d) (λ k. c) (run bytesAt ρ n p rs) (run bytesAt ρ (n + d) (p + c) rs)
@@ -140,7 +132,7 @@ run-follows (keep {t = t} {t′ = t′} l h i) ρ e n d p c =
     (λ τ q.
     let x : n + 1 + d ≡ n + d + 1 = omega arith in
     let y : p + width (ended l) + c ≡ p + c + width (ended l) = omega arith in
-    rw (← x, ← y) (run-follows i τ (medias-after ρ τ p (content (ended l)) (endedForm l) q ∙ ap (λ (m : ℕ). m + opens (roleOf m (endedForm l))) e) (n + 1) d (p + width (ended l)) c)))
+    rw (← x, ← y) (run-follows i τ (line-medias bytesAt ρ p (content (ended l)) (endedForm l) τ q ∙ ap (λ (m : ℕ). m + opens (roleOf m (endedForm l))) e) (n + 1) d (p + width (ended l)) c)))
 run-follows (put {t = t} {t′ = t′} l h u i) ρ e n d p c =
     let x : n + (d + 1) ≡ n + d + 1 = omega arith in
     let y : p + (c + (length l + 1)) ≡ p + c + width (ended l) = omega (arith, ended-width l) in

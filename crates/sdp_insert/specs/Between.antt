@@ -4,7 +4,7 @@ use mathlib.Core.Bool.{false}
 use mathlib.Core.List.{List, [], _∷_, _++_}
 use Prim.Native.Nat.{ℕ, _+_, _≤_, _<_}
 use Rattle.sdp_lines.specs.Lines.{content}
-use Rattle.sdp_bound.specs.Kept.{roleOf, opens}
+use Rattle.sdp_counts.specs.Count.{roleOf, opens}
 use Rattle.sdp_insert.specs.Insert.{hasLf, ended, endedForm, Idle}
 
 -- lines, each with its LF

@@ -1,7 +1,7 @@
 -- Demand 3, first half: "Take a text whose first non-empty line is `v=0`. Insert, after that line and between whole lines, empty
 -- lines or well-formed lines whose letter has no use at that place. If both texts are within 32,768 bytes, the answer is demand 2's answer for
 -- the first text: the same session, or the same refusal with its line moved down by the insertions above it." Document 02, P2: "In demand 3
--- the place moves by the inserted bytes above it."
+-- the place moves by the inserted bytes above it." P11: "with insertions, empty and ignored rise by exactly the lines inserted and kept stays".
 use mathlib.Core.Path.{_≡_}
 use mathlib.Core.Logic.{_⊎_}
 use mathlib.Core.Bool.{Bool, true, false, _||_}
@@ -20,9 +20,10 @@ use Rattle.sdp_area.specs.Area.{size}
 use Rattle.sdp_roles.specs.Roles.{roleAt}
 use Rattle.sdp_roles.specs.declared.Role.the-variants.{Nothing}
 use Rattle.sdp_strings.specs.Strings.{spanAt}
-use Rattle.sdp_read.specs.Run.{Verdict, accepted, refused, answer, placeOf, outcomeOf, lines, readText}
+use Rattle.sdp_read.specs.Run.{Verdict, accepted, refused, placeOf, outcomeOf, untouched, lines, readText}
 use Rattle.sdp_same.specs.Said.{said}
-use Rattle.sdp_bound.specs.Kept.{roleOf, opens}
+use Rattle.sdp_counts.specs.Count.{roleOf, opens, blanks, idles}
+use Rattle.sdp_counts.specs.declared.Counts.{Counts}
 
 -- ---- lines
 -- LF stands in the bytes
@@ -100,17 +101,60 @@ bytesAbove (begun l h e i) zero = 0
 bytesAbove (begun l h e i) (suc k) = bytesFrom i k
 bytesAbove alone k = 0
 
+-- ---- document 02, P11, "the lines inserted"
+-- how many lines were put in, from there on
+abbrev pub putFrom : {medias : ℕ} {t t′ : List ℕ} → InsertedFrom medias t t′ → ℕ
+putFrom (same medias t) = 0
+putFrom (keep l h i) = putFrom i
+putFrom (put l h u i) = 1 + putFrom i
+
+-- how many of them are empty
+abbrev pub emptyFrom : {medias : ℕ} {t t′ : List ℕ} → InsertedFrom medias t t′ → ℕ
+emptyFrom (same medias t) = 0
+emptyFrom (keep l h i) = emptyFrom i
+emptyFrom (put l h u i) = blanks (endedForm l) + emptyFrom i
+
+-- and how many have a letter without use
+abbrev pub idleFrom : {medias : ℕ} {t t′ : List ℕ} → InsertedFrom medias t t′ → ℕ
+idleFrom (same medias t) = 0
+idleFrom (keep l h i) = idleFrom i
+idleFrom (put {medias = medias} l h u i) = idles medias (endedForm l) + idleFrom i
+
+-- the same from the first line on
+abbrev pub linesPut : {t t′ : List ℕ} → Inserted t t′ → ℕ
+linesPut (blank l h e i) = linesPut i
+linesPut (begun l h e i) = putFrom i
+linesPut alone = 0
+
+abbrev pub emptyPut : {t t′ : List ℕ} → Inserted t t′ → ℕ
+emptyPut (blank l h e i) = emptyPut i
+emptyPut (begun l h e i) = emptyFrom i
+emptyPut alone = 0
+
+abbrev pub idlePut : {t t′ : List ℕ} → Inserted t t′ → ℕ
+idlePut (blank l h e i) = idlePut i
+idlePut (begun l h e i) = idleFrom i
+idlePut alone = 0
+
+-- "empty and ignored rise by exactly the lines inserted and kept stays": the counts c of t, c′ of t′
+pub record Rise {t t′ : List ℕ} (i : Inserted t t′) (c c′ : Counts) : Type 0 where
+  pub empty : c′ .empty ≡ c .empty + emptyPut i
+  pub ignored : c′ .ignored ≡ c .ignored + idlePut i
+  pub kept : c′ .kept ≡ c .kept
+  pub exactly : emptyPut i + idlePut i ≡ linesPut i
+
 -- ---- the answers: t is read into the area a, t′ into the area a′
 -- "the same session": counts, numbers, presence, owners and string bytes agree. The two sessions are what the texts say, which the bytes of
 -- the areas alone would not tell: these hold a place's last two bytes
-pub record SameSession (t t′ a a′ : List ℕ) : Type 0 where
+pub record SameSession {t t′ : List ℕ} (i : Inserted t t′) (a a′ : List ℕ) : Type 0 where
   pub session : Session Span
   pub session′ : Session Span
   pub says : lines spanAt t ≡ accepted session
   pub says′ : lines spanAt t′ ≡ accepted session′
-  pub read : readText t a ≡ outcomeOf a (accepted session)
-  pub read′ : readText t′ a′ ≡ outcomeOf a′ (accepted session′)
+  pub read : readText t a ≡ outcomeOf t a (accepted session)
+  pub read′ : readText t′ a′ ≡ outcomeOf t′ a′ (accepted session′)
   pub said : said (bytesOf t) session ≡ said (bytesOf t′) session′
+  pub rise : Rise i (readText t a .counts) (readText t′ a′ .counts)
 
 -- a refusal of a line; with 8 it names the byte at place, with any other number none
 abbrev pub onByte : {S : Type 0} → ℕ → ℕ → ℕ → ℕ → Verdict S
@@ -124,15 +168,15 @@ pub record SameRefusal {t t′ : List ℕ} (i : Inserted t t′) (a a′ : List 
   pub k : ℕ
   pub place : ℕ
   pub refusal : 0 < number
-  pub read : readText t a ≡ outcomeOf a (onByte number (1 + k) field place)
-  pub read′ : readText t′ a′ ≡ outcomeOf a′ (onByte number (1 + k + above i k) field (place + bytesAbove i k))
+  pub read : readText t a ≡ outcomeOf t a (onByte number (1 + k) field place)
+  pub read′ : readText t′ a′ ≡ outcomeOf t′ a′ (onByte number (1 + k + above i k) field (place + bytesAbove i k))
 
 -- "Area too short": 2 for both, "area unchanged"
 pub record TooShort (t t′ a a′ : List ℕ) : Type 0 where
-  pub read : readText t a ≡ record { answer = answer refusals.areaTooShort 0 0; area = a }
-  pub read′ : readText t′ a′ ≡ record { answer = answer refusals.areaTooShort 0 0; area = a′ }
+  pub read : readText t a ≡ untouched a refusals.areaTooShort
+  pub read′ : readText t′ a′ ≡ untouched a′ refusals.areaTooShort
 
 -- "the answer is demand 2's answer for the first text". Two areas of one length have both the stated size or are both too short
 pub record SameAnswer {t t′ : List ℕ} (i : Inserted t t′) (a a′ : List ℕ) : Type 0 where
-  pub full : size ≤ length a → size ≤ length a′ → SameSession t t′ a a′ ⊎ SameRefusal i a a′
+  pub full : size ≤ length a → size ≤ length a′ → SameSession i a a′ ⊎ SameRefusal i a a′
   pub short : length a < size → length a′ < size → TooShort t t′ a a′

@@ -4,9 +4,7 @@ ghost use Prim.Native.Nat.{_+_, _≤_};
 ghost use lib.ListN.{length};
 ghost use Rattle.sdp_numbers.specs.Refusals.{longestText};
 ghost use Rattle.sdp_area.specs.Area.{size};
-ghost use Rattle.sdp_strings.specs.Strings.{spanAt};
-ghost use Rattle.sdp_step.specs.Step.{step};
-ghost use Rattle.sdp_step.specs.Hold.{Takes};
+ghost use Rattle.sdp_step.specs.Hold.{Tells, roleIn};
 ghost use Rattle.sdp_line.specs.Version.{openingOf};
 use sdp_cutter::Line;
 use sdp_cutter::made;
@@ -26,7 +24,7 @@ pub enum Opening {
 // A line is taken apart, and what it says goes into the area.
 fn take_of<'t>(area: &mut [u8], at: Place, marks: Marks, line: Line<'t>) -> Taken
     requires { ⌜ (size ≤ length (now area)) × (at .0 + length (now (line .value)) ≤ longestText) ⌝ }
-    ensures { λ r. ⌜ Takes (λ ρ. step (spanAt (at .0) (now (line .entry .value))) ρ (now (line .entry .value)) (line .entry .letter))
+    ensures { λ r. ⌜ Tells (roleIn (line .entry .letter)) (at .0) (now (line .entry .value))
         marks r (now (area .entry)) (now (area .exit)) ⌝ }
 {
     take_line(area, at, marks, line.letter, line.value)
@@ -42,8 +40,7 @@ pub fn take(
     value: &[u8],
 ) -> Taken
     requires { ⌜ (size ≤ length (now area)) × (at .0 + length (now value) ≤ longestText) ⌝ }
-    ensures { λ r. ⌜ Takes (λ ρ. step (spanAt (at .0) (now (value .entry))) ρ (now (value .entry)) letter)
-        marks r (now (area .entry)) (now (area .exit)) ⌝ }
+    ensures { λ r. ⌜ Tells (roleIn letter) (at .0) (now (value .entry)) marks r (now (area .entry)) (now (area .exit)) ⌝ }
 {
     take_of(area, at, marks, made(number, letter, value))
 }

@@ -74,7 +74,6 @@ use Rattle.sdp_strings.proofs.span_of.Reads as sdpStringsSpanOf
 use Rattle.sdp_strings.proofs.maybe_of.Reads as sdpStringsMaybeOf
 use Rattle.sdp_step.proofs.stored.Reads as sdpStepStored
 use Rattle.sdp_line.proofs.opening_line.Reads as sdpLineOpeningLine
-use Rattle.sdp_turn.proofs.search_of.Reads as sdpTurnSearchOf
 use Rattle.sdp_read.proofs.read.Reads as sdpReadRead
 use Rattle.sdp_put.proofs.put_byte.Reads as sdpPutPutByte
 use Rattle.sdp_put.proofs.put_two.Reads as sdpPutPutTwo
@@ -350,10 +349,6 @@ sdp-step-stored κs a z z′ e e′ p q = same p q
 -- ---- sdp_line
 pub sdp-line-opening-line : OneAnswer sdpLineOpeningLine.Learnt
 sdp-line-opening-line κs a z z′ e e′ p q = same p q
-
--- ---- sdp_turn
-pub sdp-turn-search-of : OneAnswer sdpTurnSearchOf.Learnt
-sdp-turn-search-of κs a z z′ e e′ p q = same p q
 
 -- ---- sdp_read
 pub sdp-read-read : OneState (λ κs e. now (e .1 .0)) sdpReadRead.Learnt

@@ -4,19 +4,20 @@ use Prim.Native.Nat.{ℕ}
 use lib.ListN.{drop}
 use Rattle.sdp_area.specs.Area.{size}
 use Rattle.sdp_step.specs.declared.Taken.{Taken}
-use Rattle.sdp_step.specs.declared.Taken.the-variants.{Kept, Refused}
+use Rattle.sdp_step.specs.declared.Taken.the-variants.{Kept, Idle, Refused}
 use Rattle.sdp_turn.specs.declared.Ended.the-variants.{Accepted, Stopped, Unread}
 use Rattle.sdp_turn.specs.declared.Turn.{Turn}
 use Rattle.sdp_turn.specs.declared.Turn.the-variants.{Goes, Over}
 
--- a line that is kept leaves all of the area, a refusal the bytes behind the session
+-- a line that is not refused leaves all of the area, a refusal the bytes behind the session
 abbrev pub seen : Taken → List ℕ → List ℕ
 seen (Kept m) a = a
+seen Idle a = a
 seen (Refused w) a = drop size a
 
--- the same of what a line does to a run
+-- the same of what a line does to a reading
 abbrev pub seenTurn : Turn → List ℕ → List ℕ
-seenTurn (Goes m) a = a
-seenTurn (Over Accepted) a = a
+seenTurn (Goes g) a = a
+seenTurn (Over (Accepted c)) a = a
 seenTurn (Over (Stopped x)) a = drop size a
 seenTurn (Over (Unread x)) a = a

@@ -21,19 +21,13 @@ use Rattle.sdp_lines.specs.declared.Form.the-variants.{Blank, Good, Bad}
 use Rattle.sdp_lines.specs.declared.Cut.{Cut}
 use Rattle.sdp_lines.specs.declared.Cut.the-variants.{Line, Empty, Refused, End}
 use Rattle.sdp_lines.proofs.LineLaws.{split-at-place, content-front, content-le, width-le, width-pos, good-form}
-use Rattle.sdp_line.specs.Version.{openingOf}
-use Rattle.sdp_line.specs.declared.Opening.{Opening}
-use Rattle.sdp_line.specs.declared.Opening.the-variants as opening
 use Rattle.sdp_cutter.specs.Cutter.{moveBy, moveAt, standing, due}
 use Rattle.sdp_cutter.specs.declared.Next.{Next}
-use Rattle.sdp_step.specs.declared.Marks.{Marks}
-use Rattle.sdp_turn.specs.Turn.{Inside, lineOf, Turns, Passes, openedTo, versionOf}
-use Rattle.sdp_read.specs.From.{Reached, lineAt, versionAt}
+use Rattle.sdp_turn.specs.Turn.{Inside, lineOf, linesIn, Turns, Passes}
+use Rattle.sdp_read.specs.From.{Reached, lineAt}
+use Rattle.sdp_turn.specs.declared.State.{State}
 use Rattle.sdp_turn.specs.declared.Turn.{Turn}
 use Rattle.sdp_turn.specs.declared.Turn.the-variants.{Goes}
-use Rattle.sdp_turn.specs.declared.Search.{Search}
-use Rattle.sdp_turn.specs.declared.Search.the-variants.{On, Told}
-use Rattle.sdp_turn.specs.declared.Version.the-variants as version
 
 drop-take : (k m : ℕ) (u : List ℕ) → drop k (take (k + m) u) ≡ take m (drop k u)
 drop-take zero m u = ap (λ (n : ℕ). take n u) (zero-add m)
@@ -125,43 +119,18 @@ module _ (s : List ℕ) (c : Cursor) where
       go (Refused f n) h = tt
       go End h = tt
 
-  -- a line that a run goes on past
-  pub goes-further : (m : Marks) → Passes found (Goes m) → Further s c then
+  -- a line that a reading goes on past: further on, and one line more
+  pub goes-further : (g n : State) → Passes found g (Goes n) → Further s c then × (linesIn n ≡ linesIn g + 1)
   unfolding moveAt
-  goes-further m = go (cutAt s c) cut-fine
+  goes-further g n = go (cutAt s c) cut-fine
     where
-      go : (k : Cut) → Fine k → Passes (moveBy (c .at) (c .line) k .next) (Goes m) → Further s c (due (standing (moveBy (c .at) (c .line) k)))
-      go (Line l v d) h p = h .0
-      go (Empty d) h p = h
+      go : (k : Cut) → Fine k → Passes (moveBy (c .at) (c .line) k .next) g (Goes n) → Further s c (due (standing (moveBy (c .at) (c .line) k))) × (linesIn n ≡ linesIn g + 1)
+      go (Line l v d) h p = (h .0, p)
+      go (Empty d) h p = (h, p)
       go (Refused f n) h p = absurd p
       go End h p = absurd p
 
-  -- a line that is passed while the version is looked for
-  abbrev SearchFine : Search → Cursor → Type 0
-  SearchFine On d = Further s c d
-  SearchFine (Told version.Found) d = Further s c d
-  SearchFine (Told (version.Refused x)) d = Unit {0}
-
-  pub search-fine : (y : Search) → y ≡ versionAt s c → SearchFine y then
-  unfolding versionAt moveAt
-  search-fine y e = subst (λ (z : Search). SearchFine z then) (sym e) (go (cutAt s c) cut-fine)
-    where
-      opened : (d : Cursor) (o : Opening) → Further s c d → SearchFine (openedTo o) d
-      opened d opening.Zero h = h
-      opened d (opening.Refused x) h = tt
-
-      go : (k : Cut) → Fine k → SearchFine (versionOf s (moveBy (c .at) (c .line) k .next)) (due (standing (moveBy (c .at) (c .line) k)))
-      go (Line l v d) h = opened d (openingOf (c .line .0) (v .at .0) l (bytesOf s v)) (h .0)
-      go (Empty d) h = h
-      go (Refused f n) h = tt
-      go End h = tt
-
   -- what the line there does, by what the cutter found
-  module _ (x : Next) (e : x ≡ found) where
-    pub turned-at : (m : Marks) (r : Turn) (a a′ : List ℕ) → Turns (λ ρ. lineOf s ρ x) m r a a′ × Passes x r → Turns (λ ρ. lineAt s ρ c) m r a a′ × Passes found r
-    unfolding lineAt
-    turned-at m r a a′ h = subst (λ (y : Next). Turns (λ ρ. lineOf s ρ y) m r a a′ × Passes y r) e h
-
-    pub version-at : (r : Search) → r ≡ versionOf s x → r ≡ versionAt s c
-    unfolding versionAt
-    version-at r h = subst (λ (y : Next). r ≡ versionOf s y) e h
+  pub turned-at : (x : Next) → x ≡ found → (g : State) (r : Turn) (a a′ : List ℕ) → Turns (λ y. lineOf s y x) g r a a′ × Passes x g r → Turns (λ y. lineAt s y c) g r a a′ × Passes found g r
+  unfolding lineAt
+  turned-at x e g r a a′ h = subst (λ (z : Next). Turns (λ y. lineOf s y z) g r a a′ × Passes z g r) e h

@@ -1,4 +1,5 @@
 pub mod CutLaws
+pub mod TallyLaws
 pub mod RestLaws
 pub mod LoopLaws
 pub mod ReadLaws

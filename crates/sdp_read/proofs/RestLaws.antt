@@ -1,15 +1,16 @@
--- The rest equals the whole: the lines from a cursor on are the line there, and the lines from where it goes on.
+-- The rest equals the whole: the lines from a cursor on are the line there, and the lines from where it goes on; so it is with their counts.
 -- Assumes nothing.
 use Prim.Native.Nat.{ℕ, _+_, _≤_}
 use native.Mathlib.Omega.{arith}
-use mathlib.Core.Path.{_≡_, refl, ap}
+use mathlib.Core.Path.{_≡_, refl, sym, ap, _∙_}
 use mathlib.Core.Bool.{Bool, true, false, cond}
-use mathlib.Core.List.{List}
+use mathlib.Core.List.{List, _∷_}
 use lib.Dec.{eqb}
 use lib.ListN.{length, drop}
 use borrow.Author.Tests.{lt-ltb}
 use Rattle.sdp_numbers.specs.Refusals.{longestText}
-use Rattle.sdp_lines.specs.Lines.{content, width, formOf, nextLine, past, cutForm}
+use Rattle.sdp_lines.specs.Lines.{split, content, width, formOf, nextLine, past, cutForm}
+use Rattle.sdp_lines.specs.Strings.{bytesOf}
 use Rattle.sdp_lines.specs.declared.Span.{Span}
 use Rattle.sdp_lines.specs.declared.Cursor.{Cursor}
 use Rattle.sdp_lines.specs.declared.Cut.{Cut}
@@ -17,28 +18,46 @@ use Rattle.sdp_cutter.specs.Cutter.{moveBy, moveAt, standing, due}
 use Rattle.sdp_cutter.specs.declared.Moved.{Moved}
 use Rattle.sdp_lines.specs.declared.Form.{Form}
 use Rattle.sdp_lines.specs.declared.Form.the-variants.{Blank, Good, Bad}
+use Rattle.sdp_roles.specs.Roles.{roleAt}
+use Rattle.sdp_roles.specs.Kinds.{kindOf}
 use Rattle.sdp_strings.specs.Strings.{spanAt}
 use Rattle.sdp_step.specs.Step.{Reading, Stepped, goes, stops, step, fresh}
+use Rattle.sdp_counts.specs.Count.{countLines}
+use Rattle.sdp_counts.specs.declared.Counts.{Counts}
+use Rattle.sdp_counts.proofs.MediaLaws.{step-medias}
 use Rattle.sdp_line.specs.Version.{noVersion, badVersion, isZero, openingOf}
+use Rattle.sdp_line.specs.declared.Opening.{Opening}
 use Rattle.sdp_line.specs.declared.Opening.the-variants as opening
-use Rattle.sdp_turn.specs.Turn.{Lined, on, over, stepped, lineOf, openedTo, versionOf}
-use Rattle.sdp_read.specs.Run.{Verdict, refused, after, stepForm, run, version as firstLine, beginForm, begin}
-use Rattle.sdp_read.specs.From.{Reached, runAt, beginAt, lineAt, versionAt}
-use Rattle.sdp_turn.specs.declared.Search.{Search}
-use Rattle.sdp_turn.specs.declared.Search.the-variants.{On, Told}
-use Rattle.sdp_turn.specs.declared.Version.the-variants as version
+use Rattle.sdp_turn.specs.Turn.{oneKept, oneOf, Standing, searching, reading, Lined, on, ended, stopped, unread, openedTo, stepped, lineOf}
+use Rattle.sdp_read.specs.Run.{Verdict, accepted, refused, after, stepForm, run, version as firstLine, beginForm, begin}
+use Rattle.sdp_read.specs.From.{Reached, runAt, beginAt, lineAt}
 use Rattle.sdp_turn.proofs.TurnLaws.{fault-told}
-use Rattle.sdp_read.proofs.CutLaws.{raw, rest, at-cursor, value-is, then}
+use Rattle.sdp_read.proofs.CutLaws.{raw, rest, span, at-cursor, value-is, then}
+use Rattle.sdp_read.proofs.TallyLaws.{plus, countFrom, none-left, blank-above, version-first, blank-next, good-next}
 
--- what the text says from there on, the next line due at d, after the version and before it
-abbrev pub runOn : List ℕ → Lined → Cursor → Verdict Span
-runOn s (on ρ) d = runAt s ρ d
-runOn s (over v) d = v
+-- what the lines from d on say
+abbrev pub restOf : List ℕ → Standing → Cursor → Verdict Span
+restOf s (searching k) d = beginAt s d
+restOf s (reading ρ k) d = runAt s ρ d
 
-abbrev pub searchOn : List ℕ → Search → Cursor → Verdict Span
-searchOn s On d = beginAt s d
-searchOn s (Told version.Found) d = runAt s fresh d
-searchOn s (Told (version.Refused x)) d = refused x
+-- after a line, the next line due at d
+abbrev pub verdictOn : List ℕ → Lined → Cursor → Verdict Span
+verdictOn s (on x) d = restOf s x d
+verdictOn s (ended σ k) d = accepted σ
+verdictOn s (stopped y) d = refused y
+verdictOn s (unread y) d = refused y
+
+-- the counts so far, and those of the lines from d on
+abbrev pub totalOf : List ℕ → Standing → Cursor → Counts
+totalOf s (searching k) d = plus k (countLines (split (drop (d .at .0) s)))
+totalOf s (reading ρ k) d = plus k (countFrom (length (ρ .session .tables .medias)) (split (drop (d .at .0) s)))
+
+-- they are all, after a line that is not refused
+abbrev pub Totals : List ℕ → Counts → Lined → Cursor → Type 0
+Totals s all (on x) d = all ≡ totalOf s x d
+Totals s all (ended σ k) d = all ≡ k
+Totals s all (stopped y) d = Unit {0}
+Totals s all (unread y) d = Unit {0}
 
 module _ (s : List ℕ) (short : length s ≤ longestText) (c : Cursor) (w : Reached s c) where
   abbrev next : Cursor
@@ -60,38 +79,79 @@ module _ (s : List ℕ) (short : length s ≤ longestText) (c : Cursor) (w : Rea
   unfolding beginAt
   begin-past = ap (λ (n : ℕ). begin spanAt n (c .at .0 + width (raw s c)) (rest s c)) next-is
 
-  -- ---- after the version
-  stepped-on : (p : ℕ) (x : Stepped Span) → after spanAt x (c .line .0) p (λ τ. run spanAt τ (c .line .0 + 1) (c .at .0 + width (raw s c)) (rest s c)) ≡ runOn s (stepped (c .line .0) p x) next
-  stepped-on p (goes ρ) = run-past ρ
-  stepped-on p (stops w) = refl
+  -- ---- what they say
+  stepped-on : (p : ℕ) (k : Counts) (x : Stepped Span) → after spanAt x (c .line .0) p (λ τ. run spanAt τ (c .line .0 + 1) (c .at .0 + width (raw s c)) (rest s c)) ≡ verdictOn s (stepped (c .line .0) p k x) next
+  stepped-on p k (goes ρ) = run-past ρ
+  stepped-on p k (stops w) = refl
 
-  pub rest-line : (ρ : Reading Span) → runAt s ρ c ≡ runOn s (lineAt s ρ c) (then s c)
+  rest-reading : (ρ : Reading Span) (k : Counts) → runAt s ρ c ≡ verdictOn s (lineAt s (reading ρ k) c) (then s c)
   unfolding runAt run lineAt moveAt
-  rest-line ρ = at-cursor s c (λ rs k. run spanAt ρ (c .line .0) (c .at .0) rs ≡ runOn s (lineOf s ρ (moved k .next)) (due (standing (moved k)))) refl (λ h f e. rw e (form f e))
+  rest-reading ρ k = at-cursor s c (λ rs x. run spanAt ρ (c .line .0) (c .at .0) rs ≡ verdictOn s (lineOf s (reading ρ k) (moved x .next)) (due (standing (moved x)))) refl (λ h f e. rw e (form f e))
     where
       form : (f : Form) → formOf (content (raw s c)) ≡ f
-          → after spanAt (stepForm spanAt ρ (c .at .0) (content (raw s c)) f) (c .line .0) (c .at .0 + 2) (λ τ. run spanAt τ (c .line .0 + 1) (c .at .0 + width (raw s c)) (rest s c)) ≡ runOn s (lineOf s ρ (moved (cutForm c (raw s c) f) .next)) (due (standing (moved (cutForm c (raw s c) f))))
+          → after spanAt (stepForm spanAt ρ (c .at .0) (content (raw s c)) f) (c .line .0) (c .at .0 + 2) (λ τ. run spanAt τ (c .line .0 + 1) (c .at .0 + width (raw s c)) (rest s c)) ≡ verdictOn s (lineOf s (reading ρ k) (moved (cutForm c (raw s c) f) .next)) (due (standing (moved (cutForm c (raw s c) f))))
       form Blank e = run-past ρ
       form (Bad f) e = ap refused (fault-told (c .line .0) (c .at .0 + 2) f)
-      form (Good l) e = rw (value-is s c l e) (stepped-on (c .at .0 + 2) (step (spanAt (c .at .0 + 2) (drop 2 (content (raw s c)))) ρ (drop 2 (content (raw s c))) l))
+      form (Good l) e = rw (value-is s c l e) (stepped-on (c .at .0 + 2) _ (step (spanAt (c .at .0 + 2) (drop 2 (content (raw s c)))) ρ (drop 2 (content (raw s c))) l))
 
-  -- ---- before it
-  opened-on : (p l : ℕ) (v : List ℕ) (k : Verdict Span) → k ≡ runAt s fresh next
-      → firstLine spanAt (c .line .0) p v l k ≡ searchOn s (openedTo (openingOf (c .line .0) p l v)) next
-  opened-on p l v k e = go (eqb l 0x76) (isZero v)
+  opened-on : (p l : ℕ) (v : List ℕ) (k : Counts) (x : Verdict Span) → x ≡ runAt s fresh next
+      → firstLine spanAt (c .line .0) p v l x ≡ verdictOn s (openedTo k (openingOf (c .line .0) p l v)) next
+  opened-on p l v k x e = go (eqb l 0x76) (isZero v)
     where
-      go : (x y : Bool) → cond x (cond y k (refused (badVersion (c .line .0) p (length v)))) (refused noVersion)
-          ≡ searchOn s (openedTo (cond x (cond y opening.Zero (opening.Refused (badVersion (c .line .0) p (length v)))) (opening.Refused noVersion))) next
+      go : (y z : Bool) → cond y (cond z x (refused (badVersion (c .line .0) p (length v)))) (refused noVersion)
+          ≡ verdictOn s (openedTo k (cond y (cond z opening.Zero (opening.Refused (badVersion (c .line .0) p (length v)))) (opening.Refused noVersion))) next
       go true true = e
       go true false = refl
-      go false y = refl
+      go false z = refl
 
-  pub rest-version : beginAt s c ≡ searchOn s (versionAt s c) (then s c)
-  unfolding beginAt begin versionAt moveAt
-  rest-version = at-cursor s c (λ rs k. begin spanAt (c .line .0) (c .at .0) rs ≡ searchOn s (versionOf s (moved k .next)) (due (standing (moved k)))) refl (λ h f e. rw e (form f e))
+  rest-searching : (k : Counts) → beginAt s c ≡ verdictOn s (lineAt s (searching k) c) (then s c)
+  unfolding beginAt begin lineAt moveAt
+  rest-searching k = at-cursor s c (λ rs x. begin spanAt (c .line .0) (c .at .0) rs ≡ verdictOn s (lineOf s (searching k) (moved x .next)) (due (standing (moved x)))) refl (λ h f e. rw e (form f e))
     where
       form : (f : Form) → formOf (content (raw s c)) ≡ f
-          → beginForm spanAt (c .line .0) (c .at .0) (content (raw s c)) f (begin spanAt (c .line .0 + 1) (c .at .0 + width (raw s c)) (rest s c)) (run spanAt fresh (c .line .0 + 1) (c .at .0 + width (raw s c)) (rest s c)) ≡ searchOn s (versionOf s (moved (cutForm c (raw s c) f) .next)) (due (standing (moved (cutForm c (raw s c) f))))
+          → beginForm spanAt (c .line .0) (c .at .0) (content (raw s c)) f (begin spanAt (c .line .0 + 1) (c .at .0 + width (raw s c)) (rest s c)) (run spanAt fresh (c .line .0 + 1) (c .at .0 + width (raw s c)) (rest s c)) ≡ verdictOn s (lineOf s (searching k) (moved (cutForm c (raw s c) f) .next)) (due (standing (moved (cutForm c (raw s c) f))))
       form Blank e = begin-past
       form (Bad f) e = refl
-      form (Good l) e = rw (value-is s c l e) (opened-on (c .at .0 + 2) l (drop 2 (content (raw s c))) _ (run-past fresh))
+      form (Good l) e = rw (value-is s c l e) (opened-on (c .at .0 + 2) l (drop 2 (content (raw s c))) k _ (run-past fresh))
+
+  pub rest-line : (x : Standing) → restOf s x c ≡ verdictOn s (lineAt s x c) (then s c)
+  rest-line (searching k) = rest-searching k
+  rest-line (reading ρ k) = rest-reading ρ k
+
+  -- ---- how many they are
+  total-reading : (ρ : Reading Span) (k : Counts) → Totals s (totalOf s (reading ρ k) c) (lineAt s (reading ρ k) c) (then s c)
+  unfolding lineAt moveAt
+  total-reading ρ k = at-cursor s c (λ rs x. Totals s (plus k (countFrom medias rs)) (lineOf s (reading ρ k) (moved x .next)) (due (standing (moved x)))) (none-left k medias) (λ h f e. form f e)
+    where
+      medias : ℕ
+      medias = length (ρ .session .tables .medias)
+
+      stepped-total : (p n l : ℕ) (v : List ℕ) → formOf (content (raw s c)) ≡ Good l → (x : Stepped Span) → step (spanAt p v) ρ v l ≡ x
+          → Totals s (plus k (countFrom medias (raw s c ∷ rest s c))) (stepped n p (oneOf (kindOf (roleAt medias l)) k) x) next
+      stepped-total p n l v e (goes τ) q =
+          good-next k (raw s c) (rest s c) medias l e ∙ ap (λ (m : ℕ). plus (oneOf (kindOf (roleAt medias l)) k) (countFrom m (rest s c))) (sym (step-medias (spanAt p v) ρ v (roleAt medias l) τ q))
+      stepped-total p n l v e (stops y) q = tt
+
+      form : (f : Form) → formOf (content (raw s c)) ≡ f
+          → Totals s (plus k (countFrom medias (raw s c ∷ rest s c))) (lineOf s (reading ρ k) (moved (cutForm c (raw s c) f) .next)) (due (standing (moved (cutForm c (raw s c) f))))
+      form Blank e = blank-next k (raw s c) (rest s c) medias e
+      form (Bad f) e = tt
+      form (Good l) e = stepped-total (c .at .0 + 2) (c .line .0) l (bytesOf s (span s c)) e _ refl
+
+  total-searching : (k : Counts) → Totals s (totalOf s (searching k) c) (lineAt s (searching k) c) (then s c)
+  unfolding lineAt moveAt
+  total-searching k = at-cursor s c (λ rs x. Totals s (plus k (countLines rs)) (lineOf s (searching k) (moved x .next)) (due (standing (moved x)))) tt (λ h f e. form f e)
+    where
+      opened-total : (l : ℕ) → formOf (content (raw s c)) ≡ Good l → (o : Opening) → Totals s (plus k (countLines (raw s c ∷ rest s c))) (openedTo k o) next
+      opened-total l e opening.Zero = version-first k (raw s c) (rest s c) l e
+      opened-total l e (opening.Refused x) = tt
+
+      form : (f : Form) → formOf (content (raw s c)) ≡ f
+          → Totals s (plus k (countLines (raw s c ∷ rest s c))) (lineOf s (searching k) (moved (cutForm c (raw s c) f) .next)) (due (standing (moved (cutForm c (raw s c) f))))
+      form Blank e = blank-above k (raw s c) (rest s c) e
+      form (Bad f) e = tt
+      form (Good l) e = opened-total l e (openingOf (c .line .0) (c .at .0 + 2) l (bytesOf s (span s c)))
+
+  pub total-line : (x : Standing) → Totals s (totalOf s x c) (lineAt s x c) (then s c)
+  total-line (searching k) = total-searching k
+  total-line (reading ρ k) = total-reading ρ k

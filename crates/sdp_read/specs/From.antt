@@ -7,17 +7,16 @@ use Rattle.sdp_lines.specs.Lines.{split}
 use Rattle.sdp_lines.specs.declared.Span.{Span}
 use Rattle.sdp_lines.specs.declared.Cursor.{Cursor}
 use Rattle.sdp_area.specs.Session.{empty}
-use Rattle.sdp_area.specs.Area.{encode}
+use Rattle.sdp_area.specs.Area.{encode, size}
 use Rattle.sdp_strings.specs.Strings.{spanAt}
-use Rattle.sdp_step.specs.Step.{Reading, fresh}
+use Rattle.sdp_step.specs.Step.{Reading}
+use Rattle.sdp_counts.specs.Count.{countsOf}
+use Rattle.sdp_counts.specs.declared.Counts.{Counts}
 use Rattle.sdp_cutter.specs.Cutter.{moveAt}
-use Rattle.sdp_turn.specs.Turn.{Lined, lineOf, versionOf, Left}
+use Rattle.sdp_turn.specs.Turn.{Standing, Lined, lineOf}
 use Rattle.sdp_turn.specs.declared.Ended.{Ended}
 use Rattle.sdp_turn.specs.declared.Ended.the-variants.{Accepted, Stopped, Unread}
-use Rattle.sdp_turn.specs.declared.Search.{Search}
-use Rattle.sdp_turn.specs.declared.Version.{Version}
-use Rattle.sdp_turn.specs.declared.Version.the-variants as version
-use Rattle.sdp_read.specs.Run.{Verdict, refused, run, begin}
+use Rattle.sdp_read.specs.Run.{Verdict, accepted, refused, run, begin}
 
 -- a cursor that cutting from the start leads to: a line takes a byte at least
 pub record Reached (s : List ℕ) (c : Cursor) : Type 0 where
@@ -32,23 +31,19 @@ runAt s ρ c = run spanAt ρ (c .line .0) (c .at .0) (split (drop (c .at .0) s))
 unfoldable pub beginAt : List ℕ → Cursor → Verdict Span
 beginAt s c = begin spanAt (c .line .0) (c .at .0) (split (drop (c .at .0) s))
 
--- ---- one line
--- what the line that stands at a cursor does to a run
-unfoldable pub lineAt : List ℕ → Reading Span → Cursor → Lined
-lineAt s ρ c = lineOf s ρ (moveAt s (c .at) (c .line) .next)
+-- their counts
+abbrev pub countsAt : List ℕ → Cursor → Counts
+countsAt s c = countsOf (drop (c .at .0) s)
 
--- and what it says of the version
-unfoldable pub versionAt : List ℕ → Cursor → Search
-versionAt s c = versionOf s (moveAt s (c .at) (c .line) .next)
+-- what the line that stands at a cursor does to a reading
+unfoldable pub lineAt : List ℕ → Standing → Cursor → Lined
+lineAt s x c = lineOf s x (moveAt s (c .at) (c .line) .next)
 
--- ---- the lines
--- what is found from c on: the lines after the version are due where the cutter then stands, at d; or the refusal
-abbrev pub Begun : List ℕ → Cursor → Version → Cursor → Type 0
-Begun s c version.Found d = (beginAt s c ≡ runAt s fresh d) × Reached s d
-Begun s c (version.Refused x) d = beginAt s c ≡ refused x
-
--- the answer for a whole text, and the area: where the version is refused, it is as it was
-abbrev pub Ends : Verdict Span → Ended → List ℕ → List ℕ → Type 0
-Ends v Accepted a t = Left v Accepted a t
-Ends v (Stopped y) a t = Left v (Stopped y) a t
-Ends v (Unread y) a t = (v ≡ refused y) × (a ≡ encode empty ++ t)
+-- the answer for lines that say v and have the counts c, and the area: where the version is refused, it is as it was
+abbrev pub Ends : Verdict Span → Counts → Ended → List ℕ → List ℕ → Type 0
+Ends (accepted s) c (Accepted d) a t = (d ≡ c) × (a ≡ encode s ++ t)
+Ends (accepted s) c (Stopped y) a t = ⊥
+Ends (accepted s) c (Unread y) a t = ⊥
+Ends (refused x) c (Accepted d) a t = ⊥
+Ends (refused x) c (Stopped y) a t = (y ≡ x) × (drop size a ≡ t)
+Ends (refused x) c (Unread y) a t = (y ≡ x) × (a ≡ encode empty ++ t)

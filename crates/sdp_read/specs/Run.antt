@@ -18,6 +18,9 @@ use Rattle.sdp_area.specs.Area.{encode, size}
 use Rattle.sdp_strings.specs.Strings.{spanAt}
 use Rattle.sdp_step.specs.Step.{Reading, Stepped, goes, stops, stop, step, fresh}
 use Rattle.sdp_lines.specs.declared.Answer.{Answer}
+use Rattle.sdp_counts.specs.Count.{countsOf, noCounts}
+use Rattle.sdp_counts.specs.declared.Counts.{Counts}
+use Rattle.sdp_read.specs.declared.Told.{Told}
 -- the answers, the version line's value and what reading says are defined there
 pub use Rattle.sdp_line.specs.Version.{answer, noVersion, badVersion, isZero}
 pub use Rattle.sdp_turn.specs.Turn.{Verdict, accepted, refused, onLine, placeOf, wrongAt}
@@ -63,16 +66,26 @@ module _ {S : Type 0} (at : ℕ → List ℕ → Piece → S) where
 -- ---- the promise of read
 pub record Outcome : Type 0 where
   pub answer : Answer
+  pub counts : Counts
   pub area : List ℕ
 
--- "Any other reading refusal: area all zero. Area bytes beyond the stated size always stay as found."
-abbrev pub outcomeOf : List ℕ → Verdict Span → Outcome
-outcomeOf a (accepted s) = record { answer = answer 0 0 0; area = encode s ++ drop size a }
-outcomeOf a (refused x) = record { answer = x; area = zeros size ++ drop size a }
+-- "Any other reading refusal: area all zero. Area bytes beyond the stated size always stay as found." Document 02, P11: "An accepted reading
+-- also returns three counts"; "A refusal returns zeros."
+abbrev pub outcomeOf : List ℕ → List ℕ → Verdict Span → Outcome
+outcomeOf s a (accepted x) = record { answer = answer 0 0 0; counts = countsOf s; area = encode x ++ drop size a }
+outcomeOf s a (refused x) = record { answer = x; counts = noCounts; area = zeros size ++ drop size a }
 
--- "Order: 2, 1, then line by line"; "Area too short or text too long: area unchanged"
+-- "Area too short or text too long: area unchanged"
+abbrev pub untouched : List ℕ → ℕ → Outcome
+untouched a number = record { answer = answer number 0 0; counts = noCounts; area = a }
+
+-- "Order: 2, 1, then line by line"
 unfoldable pub readText : List ℕ → List ℕ → Outcome
 readText s a =
-    cond (ltb (length a) size) (record { answer = answer refusals.areaTooShort 0 0; area = a })
-    (cond (ltb longestText (length s)) (record { answer = answer refusals.textTooLong 0 0; area = a })
-    (outcomeOf a (lines spanAt s)))
+    cond (ltb (length a) size) (untouched a refusals.areaTooShort)
+    (cond (ltb longestText (length s)) (untouched a refusals.textTooLong)
+    (outcomeOf s a (lines spanAt s)))
+
+-- what is returned of it
+abbrev pub toldOf : Outcome → Told
+toldOf o = record { answer = o .answer; counts = o .counts }

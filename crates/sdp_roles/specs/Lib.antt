@@ -1,1 +1,2 @@
 pub mod Roles
+pub mod Kinds

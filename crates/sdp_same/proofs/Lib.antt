@@ -5,6 +5,7 @@ pub mod TableLaws
 pub mod DecodeLaws
 pub mod StepLaws
 pub mod LinesLaws
+pub mod MediaLaws
 pub mod FineLaws
 pub mod RowLaws
 pub mod KeptLaws

@@ -17,7 +17,7 @@ use Rattle.sdp_area.specs.Area.{encode, size}
 use Rattle.sdp_area.proofs.WidthLaws.{length-encode}
 use Rattle.sdp_strings.specs.Strings.{spanAt}
 use Rattle.sdp_read.specs.Run as reader
-use Rattle.sdp_read.specs.Run.{Verdict, accepted, refused, answer, outcomeOf, lines, readText}
+use Rattle.sdp_read.specs.Run.{Verdict, accepted, refused, outcomeOf, untouched, lines, readText}
 use Rattle.sdp_decode.specs.Rows.{each}
 use Rattle.sdp_row.specs.Written as form
 use Rattle.sdp_row.specs.Written.{line, originLine, nameLine, stringLine, optional, headLines, contactLines, closingLines, mediaLines, written}
@@ -64,7 +64,7 @@ fills w o h = rw (le-ltb (length o) (length w) h)
 
 -- ---- what reading leaves, by what the lines of the text say
 module _ (t a : List ℕ) where
-  pub read-is : length t ≤ 32768 → size ≤ length a → (r : Verdict Span) → lines spanAt t ≡ r → readText t a ≡ outcomeOf a r
+  pub read-is : length t ≤ 32768 → size ≤ length a → (r : Verdict Span) → lines spanAt t ≡ r → readText t a ≡ outcomeOf t a r
   unfolding reader.readText
   read-is short room r e = rw (le-ltb (length a) size room, le-ltb 32768 (length t) short, e)
 
@@ -74,7 +74,7 @@ module _ (t a : List ℕ) where
   read-fits = go (ltb (length a) size) (ltb 32768 (length t)) refl refl
     where
       result : Bool → Bool → reader.Outcome
-      result b c = cond b (record { answer = answer 2 0 0; area = a }) (cond c (record { answer = answer 1 0 0; area = a }) (outcomeOf a (lines spanAt t)))
+      result b c = cond b (untouched a 2) (cond c (untouched a 1) (outcomeOf t a (lines spanAt t)))
 
       go : (b c : Bool) → ltb (length a) size ≡ b → ltb 32768 (length t) ≡ c → result b c .answer .number ≡ 0 → (length t ≤ 32768) × (size ≤ length a)
       go true c p q n = absurd (let z : _≡_ {A = ℕ} 2 0 = n in omega arith)

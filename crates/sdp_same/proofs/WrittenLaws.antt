@@ -27,10 +27,11 @@ module _ {X Y : Type 0} (h : X → Y) where
   optional-said f g e none = refl
   optional-said f g e (some x) = e x
 
-module _ {S : Type 0} (f : S → List ℕ) where
-  abbrev id : List ℕ → List ℕ
-  id b = b
+-- the bytes of a string that is its bytes
+abbrev pub id : List ℕ → List ℕ
+id x = x
 
+module _ {S : Type 0} (f : S → List ℕ) where
   -- ---- lines
   username-said : (o : Option S) → usernameText f o ≡ usernameText id (Option·map f o)
   unfolding form.usernameText
@@ -92,7 +93,7 @@ module _ {S : Type 0} (f : S → List ℕ) where
   closing-said s = behind (zonesLine (s .tables .zones)) (attributes-said (s .tables .attributes) 0)
 
   -- the text of a session is the text of what its strings say
-  pub written-said : (s : Session S) → written f s ≡ written (λ (b : List ℕ). b) (said f s)
+  pub written-said : (s : Session S) → written f s ≡ written id (said f s)
   unfolding form.written
   written-said s =
       join (head-said (s .head))

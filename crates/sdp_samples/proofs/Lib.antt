@@ -1,3 +1,4 @@
 pub mod SampleLaws
 pub mod PlaceLaws
 pub mod ByteLaws
+pub mod CountLaws

@@ -39,7 +39,7 @@ pub refuses : (t : List ℕ) (x : Answer) → ltb 32768 (length t) ≡ false →
 unfolding Run.readText
 refuses t x p e a h = rw (le-ltb (length a) size h, p, e)
 
-accepts : (t : List ℕ) (s : Session Span) → ltb 32768 (length t) ≡ false → lines spanAt t ≡ accepted s → Accepts t s
+pub accepts : (t : List ℕ) (s : Session Span) → ltb 32768 (length t) ≡ false → lines spanAt t ≡ accepted s → Accepts t s
 unfolding Run.readText
 accepts t s p e a h = rw (le-ltb (length a) size h, p, e)
 

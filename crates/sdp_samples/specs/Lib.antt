@@ -1,3 +1,4 @@
 pub mod Samples
 pub mod Places
 pub mod Bytes
+pub mod Counts

@@ -10,6 +10,7 @@ use Rattle.sdp_cells.specs.Bytes.{zeros}
 use Rattle.sdp_area.specs.Session.{Session, empty}
 use Rattle.sdp_area.specs.Area.{encode, size}
 use Rattle.sdp_area.specs.With.{withZones, withAttributes}
+use Rattle.sdp_counts.specs.Count.{countsOf, noCounts}
 use Rattle.sdp_read.specs.Run.{readText}
 use Rattle.sdp_write.specs.Write.{lengthText, fillText}
 
@@ -100,11 +101,11 @@ five number line field place len = record { number = number; line = line; field 
 
 -- the text t is refused with x in every area of full size: the area is then all zero, and the bytes behind it are as found
 abbrev pub Refuses : List ℕ → Answer → Type 0
-Refuses t x = (a : List ℕ) → size ≤ length a → readText t a ≡ record { answer = x; area = zeros size ++ drop size a }
+Refuses t x = (a : List ℕ) → size ≤ length a → readText t a ≡ record { answer = x; counts = noCounts; area = zeros size ++ drop size a }
 
 -- the text t is accepted in every area of full size: the area then holds the session s, and the bytes behind it are as found
 abbrev pub Accepts : List ℕ → Session Span → Type 0
-Accepts t s = (a : List ℕ) → size ≤ length a → readText t a ≡ record { answer = five 0 0 0 0 0; area = encode s ++ drop size a }
+Accepts t s = (a : List ℕ) → size ≤ length a → readText t a ≡ record { answer = five 0 0 0 0 0; counts = countsOf t; area = encode s ++ drop size a }
 
 -- the area that reading t leaves has the length of w, and is written as w in every output that has room for it; the bytes behind it are as found
 abbrev pub Writes : List ℕ → List ℕ → Type 0

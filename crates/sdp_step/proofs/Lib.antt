@@ -3,3 +3,4 @@ pub mod WithinLaws
 pub mod AnswerLaws
 pub mod HandleLaws
 pub mod OnceLaws
+pub mod GoingLaws

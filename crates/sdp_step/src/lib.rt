@@ -10,9 +10,10 @@ pub struct Marks {
     pub zoned: bool,
 }
 
-// What a line did: it was taken, or refused.
+// What a line did: it was taken, or has no use, or was refused.
 pub enum Taken {
     Kept(Marks),
+    Idle,
     Refused(Wrong),
 }
 

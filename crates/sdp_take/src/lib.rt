@@ -4,9 +4,7 @@ ghost use Prim.Native.Nat.{_+_, _≤_};
 ghost use lib.ListN.{length};
 ghost use Rattle.sdp_numbers.specs.Refusals.{longestText};
 ghost use Rattle.sdp_area.specs.Area.{size};
-ghost use Rattle.sdp_step.specs.Step.{step};
-ghost use Rattle.sdp_strings.specs.Strings.{spanAt};
-ghost use Rattle.sdp_step.specs.Hold.{Takes, Reads};
+ghost use Rattle.sdp_step.specs.Hold.{Tells, roleIn};
 ghost use Rattle.sdp_take.specs.Shapes.{shapeRole};
 use sdp_area::Contact;
 use sdp_area::Text;
@@ -59,22 +57,21 @@ fn shape_of(role: Role) -> Shape
 // A line by its role.
 fn take_role(area: &mut [u8], v: &[u8], at: usize, marks: Marks, role: Role) -> Taken
     requires { ⌜ (size ≤ length (now area)) × (at + length (now v) ≤ longestText) ⌝ }
-    ensures { λ r. ⌜ Reads role at (now (v .entry)) marks r (now (area .entry)) (now (area .exit)) ⌝ }
+    ensures { λ r. ⌜ Tells (λ ρ. role) at (now (v .entry)) marks r (now (area .entry)) (now (area .exit)) ⌝ }
 {
     match shape_of(role) {
         Shape::Once(what) => take_once(area, v, at, marks, what),
         Shape::Row(what) => take_row(area, v, at, marks, what),
         Shape::Repeat => take_repeat(area, v, at, marks),
         Shape::Zone => take_zone(area, v, at, marks),
-        Shape::Nothing => Taken::Kept(marks),
+        Shape::Nothing => Taken::Idle,
     }
 }
 
 // A line of good form, whose value stands at a place of the text.
 pub fn take_line(area: &mut [u8], at: Place, marks: Marks, letter: u8, value: &[u8]) -> Taken
     requires { ⌜ (size ≤ length (now area)) × (at .0 + length (now value) ≤ longestText) ⌝ }
-    ensures { λ r. ⌜ Takes (λ ρ. step (spanAt (at .0) (now (value .entry))) ρ (now (value .entry)) letter)
-        marks r (now (area .entry)) (now (area .exit)) ⌝ }
+    ensures { λ r. ⌜ Tells (roleIn letter) (at .0) (now (value .entry)) marks r (now (area .entry)) (now (area .exit)) ⌝ }
 {
     let role = role_at(medias(area), letter);
     take_role(area, value, at.0, marks, role)

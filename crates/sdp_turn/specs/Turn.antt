@@ -1,11 +1,12 @@
--- Document 01, "Lines", "Refusal numbers": what one line does to a run, and what it says of the version, by what the cutter found.
+-- Document 01, "Lines", "Refusal numbers": what one line does to a reading, by what the cutter found. Document 02, P11: and to the counts.
 use Prim.Native.Nat.{ℕ, _+_, _≤_}
 use mathlib.Core.Path.{_≡_}
-use mathlib.Core.Bool.{cond}
+use mathlib.Core.Bool.{Bool, true, false, cond}
 use mathlib.Core.List.{List, _++_}
 use lib.Dec.{eqb}
 use lib.ListN.{length, drop}
 use Rattle.sdp_numbers.specs.Refusals as refusals
+use Rattle.sdp_numbers.specs.Refusals.{longestText}
 use Rattle.sdp_lines.specs.Strings.{bytesOf}
 use Rattle.sdp_lines.specs.Answers.{faultNumber}
 use Rattle.sdp_lines.specs.declared.Span.{Span}
@@ -13,22 +14,22 @@ use Rattle.sdp_lines.specs.declared.Answer.{Answer}
 use Rattle.sdp_cutter.specs.declared.Next.{Next}
 use Rattle.sdp_cutter.specs.declared.Next.the-variants.{Found, Empty, Refused, End}
 use Rattle.sdp_judge.specs.declared.Wrong.{Wrong}
-use Rattle.sdp_area.specs.Session.{Session}
+use Rattle.sdp_area.specs.Session.{Session, empty}
 use Rattle.sdp_area.specs.Area.{encode, size}
+use Rattle.sdp_roles.specs.Kinds.{Kind, kindOf, byKind}
 use Rattle.sdp_strings.specs.Strings.{spanAt}
-use Rattle.sdp_step.specs.Step.{Reading, Stepped, goes, stops, step}
-use Rattle.sdp_step.specs.Hold.{Holds}
+use Rattle.sdp_step.specs.Step.{Reading, Stepped, goes, stops, step, fresh}
+use Rattle.sdp_step.specs.Hold.{Holds, roleIn}
 use Rattle.sdp_step.specs.declared.Marks.{Marks}
+use Rattle.sdp_counts.specs.declared.Counts.{Counts}
 use Rattle.sdp_line.specs.Version.{answer, noVersion, openingOf}
 use Rattle.sdp_line.specs.declared.Opening.{Opening}
 use Rattle.sdp_line.specs.declared.Opening.the-variants as opening
+use Rattle.sdp_turn.specs.declared.State.{State}
 use Rattle.sdp_turn.specs.declared.Ended.{Ended}
 use Rattle.sdp_turn.specs.declared.Ended.the-variants.{Accepted, Stopped, Unread}
 use Rattle.sdp_turn.specs.declared.Turn.{Turn}
 use Rattle.sdp_turn.specs.declared.Turn.the-variants.{Goes, Over}
-use Rattle.sdp_turn.specs.declared.Search.{Search}
-use Rattle.sdp_turn.specs.declared.Search.the-variants.{On, Told}
-use Rattle.sdp_turn.specs.declared.Version.the-variants as version
 
 -- what the cutter found stands in the text
 abbrev pub Inside : List ℕ → Next → Type 0
@@ -55,69 +56,146 @@ placeOf number place = cond (eqb number refusals.encoding) place 0
 abbrev pub wrongAt : ℕ → ℕ → Wrong → Answer
 wrongAt n p w = record { number = w .number; line = n; field = w .field; place = placeOf (w .number) (p + w .at); len = 0 }
 
--- the answer of the lines, and the area after them: the session, or a refusal after which only the bytes behind count
-abbrev pub Left : Verdict Span → Ended → List ℕ → List ℕ → Type 0
-Left (accepted s) Accepted a t = a ≡ encode s ++ t
-Left (accepted s) (Stopped y) a t = ⊥
-Left (refused x) Accepted a t = ⊥
-Left (refused x) (Stopped y) a t = (y ≡ x) × (drop size a ≡ t)
-Left v (Unread y) a t = ⊥
+-- ---- counts: a line is empty, ignored or kept
+abbrev pub oneEmpty : Counts → Counts
+oneEmpty c = record { empty = c .empty + 1; ignored = c .ignored; kept = c .kept }
 
--- ---- after the version
--- what a line does to a run: it goes on, or is over
+abbrev pub oneIgnored : Counts → Counts
+oneIgnored c = record { empty = c .empty; ignored = c .ignored + 1; kept = c .kept }
+
+abbrev pub oneKept : Counts → Counts
+oneKept c = record { empty = c .empty; ignored = c .ignored; kept = c .kept + 1 }
+
+-- a line of good form, by the kind of its role
+abbrev pub oneOf : Kind → Counts → Counts
+oneOf k c = byKind k (oneIgnored c) (oneKept c) (oneKept c)
+
+-- ---- what a line does
+-- where a reading stands: the version line is still looked for, or the session so far; with the counts of the lines so far
+pub data Standing : Type 0 where
+  searching : Counts → Standing
+  reading : Reading Span → Counts → Standing
+
+-- what a line does: the reading goes on, ends, or is refused, at a line after the version or where none was read
 pub data Lined : Type 0 where
-  on : Reading Span → Lined
-  over : Verdict Span → Lined
+  on : Standing → Lined
+  ended : Session Span → Counts → Lined
+  stopped : Answer → Lined
+  unread : Answer → Lined
 
--- after the step of the line with number n, whose value stands at place p
-abbrev pub stepped : ℕ → ℕ → Stepped Span → Lined
-stepped n p (goes ρ) = on ρ
-stepped n p (stops w) = over (refused (wrongAt n p w))
+-- the first line that is not empty
+abbrev pub openedTo : Counts → Opening → Lined
+openedTo c opening.Zero = on (reading fresh (oneKept c))
+openedTo c (opening.Refused x) = unread x
+
+-- after the step of the line with number n, whose value stands at place p; c are the counts with it
+abbrev pub stepped : ℕ → ℕ → Counts → Stepped Span → Lined
+stepped n p c (goes ρ) = on (reading ρ c)
+stepped n p c (stops w) = stopped (wrongAt n p w)
 
 -- a line of good form, its number n, its letter l, its value v of the text s
-abbrev pub goodLine : List ℕ → Reading Span → ℕ → ℕ → Span → Lined
-goodLine s ρ n l v = stepped n (v .at .0) (step (spanAt (v .at .0) (bytesOf s v)) ρ (bytesOf s v) l)
+abbrev pub goodLine : List ℕ → Reading Span → Counts → ℕ → ℕ → Span → Lined
+goodLine s ρ c n l v = stepped n (v .at .0) (oneOf (kindOf (roleIn l ρ)) c) (step (spanAt (v .at .0) (bytesOf s v)) ρ (bytesOf s v) l)
 
 -- by what the cutter found
-abbrev pub lineOf : List ℕ → Reading Span → Next → Lined
-lineOf s ρ (Found n l v) = goodLine s ρ (n .0) l v
-lineOf s ρ Empty = on ρ
-lineOf s ρ (Refused f n) = over (onLine (faultNumber f) (n .0) 0)
-lineOf s ρ End = over (accepted (ρ .session))
+abbrev pub lineOf : List ℕ → Standing → Next → Lined
+lineOf s (searching c) (Found n l v) = openedTo c (openingOf (n .0) (v .at .0) l (bytesOf s v))
+lineOf s (searching c) Empty = on (searching (oneEmpty c))
+lineOf s (searching c) (Refused f n) = unread (answer (faultNumber f) (n .0) 0)
+lineOf s (searching c) End = unread noVersion
+lineOf s (reading ρ c) (Found n l v) = goodLine s ρ c (n .0) l v
+lineOf s (reading ρ c) Empty = on (reading ρ (oneEmpty c))
+lineOf s (reading ρ c) (Refused f n) = stopped (answer (faultNumber f) (n .0) 0)
+lineOf s (reading ρ c) End = ended (ρ .session) c
 
--- the code's answer for it, and the area: a run that goes on is held there
+-- ---- the code's state
+abbrev pub marksIn : State → Marks
+marksIn g = record { named = g .named; zoned = g .zoned }
+
+abbrev pub countsIn : State → Counts
+countsIn g = record { empty = g .empty; ignored = g .ignored; kept = g .kept }
+
+-- the lines so far
+abbrev pub linesIn : State → ℕ
+linesIn g = g .empty + g .ignored + g .kept
+
+-- no more lines than a text has bytes
+abbrev pub Few : State → Type 0
+Few g = linesIn g ≤ longestText
+
+-- one line more
+abbrev pub emptyMore : State → State
+emptyMore g = record { named = g .named; zoned = g .zoned; begun = g .begun; empty = g .empty + 1; ignored = g .ignored; kept = g .kept }
+
+abbrev pub ignoredMore : State → State
+ignoredMore g = record { named = g .named; zoned = g .zoned; begun = g .begun; empty = g .empty; ignored = g .ignored + 1; kept = g .kept }
+
+abbrev pub keptMore : State → Marks → State
+keptMore g m = record { named = m .named; zoned = m .zoned; begun = true; empty = g .empty; ignored = g .ignored; kept = g .kept + 1 }
+
+-- ---- the code's answers
+abbrev pub refusedTurn : Bool → Answer → Turn
+refusedTurn true x = Over (Stopped x)
+refusedTurn false x = Over (Unread x)
+
+abbrev pub endTurn : State → Turn
+endTurn g = cond (g .begun) (Over (Accepted (countsIn g))) (Over (Unread noVersion))
+
+abbrev pub openedTurnTo : State → Opening → Turn
+openedTurnTo g opening.Zero = Goes (keptMore g (marksIn g))
+openedTurnTo g (opening.Refused x) = Over (Unread x)
+
+abbrev pub openedTurn : List ℕ → State → ℕ → ℕ → Span → Turn
+openedTurn s g n l v = openedTurnTo g (openingOf n (v .at .0) l (bytesOf s v))
+
+-- ---- what the code holds
+-- the state g and the area a hold the session ρ and the counts c, with t behind the session
+pub record Carries (begun : Bool) (ρ : Reading Span) (c : Counts) (g : State) (a t : List ℕ) : Type 0 where
+  pub begun-is : g .begun ≡ begun
+  pub holds : Holds ρ (marksIn g) a t
+  pub counts : countsIn g ≡ c
+
+-- before the version line the session is empty
+abbrev pub Stands : Standing → State → List ℕ → List ℕ → Type 0
+Stands (searching c) g a t = Carries false fresh c g a t
+Stands (reading ρ c) g a t = Carries true ρ c g a t
+
+-- the code's answer for a line, and the area: after a refused line of a session only the bytes behind it still count
 abbrev pub Turned : Lined → Turn → List ℕ → List ℕ → Type 0
-Turned (on ρ) (Goes m) a t = Holds ρ m a t
-Turned (on ρ) (Over e) a t = ⊥
-Turned (over v) (Goes m) a t = ⊥
-Turned (over v) (Over e) a t = Left v e a t
+Turned (on x) (Goes g) a t = Stands x g a t
+Turned (on x) (Over e) a t = ⊥
+Turned (ended s c) (Over (Accepted d)) a t = (d ≡ c) × (a ≡ encode s ++ t)
+Turned (ended s c) (Over (Stopped y)) a t = ⊥
+Turned (ended s c) (Over (Unread y)) a t = ⊥
+Turned (ended s c) (Goes g) a t = ⊥
+Turned (stopped x) (Over (Stopped y)) a t = (y ≡ x) × (drop size a ≡ t)
+Turned (stopped x) (Over (Accepted d)) a t = ⊥
+Turned (stopped x) (Over (Unread y)) a t = ⊥
+Turned (stopped x) (Goes g) a t = ⊥
+Turned (unread x) (Over (Unread y)) a t = (y ≡ x) × (a ≡ encode empty ++ t)
+Turned (unread x) (Over (Accepted d)) a t = ⊥
+Turned (unread x) (Over (Stopped y)) a t = ⊥
+Turned (unread x) (Goes g) a t = ⊥
 
--- whatever session the area held
-abbrev pub Turns : (Reading Span → Lined) → Marks → Turn → List ℕ → List ℕ → Type 0
-Turns f m r a a′ = (ρ : Reading Span) (t : List ℕ) → Holds ρ m a t → Turned (f ρ) r a′ t
+-- whatever the state and the area held
+abbrev pub Turns : (Standing → Lined) → State → Turn → List ℕ → List ℕ → Type 0
+Turns f g r a a′ = (x : Standing) (t : List ℕ) → Stands x g a t → Turned (f x) r a′ t
 
--- a run goes on only past a line
-abbrev pub Passes : Next → Turn → Type 0
-Passes (Found n l v) r = Unit {0}
-Passes Empty r = Unit {0}
-Passes (Refused f n) (Goes m) = ⊥
-Passes (Refused f n) (Over e) = Unit {0}
-Passes End (Goes m) = ⊥
-Passes End (Over e) = Unit {0}
+-- a reading that goes on has one line more
+abbrev pub Counted : State → Turn → Type 0
+Counted g (Goes h) = linesIn h ≡ linesIn g + 1
+Counted g (Over e) = Unit {0}
 
--- ---- before the version
--- the first line that is not empty
-abbrev pub openedTo : Opening → Search
-openedTo opening.Zero = Told version.Found
-openedTo (opening.Refused x) = Told (version.Refused x)
+-- a line of good form after the version line
+abbrev pub GoodTurns : List ℕ → ℕ → ℕ → Span → State → Turn → List ℕ → List ℕ → Type 0
+GoodTurns s n l v g r a a′ =
+    ((ρ : Reading Span) (c : Counts) (t : List ℕ) → Carries true ρ c g a t → Turned (goodLine s ρ c n l v) r a′ t) × Counted g r
 
--- a line of good form, as goodLine
-abbrev pub openedLine : List ℕ → ℕ → ℕ → Span → Search
-openedLine s n l v = openedTo (openingOf n (v .at .0) l (bytesOf s v))
-
--- by what the cutter found
-abbrev pub versionOf : List ℕ → Next → Search
-versionOf s (Found n l v) = openedLine s (n .0) l v
-versionOf s Empty = On
-versionOf s (Refused f n) = Told (version.Refused (answer (faultNumber f) (n .0) 0))
-versionOf s End = Told (version.Refused noVersion)
+-- a reading goes on only past a line
+abbrev pub Passes : Next → State → Turn → Type 0
+Passes (Found n l v) g r = Counted g r
+Passes Empty g r = Counted g r
+Passes (Refused f n) g (Goes h) = ⊥
+Passes (Refused f n) g (Over e) = Unit {0}
+Passes End g (Goes h) = ⊥
+Passes End g (Over e) = Unit {0}

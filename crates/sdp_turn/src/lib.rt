@@ -1,11 +1,12 @@
-// Document 01, module 4: one line, by what the cutter found: what it does to a run, and what it says of the version.
+// Document 01, module 4: one line, by what the cutter found, and what it does to a reading.
 ghost use mathlib.Core.Path.{_≡_};
 ghost use Prim.Native.Nat.{_+_, _≤_, _<_, _^_};
 ghost use lib.ListN.{length};
 ghost use Rattle.sdp_numbers.specs.Refusals.{longestText, encoding};
 ghost use Rattle.sdp_area.specs.Area.{size};
 ghost use Rattle.sdp_line.specs.Version.{answer};
-ghost use Rattle.sdp_turn.specs.Turn.{Inside, wrongAt, goodLine, lineOf, Turns, Passes, openedLine, versionOf};
+ghost use Rattle.sdp_turn.specs.Turn.{Inside, Few, marksIn, countsIn, emptyMore, ignoredMore, keptMore, wrongAt, refusedTurn, endTurn, openedTurn, GoodTurns, lineOf, Turns, Passes};
+use sdp_counts::Counts;
 use sdp_cutter::Next;
 use sdp_judge::Wrong;
 use sdp_line::Opening;
@@ -19,29 +20,94 @@ use sdp_lines::fault_number;
 use sdp_step::Marks;
 use sdp_step::Taken;
 
+// What a reading carries from line to line beside the area: the marks, whether the version line is behind it, and how many
+// lines were empty, ignored and kept so far.
+pub struct State {
+    pub named: bool,
+    pub zoned: bool,
+    pub begun: bool,
+    pub empty: u64,
+    pub ignored: u64,
+    pub kept: u64,
+}
+
 // How the lines ended. Where the version is refused, none was read.
 pub enum Ended {
-    Accepted,
+    Accepted(Counts),
     Stopped(Answer),
     Unread(Answer),
 }
 
-// What a line did to a run: it goes on, with what is kept beside the area, or is over.
+// What a line did: the reading goes on, or is over.
 pub enum Turn {
-    Goes(Marks),
+    Goes(State),
     Over(Ended),
 }
 
-// The version line is found, and the cutter stands behind it; or the refusal.
-pub enum Version {
-    Found,
-    Refused(Answer),
+// The marks of a state.
+fn marks_of(state: State) -> Marks
+    ensures { λ r. ⌜ r ≡ marksIn state ⌝ }
+{
+    Marks {
+        named: state.named,
+        zoned: state.zoned,
+    }
 }
 
-// What a line says while the version is looked for.
-pub enum Search {
-    On,
-    Told(Version),
+// Its counts.
+fn counts_of(state: State) -> Counts
+    ensures { λ r. ⌜ r ≡ countsIn state ⌝ }
+{
+    Counts {
+        empty: state.empty,
+        ignored: state.ignored,
+        kept: state.kept,
+    }
+}
+
+// One empty line more.
+fn one_empty(state: State) -> State
+    requires { ⌜ Few state ⌝ }
+    ensures { λ r. ⌜ r ≡ emptyMore state ⌝ }
+{
+    State {
+        named: state.named,
+        zoned: state.zoned,
+        begun: state.begun,
+        empty: state.empty + 1,
+        ignored: state.ignored,
+        kept: state.kept,
+    }
+}
+
+// One ignored line more.
+fn one_ignored(state: State) -> State
+    requires { ⌜ Few state ⌝ }
+    ensures { λ r. ⌜ r ≡ ignoredMore state ⌝ }
+{
+    State {
+        named: state.named,
+        zoned: state.zoned,
+        begun: state.begun,
+        empty: state.empty,
+        ignored: state.ignored + 1,
+        kept: state.kept,
+    }
+}
+
+// One kept line more, and the marks after it. The first is the version line.
+fn one_kept(state: State, marks: Marks) -> State
+    requires { ⌜ Few state ⌝ }
+    ensures { λ r. ⌜ r ≡ keptMore state marks ⌝ }
+{
+    State {
+        named: marks.named,
+        zoned: marks.zoned,
+        begun: true,
+        empty: state.empty,
+        ignored: state.ignored,
+        kept: state.kept + 1,
+    }
 }
 
 // A refusal of a line that names no byte.
@@ -74,77 +140,83 @@ fn wrong_at(line: LineNumber, value: Place, w: Wrong) -> Answer
     }
 }
 
-// A line of good form whose value stands in the text.
+// A line of good form after the version line, whose value stands in the text.
 fn good_line(
     text: &[u8],
     area: &mut [u8],
-    marks: Marks,
+    state: State,
     number: LineNumber,
     letter: u8,
     value: Span,
 ) -> Turn
-    requires { ⌜ (size ≤ length (now area)) × ((length (now text) ≤ longestText) × (value .at .0 + value .len ≤ length (now text))) ⌝ }
-    ensures { λ r. ⌜ Turns (λ ρ. goodLine (now (text .entry)) ρ (number .0) letter value)
-        marks r (now (area .entry)) (now (area .exit)) ⌝ }
+    requires { ⌜ (size ≤ length (now area)) × ((length (now text) ≤ longestText) × (Few state × (value .at .0 + value .len ≤ length (now text)))) ⌝ }
+    ensures { λ r. ⌜ GoodTurns (now (text .entry)) (number .0) letter value state r (now (area .entry)) (now (area .exit)) ⌝ }
 {
     let at = value.at;
     let begin = at.0;
     let end = begin + value.len;
-    match take(area, at, marks, number, letter, &text[begin..end]) {
-        Taken::Kept(marks) => Turn::Goes(marks),
+    match take(area, at, marks_of(state), number, letter, &text[begin..end]) {
+        Taken::Kept(marks) => Turn::Goes(one_kept(state, marks)),
+        Taken::Idle => Turn::Goes(one_ignored(state)),
         Taken::Refused(w) => Turn::Over(Ended::Stopped(wrong_at(number, at, w))),
     }
 }
 
-// What the cutter found, and what it does to a run.
-pub fn turn_of(text: &[u8], area: &mut [u8], marks: Marks, next: Next) -> Turn
-    requires { ⌜ (size ≤ length (now area)) × ((length (now text) ≤ longestText) × Inside (now text) next) ⌝ }
-    ensures { λ r. ⌜ Turns (λ ρ. lineOf (now (text .entry)) ρ next)
-        marks r (now (area .entry)) (now (area .exit)) × Passes next r ⌝ }
-{
-    match next {
-        Next::End => Turn::Over(Ended::Accepted),
-        Next::Refused { fault, line } => {
-            Turn::Over(Ended::Stopped(on_line(fault_number(fault), line, 0)))
-        }
-        Next::Empty => Turn::Goes(marks),
-        Next::Found {
-            number,
-            letter,
-            value,
-        } => good_line(text, area, marks, number, letter, value),
-    }
-}
-
 // The first line that is not empty, of good form.
-fn opened_line(text: &[u8], number: LineNumber, letter: u8, value: Span) -> Search
-    requires { ⌜ value .at .0 + value .len ≤ length (now text) ⌝ }
-    ensures { λ r. ⌜ r ≡ openedLine (now (text .entry)) (number .0) letter value ⌝ }
+fn opened_line(text: &[u8], state: State, number: LineNumber, letter: u8, value: Span) -> Turn
+    requires { ⌜ Few state × (value .at .0 + value .len ≤ length (now text)) ⌝ }
+    ensures { λ r. ⌜ r ≡ openedTurn (now (text .entry)) state (number .0) letter value ⌝ }
 {
     let at = value.at;
     let begin = at.0;
     let end = begin + value.len;
     match opening_line(at, number, letter, &text[begin..end]) {
-        Opening::Zero => Search::Told(Version::Found),
-        Opening::Refused(x) => Search::Told(Version::Refused(x)),
+        Opening::Zero => Turn::Goes(one_kept(state, marks_of(state))),
+        Opening::Refused(x) => Turn::Over(Ended::Unread(x)),
     }
 }
 
-// What the cutter found while the version is looked for.
-pub fn search_of(text: &[u8], next: Next) -> Search
-    requires { ⌜ Inside (now text) next ⌝ }
-    ensures { λ r. ⌜ r ≡ versionOf (now (text .entry)) next ⌝ }
+// The refusal of a line: before the version line, nothing was read.
+fn refused(begun: bool, x: Answer) -> Turn
+    ensures { λ r. ⌜ r ≡ refusedTurn begun x ⌝ }
+{
+    if begun {
+        return Turn::Over(Ended::Stopped(x));
+    }
+    Turn::Over(Ended::Unread(x))
+}
+
+// No line is left.
+fn at_end(state: State) -> Turn
+    ensures { λ r. ⌜ r ≡ endTurn state ⌝ }
+{
+    if state.begun {
+        return Turn::Over(Ended::Accepted(counts_of(state)));
+    }
+    Turn::Over(Ended::Unread(on_line(6, LineNumber(0), 0)))
+}
+
+// What the cutter found, and what it does to a reading.
+pub fn turn_of(text: &[u8], area: &mut [u8], state: State, next: Next) -> Turn
+    requires { ⌜ (size ≤ length (now area)) × ((length (now text) ≤ longestText) × (Few state × Inside (now text) next)) ⌝ }
+    ensures { λ r. ⌜ Turns (λ st. lineOf (now (text .entry)) st next)
+        state r (now (area .entry)) (now (area .exit)) × Passes next state r ⌝ }
 {
     match next {
-        Next::End => Search::Told(Version::Refused(on_line(6, LineNumber(0), 0))),
+        Next::End => at_end(state),
         Next::Refused { fault, line } => {
-            Search::Told(Version::Refused(on_line(fault_number(fault), line, 0)))
+            refused(state.begun, on_line(fault_number(fault), line, 0))
         }
-        Next::Empty => Search::On,
+        Next::Empty => Turn::Goes(one_empty(state)),
         Next::Found {
             number,
             letter,
             value,
-        } => opened_line(text, number, letter, value),
+        } => {
+            if state.begun {
+                return good_line(text, area, state, number, letter, value);
+            }
+            opened_line(text, state, number, letter, value)
+        }
     }
 }

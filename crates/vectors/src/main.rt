@@ -1,7 +1,8 @@
 // Runs the stored inputs and prints the answers; crates/vectors/stdout has the oracle's, made by rust/.
 // A line of standard input is K=HEX: u UTF-8, t token, p and n whole numbers of 16 and 64 bits, d typed time, l letter order,
-// c line cutting, r reading: the answer, and how many rows each table then has; w writing: the answers without room and with
-// it, and what was written, or how reading refused; o and m a line's value, and its record after `username` or `num_ports`.
+// c line cutting, r reading: the answer, the empty, ignored and kept lines, and how many rows each table then has; w writing:
+// these lines, the answers without room and with it, and what was written, or how reading refused; o and m a line's value, and
+// its record after `username` or `num_ports`.
 ghost use Prim.Native.Nat.{_≤_};
 ghost use lib.ListN.{length};
 use libc::STDIN_FILENO;
@@ -121,9 +122,12 @@ fn answer_out(a: Answer) {
 
 fn read_out(s: &[u8]) {
     let mut area = [0u8; 14558];
-    let a = sdp::sdp_read(s, &mut area);
+    let told = sdp::sdp_read(s, &mut area);
     letter_out(b'r');
-    answer_out(a);
+    answer_out(told.answer);
+    number_out(told.counts.empty);
+    number_out(told.counts.ignored);
+    number_out(told.counts.kept);
     counts_out(&area);
     line_out();
 }
@@ -153,8 +157,12 @@ fn both_out(s: &[u8], area: &[u8], out: &mut [u8]) {
 
 fn written_out(s: &[u8]) {
     let mut area = [0u8; 14558];
-    let a = sdp::sdp_read(s, &mut area);
+    let told = sdp::sdp_read(s, &mut area);
     letter_out(b'w');
+    number_out(told.counts.empty);
+    number_out(told.counts.ignored);
+    number_out(told.counts.kept);
+    let a = told.answer;
     if a.number == 0 {
         let mut out = [0u8; 4096];
         both_out(s, &area, &mut out);

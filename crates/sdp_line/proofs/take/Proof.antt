@@ -39,9 +39,7 @@ use denote.Triple.Walked.{says, needs, Stays, stay-none, stay-none-slice, gave-s
 use denote.Exit.{yes}
 use Rattle.sdp_numbers.specs.Refusals.{longestText}
 use Rattle.sdp_area.specs.Area.{size}
-use Rattle.sdp_strings.specs.Strings.{spanAt}
-use Rattle.sdp_step.specs.Step.{step}
-use Rattle.sdp_step.specs.Hold.{Takes}
+use Rattle.sdp_step.specs.Hold.{Tells, roleIn}
 use Rattle.sdp_lines.specs.declared.Place.{Place}
 use Rattle.sdp_lines.specs.declared.LineNumber.{LineNumber}
 use Rattle.sdp_cutter.specs.declared.Line.{Line}
@@ -123,7 +121,7 @@ module _ {M : Type 1} (𝓤 : URA M) (H : Heap 𝓤) (A : Atoms 𝓤) (W : Given
   Asked y = (size ≤ length ys) × (p .0 + length (now y) ≤ longestText)
 
   abbrev Said : RefT (List ℕ) → ℕ → Taken → List ℕ → Type 0
-  Said y l r zs = Takes (λ ρ. step (spanAt (p .0) (now y)) ρ (now y) l) m r ys zs
+  Said y l r zs = Tells (roleIn l) (p .0) (now y) m r ys zs
 
   -- the call of `made`: what it is passed, what it asks, and what is known of its result
   abbrev to-new : New 𝓤 H A mem run .Ghost

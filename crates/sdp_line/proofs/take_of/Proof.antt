@@ -44,9 +44,7 @@ use denote.Triple.Walked.{says, needs, Stays, stay-none, gave-slice, walkOf, goe
 use denote.Exit.{yes}
 use Rattle.sdp_numbers.specs.Refusals.{longestText}
 use Rattle.sdp_area.specs.Area.{size}
-use Rattle.sdp_strings.specs.Strings.{spanAt}
-use Rattle.sdp_step.specs.Step.{step}
-use Rattle.sdp_step.specs.Hold.{Takes}
+use Rattle.sdp_step.specs.Hold.{Tells, roleIn}
 use Rattle.sdp_lines.specs.declared.Place.{Place}
 use Rattle.sdp_cutter.specs.declared.Line.{Line}
 use Rattle.sdp_step.specs.declared.Marks.{Marks}
@@ -123,7 +121,7 @@ module _ {M : Type 1} (𝓤 : URA M) (H : Heap 𝓤) (A : Atoms 𝓤) (W : Given
   Asked = (size ≤ length ys) × (p .0 + length (now (d .value)) ≤ longestText)
 
   abbrev Said : Taken → List ℕ → Type 0
-  Said r zs = Takes (λ ρ. step (spanAt (p .0) (now (d .value))) ρ (now (d .value)) (d .letter)) m r ys zs
+  Said r zs = Tells (roleIn (d .letter)) (p .0) (now (d .value)) m r ys zs
 
   -- what `take_line` is passed: the borrow at its own lifetime, share and name
   abbrev to-callee : TakeLine 𝓤 H A mem run .Ghost

@@ -42,16 +42,16 @@ use Rattle.sdp_cutter.specs.Cutter.{moveAt, standing, due}
 use Rattle.sdp_cutter.specs.declared.Cutter.{Cutter}
 use Rattle.sdp_cutter.specs.declared.Moved.{Moved}
 use Rattle.sdp_cutter.specs.declared.Next.{Next}
-use Rattle.sdp_step.specs.declared.Marks.{Marks}
-use Rattle.sdp_turn.specs.Turn.{Inside, lineOf, Turns, Passes}
+use Rattle.sdp_turn.specs.declared.State.{State}
+use Rattle.sdp_turn.specs.Turn.{Inside, Few, lineOf, Turns, Passes}
 use Rattle.sdp_read.specs.From.{lineAt}
 use Rattle.sdp_turn.specs.declared.Turn.{Turn}
 use Rattle.sdp_read.proofs.CutLaws.{found-inside, turned-at}
 use Rattle.sdp_cutter.proofs.Cutter as T
 use Rattle.sdp_cutter.proofs.Next as X
 use Rattle.sdp_cutter.proofs.Next.Laws as X′
-use Rattle.sdp_step.proofs.Marks as K
-use Rattle.sdp_step.proofs.Marks.Laws as K′
+use Rattle.sdp_turn.proofs.State as K
+use Rattle.sdp_turn.proofs.State.Laws as K′
 use Rattle.sdp_turn.proofs.Turn as R
 use Rattle.sdp_turn.proofs.Turn.Laws as R′
 use Rattle.sdp_cutter.proofs.next_line as next
@@ -78,14 +78,14 @@ module _ {M : Type 1} (𝓤 : URA M) (H : Heap 𝓤) (A : Atoms 𝓤) (mem : Mem
   abbrev TurnOf : Contract 𝓤
   TurnOf = tripleOf 𝓤 H A callee.signature (callee.spec 𝓤 H A mem run)
 
-module _ {M : Type 1} (𝓤 : URA M) (H : Heap 𝓤) (A : Atoms 𝓤) (W : Given 𝓤 H A) (mem : Memory → SProp 𝓤) (run : Routine → Fun 𝓤) (κ κ′ κ″ : Lft) (q q′ q″ : Share) (b o : ℕ) (γ : GName) (h : Cutter) (s : RefT (List ℕ)) (b′ o′ : ℕ) (γ′ : GName) (ys : List ℕ) (m : Marks) (m-is : Is K.the-row m (K′.lowered m ∷ [])) where
+module _ {M : Type 1} (𝓤 : URA M) (H : Heap 𝓤) (A : Atoms 𝓤) (W : Given 𝓤 H A) (mem : Memory → SProp 𝓤) (run : Routine → Fun 𝓤) (κ κ′ κ″ : Lft) (q q′ q″ : Share) (b o : ℕ) (γ : GName) (h : Cutter) (s : RefT (List ℕ)) (b′ o′ : ℕ) (γ′ : GName) (ys : List ℕ) (m : State) (m-is : Is K.the-row m (K′.lowered m ∷ [])) where
   abbrev c : RefT Cutter
   c = record { ptr = (b, o); name = γ; now = h }
 
   abbrev x : RefT (List ℕ)
   x = record { ptr = (b′, o′); name = γ′; now = ys }
 
-  abbrev a : RefT Cutter × (RefT (List ℕ) × (RefT (List ℕ) × (Marks × Unit {0})))
+  abbrev a : RefT Cutter × (RefT (List ℕ) × (RefT (List ℕ) × (State × Unit {0})))
   a = (c, (s, (x, (m, tt))))
 
   -- the machine values of the text and of the area
@@ -116,10 +116,10 @@ module _ {M : Type 1} (𝓤 : URA M) (H : Heap 𝓤) (A : Atoms 𝓤) (W : Given
 
   -- what is asked, and what is answered, of what was found
   abbrev Asked : Type 0
-  Asked = (size ≤ length ys) × (length (now s) ≤ longestText)
+  Asked = (size ≤ length ys) × ((length (now s) ≤ longestText) × Few m)
 
   abbrev Said : Next → Turn → List ℕ → Type 0
-  Said y r zs = Turns (λ ρ. lineOf (now s) ρ y) m r ys zs × Passes y r
+  Said y r zs = Turns (λ z. lineOf (now s) z y) m r ys zs × Passes y m r
 
   -- the call of `next_line`: the borrow at its own lifetime, share and name
   abbrev to-next : NextLine 𝓤 H A mem run .Ghost
@@ -134,14 +134,14 @@ module _ {M : Type 1} (𝓤 : URA M) (H : Heap 𝓤) (A : Atoms 𝓤) (W : Given
   abbrev to-callee : Next → Val → TurnOf 𝓤 H A mem run .Ghost
   to-callee y w = (((κ′, (κ″, tt)), (q′, (q″, tt)), tt, (s, (x, (m, (y, tt)))), (v ∷ [], (u ∷ [], (K′.lowered m ∷ [], (w ∷ [], tt))))), tt)
 
-  goes-callee : (y : Next) (w : Val) → (size ≤ length ys) × ((length (now s) ≤ longestText) × Inside (now s) y)
+  goes-callee : (y : Next) (w : Val) → (size ≤ length ys) × ((length (now s) ≤ longestText) × (Few m × Inside (now s) y))
       → ent 𝓤 (⋆ 𝓤 H A (((‵ (flft κ′ q′) ⊛ ‵ (flft κ″ q″) ⊛ ‵ ftrue) ⊛ ‵ Own) ∷ ‵ Area ∷ ‵ (X.the-row .own y (w ∷ [])) ∷ [])) (TurnOf 𝓤 H A mem run .pre (to-callee y w))
   goes-callee y w asked =
       qed W (((‵ (flft κ′ q′) ⊛ ‵ (flft κ″ q″) ⊛ ‵ ftrue) ⊛ ‵ Own) ∷ ‵ Area ∷ ‵ (X.the-row .own y (w ∷ [])) ∷ []) ∵ says ! asked $ split ! $ frame ! $
       nothing ! $ move ! (3 ∷ 0 ∷ []) $ fjoin ! $ owned ! K.the-row (Is K.the-row) (LL.makes K.the-type K′.the-plain 𝓤 H A) m _ m-is $ fjoin ! $ move ! (2 ∷ 0 ∷ []) $ fjoin ! $ move ! (1 ∷ 0 ∷ []) $ fjoin ! $ done !
 
   exits : (r : Turn) (w : Val) (z : Cutter) (zs : List ℕ)
-      → (Turns (λ ρ. lineAt (now s) ρ (due h)) m r ys zs × Passes (right .next) r) × (z ≡ standing right) → length zs ≡ length ys
+      → (Turns (λ y. lineAt (now s) y (due h)) m r ys zs × Passes (right .next) m r) × (z ≡ standing right) → length zs ≡ length ys
       → ent 𝓤 (⋆ 𝓤 H A ((‵ (flft κ q) ⊛ ‵ (flft κ′ q′) ⊛ ‵ (flft κ″ q″) ⊛ ‵ ftrue) ∷ ‵ (fres γ (T.the-row .coded .code z)) ∷ ‵ Own ∷ ‵ (finally u8 γ′ zs) ∷ ‵ (R.the-row .own r (w ∷ [])) ∷ [])) (Post w)
   exits r w z zs e l =
       qed W ((‵ (flft κ q) ⊛ ‵ (flft κ′ q′) ⊛ ‵ (flft κ″ q″) ⊛ ‵ ftrue) ∷ ‵ (fres γ (T.the-row .coded .code z)) ∷ ‵ Own ∷ ‵ (finally u8 γ′ zs) ∷ ‵ (R.the-row .own r (w ∷ [])) ∷ []) ∵
@@ -176,7 +176,7 @@ module _ {M : Type 1} (𝓤 : URA M) (H : Heap 𝓤) (A : Atoms 𝓤) (W : Given
         move ! (1 ∷ []) $ split ! $ move ! (1 ∷ []) $ split ! $ move ! (0 ∷ 8 ∷ []) $ join ! $
         -- [text's and the area's tokens; true; the cutter's token; the answer's; the last value; true; text's; the area's; _8; …]
         move ! (6 ∷ []) $ use1 W (‵ Own ⊛ ‵ Own) (shr-slice-copy 𝓤 H A W (named 1) κ′ u8 .twice s (v ∷ [])) $ split ! $ move ! (2 ∷ 0 ∷ 8 ∷ 5 ∷ []) $ join ! $
-        use3 W (raw (TurnOf 𝓤 H A mem run .pre (to-callee y w))) (goes-callee y w (asked .0, (asked .1, subst (Inside (now s)) (sym (e .0)) (found-inside (now s) (due h))))) $
+        use3 W (raw (TurnOf 𝓤 H A mem run .pre (to-callee y w))) (goes-callee y w (asked .0, (asked .1 .0, (asked .1 .1, subst (Inside (now s)) (sym (e .0)) (found-inside (now s) (due h)))))) $
         -- [what `turn_of` asks; text's; true; the cutter's token; the last value; true; _8; …; _7; …; _6; …; _5; …; _4; …; _3; …; _2; …; _1; …; room for _0; …]
         calls-at ! fm (TurnOf 𝓤 H A mem run) known (to-callee y w)
         (and-then ! (load ! (from ! (stop !)) (look ! 18 refl)) (and-then ! (load ! (from ! (stop !)) (look ! 6 refl)) (and-then ! (load ! (from ! (stop !)) (look ! 14 refl)) (and-then ! (load ! (from ! (stop !)) (look ! 12 refl)) (no-more !))))) (λ w′.
@@ -196,7 +196,7 @@ module _ {M : Type 1} (𝓤 : URA M) (H : Heap 𝓤) (A : Atoms 𝓤) (W : Given
   one-line-walks C Λ fm known-next known = walked 𝓤 H A self.ended stayed (self.clauses 𝓤 H A mem run) (WpFn 𝓤 H C Λ code.function)
       (λ κs. (ptr-vals, (slice-vals, (slice-vals, (LL.vals K.the-type K′.the-laws, tt)))))
       (λ κs. (mut-tells (named 0) (κs .0) T.the-row, (shr-slice-tells (named 1) (κs .1 .0) u8, (mut-slice-tells (named 2) (κs .1 .1 .0) u8, (LL.tells K.the-type K′.the-laws, tt)))))
-      (λ κs qs bounds a g are. needs 𝓤 ((size ≤ length (a .1 .1 .0 .now)) × (length (a .1 .0 .now) ≤ longestText)) _
+      (λ κs qs bounds a g are. needs 𝓤 ((size ≤ length (a .1 .1 .0 .now)) × ((length (a .1 .0 .now) ≤ longestText) × Few (a .1 .1 .1 .0))) _
       (walk 𝓤 H A W mem run (κs .0) (κs .1 .0) (κs .1 .1 .0) (qs .0) (qs .1 .0) (qs .1 .1 .0) (a .0 .ptr .0) (a .0 .ptr .1) (a .0 .name) (a .0 .now) (a .1 .0) (a .1 .1 .0 .ptr .0) (a .1 .1 .0 .ptr .1) (a .1 .1 .0 .name) (a .1 .1 .0 .now) (a .1 .1 .1 .0)
       (subst (Is K.the-row (a .1 .1 .1 .0)) (K′.lowers .val-is (a .1 .1 .1 .0) _ (are .1 .1 .1 .0)) (are .1 .1 .1 .0)) C Λ fm known-next known (are .1 .0) (are .1 .1 .0 .0 .1)))
 

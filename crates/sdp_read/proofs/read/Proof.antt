@@ -8,50 +8,55 @@ use Rattle.sdp_read.proofs.read.Tie as tie
 
 returns : tie.Need-returns
 returns c =
-    let a = c .before .before .before .before .args in
-    rw (c .refusal .ensures) (says-short (a .text .now) (a .area .now) (c .before .if1 .taken))
+    let i = c .before .before in
+    let a = i .before .before .before .args in
+    rw (c .refused .ensures, c .before .plain .ensures) (says-short (a .text .now) (a .area .now) (i .if1 .taken))
 
 returns-2 : tie.Need-returns-2
 returns-2 c =
     let i = c .before .before in
-    let a = i .before .before .before .args in
-    rw (c .refusal2 .ensures) (says-long (a .text .now) (a .area .now) (i .if1 .left) (c .before .if2 .taken))
+    let a = i .before .before .before .before .args in
+    rw (c .refused2 .ensures, c .before .plain2 .ensures) (says-long (a .text .now) (a .area .now) (i .before .if1 .left) (i .if2 .taken))
 
 returns-3 : tie.Need-returns-3
 returns-3 c =
-    let k = c .before .before .before .before .before in
+    let x = c .before .before in
+    let k = x .before .before .before .before in
     let l = k .before .before .before .before in
     let i = l .before .before in
     let a = i .before .before .before .before .args in
-    rw (c .refusal3 .ensures) (says-accepted (a .text .now) (a .area .now) (i .before .if1 .left) (i .if2 .left) _
-    (rw (c .before .enum-told .given .1) at (k .read-text .ensures (drop size (a .area .now)) (cleared-empty (a .area .now) _ (l .clear .ensures)))))
+    rw (c .plain3 .ensures) (says-accepted (a .text .now) (a .area .now) (i .before .if1 .left) (i .if2 .left) _ _
+    (rw (x .counts .given .1) at (k .read-text .ensures (drop size (a .area .now)) (cleared-empty (a .area .now) _ (l .clear .ensures)))))
 
 returns-4 : tie.Need-returns-4
 returns-4 c =
-    let x = c .before in
+    let x = c .before .before in
     let k = x .before .before .before .before in
     let l = k .before .before .before .before in
     let i = l .before .before in
     let a = i .before .before .before .before .args in
-    says-unread (a .text .now) (a .area .now) (i .before .if1 .left) (i .if2 .left) _ _
-    (rw (x .x .given .1) at (k .read-text .ensures (drop size (a .area .now)) (cleared-empty (a .area .now) _ (l .clear .ensures))))
+    rw (c .refused3 .ensures) (says-unread (a .text .now) (a .area .now) (i .before .if1 .left) (i .if2 .left) _ _
+    (rw (x .x .given .1) at (k .read-text .ensures (drop size (a .area .now)) (cleared-empty (a .area .now) _ (l .clear .ensures)))))
 
 returns-5 : tie.Need-returns-5
 returns-5 c =
-    let x = c .before .before .before .before .before in
+    let e = c .before .before .before in
+    let x = e .before .before .before in
     let k = x .before .before .before .before in
     let l = k .before .before .before .before in
     let i = l .before .before in
     let a = i .before .before .before .before .args in
-    says-stopped (a .text .now) (a .area .now) (i .before .if1 .left) (i .if2 .left) _ _ _
-    (rw (x .x2 .given .1) at (k .read-text .ensures (drop size (a .area .now)) (cleared-empty (a .area .now) _ (l .clear .ensures)))) (c .before .before .clear2 .ensures)
+    rw (c .refused4 .ensures) (says-stopped (a .text .now) (a .area .now) (i .before .if1 .left) (i .if2 .left) _ _ _
+    (rw (x .x2 .given .1) at (k .read-text .ensures (drop size (a .area .now)) (cleared-empty (a .area .now) _ (l .clear .ensures)))) (e .clear2 .ensures))
 
 pub read-spec : {M : Type 1} → statement M
 read-spec =
     tie.close
     (tie.spec
     (λ c κs. search needs)
+    (λ c κs. search needs)
     returns
+    (λ c κs. search needs)
     (λ c κs. search needs)
     returns-2
     (λ c κs. search needs)
@@ -59,7 +64,9 @@ read-spec =
     (λ c. search needs)
     (λ c κs. search needs)
     (λ c. search needs)
+    (λ c κs. search needs)
     (λ c. search needs)
+    (λ c κs. search needs)
     (λ c κs. search needs)
     (λ c. search needs)
     returns-3

@@ -1,9 +1,9 @@
 -- `sdp_read::read_lines` meets its contract: a walk by hand, with a loop and a match. At each turn the cutter and the area that were lent are lent again to `one_line`, for lifetimes of the call; the cutter comes back moved on.
 -- All that it knows of `one_line` is that it meets its contract. Assumes nothing.
 use mathlib.Core.Path.{_≡_, refl, sym, ap, subst, _∙_}
-use mathlib.Core.Bool.{false}
-use Prim.Native.Nat.{ℕ, _-_, _<_, _≤_}
+use Prim.Native.Nat.{ℕ, _+_, _-_, _<_, _≤_}
 use native.Mathlib.Omega.{arith}
+use lib.Dec.{lit<}
 use mathlib.Core.WellFounded.{WellFounded, InvImage·wf}
 use mathlib.Core.List.{[], _∷_, List, _++_}
 use lib.ListN.{length}
@@ -23,7 +23,7 @@ use contract.Running.{givenOf, tables, tablesOf}
 use types.Kit.{Given, Item, Goal, Soaks, Sq, ‵, raw, _⊛_, ⋆, some, later, _$_, _∵_, !, qed, by, move, keep, drop, use1, use2, use3, split, join, pick, rewrite, fsplit, fjoin, feqL, suffices, frame, await, done}
 use types.Part.{agg, whole, sub, look-in}
 use types.Match.{vrt, look-tag, in-variant, by-variants}
-use types.Run.{look, init, store, forget, stop, hop, fld, from, load, addr, of-opd, false-lit, and-then, no-more, assigns, assigns-last, land, first, blocks, returns-within, again, loops, enter, alloc1, alloc0, params1, pass1, pass0, free1, free0}
+use types.Run.{look, init, store, forget, stop, hop, fld, from, load, addr, of-opd, lit, false-lit, and-then, no-more, assigns, assigns-last, land, first, blocks, returns-within, again, loops, enter, alloc1, alloc0, params1, pass1, pass0, free1, free0}
 use types.Tokens.{lft-new, lft-end}
 use sound.WpLaws.{fmOf, WpFn-mono}
 use denote.RattleType.{owns}
@@ -50,19 +50,18 @@ use Rattle.sdp_area.specs.Session.{empty}
 use Rattle.sdp_area.specs.Area.{encode, size}
 use Rattle.sdp_cutter.specs.Cutter.{moveAt, standing, due}
 use Rattle.sdp_cutter.specs.declared.Cutter.{Cutter}
-use Rattle.sdp_step.specs.Step.{fresh}
-use Rattle.sdp_step.specs.declared.Marks.{Marks}
-use Rattle.sdp_turn.specs.Turn.{Left, Turns, Passes}
-use Rattle.sdp_read.specs.From.{Reached, runAt, lineAt}
+use Rattle.sdp_turn.specs.Turn.{Few, linesIn, Turns, Passes}
+use Rattle.sdp_read.specs.From.{Reached, lineAt, beginAt, countsAt, Ends}
+use Rattle.sdp_turn.specs.declared.State.{State}
 use Rattle.sdp_turn.specs.declared.Ended.{Ended}
 use Rattle.sdp_turn.specs.declared.Turn.{Turn}
 use Rattle.sdp_turn.specs.declared.Turn.the-variants.{Goes, Over}
 use Rattle.sdp_read.proofs.AgainLaws.{SliceLent, lends-slice-again, slice-comes-back}
 use Rattle.sdp_read.proofs.CutLaws.{Further, goes-further}
-use Rattle.sdp_read.proofs.LoopLaws.{Going, going-begin, going-on, going-over}
+use Rattle.sdp_read.proofs.LoopLaws.{Going, none, going-begin, going-on, going-over}
 use Rattle.sdp_cutter.proofs.Cutter as T
-use Rattle.sdp_step.proofs.Marks as K
-use Rattle.sdp_step.proofs.Marks.Laws as K′
+use Rattle.sdp_turn.proofs.State as K
+use Rattle.sdp_turn.proofs.State.Laws as K′
 use Rattle.sdp_turn.proofs.Turn as R
 use Rattle.sdp_turn.proofs.Turn.Laws as R′
 use Rattle.sdp_turn.proofs.Ended as E
@@ -83,33 +82,40 @@ stayed = (stay-ref (0 ∷ []) tt (plain (λ _. T.the-row)), (stay-none-slice (1 
 abbrev OneLine : {M : Type 1} (𝓤 : URA M) (H : Heap 𝓤) (A : Atoms 𝓤) (mem : Memory → SProp 𝓤) (run : Routine → Fun 𝓤) → Contract 𝓤
 OneLine 𝓤 H A mem run = tripleOf 𝓤 H A callee.signature (callee.spec 𝓤 H A mem run)
 
--- before a line: the cutter, the marks and the area of a text s, which began with the cutter h and the area ys
+-- before a line: the cutter, the state and the area of a text s, which began with the cutter h and the area ys
 record Stand (s : List ℕ) (h : Cutter) (ys : List ℕ) : Type 0 where
   cutter : Cutter
-  marks : Marks
+  state : State
   area : List ℕ
-  marks-are : Is K.the-row marks (K′.lowered marks ∷ [])
+  state-is : Is K.the-row state (K′.lowered state ∷ [])
   same : length area ≡ length ys
   reached : Reached s (due cutter)
-  going : (r : List ℕ) → ys ≡ encode empty ++ r → Going s (due h) (due cutter) marks area r
+  few : linesIn state ≤ cutter .at .0
+  going : (r : List ℕ) → ys ≡ encode empty ++ r → Going s (due h) (due cutter) state area r
 
 -- what `one_line` says, where the cutter then stands at y and the area is zs
-abbrev Said : (s : List ℕ) → Cutter → Marks → List ℕ → Turn → Cutter → List ℕ → Type 0
-Said s z m xs r y zs = (Turns (λ ρ. lineAt s ρ (due z)) m r xs zs × Passes (moveAt s (z .at) (z .line) .next) r) × (y ≡ standing (moveAt s (z .at) (z .line)))
+abbrev Said : (s : List ℕ) → Cutter → State → List ℕ → Turn → Cutter → List ℕ → Type 0
+Said s z m xs r y zs = (Turns (λ x. lineAt s x (due z)) m r xs zs × Passes (moveAt s (z .at) (z .line) .next) m r) × (y ≡ standing (moveAt s (z .at) (z .line)))
 
 module _ (s : List ℕ) (h : Cutter) (ys : List ℕ) (short : length s ≤ longestText) (t : Stand s h ys) where
   -- a line after which the run goes on
-  module _ (n : Marks) (n-is : Is K.the-row n (K′.lowered n ∷ [])) (y : Cutter) (zs : List ℕ) (l : length zs ≡ length (t .area)) (e : Said s (t .cutter) (t .marks) (t .area) (Goes n) y zs) where
+  module _ (n : State) (n-is : Is K.the-row n (K′.lowered n ∷ [])) (y : Cutter) (zs : List ℕ) (l : length zs ≡ length (t .area)) (e : Said s (t .cutter) (t .state) (t .area) (Goes n) y zs) where
+    passes : Further s (due (t .cutter)) (due y) × (linesIn n ≡ linesIn (t .state) + 1)
+    passes = subst (λ (u : Cutter). Further s (due (t .cutter)) (due u) × (linesIn n ≡ linesIn (t .state) + 1)) (sym (e .1)) (goes-further s (due (t .cutter)) (t .state) n (e .0 .1))
+
     further : Further s (due (t .cutter)) (due y)
-    further = subst (λ (u : Cutter). Further s (due (t .cutter)) (due u)) (sym (e .1)) (goes-further s (due (t .cutter)) n (e .0 .1))
+    further = passes .0
+
+    still-few : linesIn n ≤ y .at .0
+    still-few = omega (arith, further .forward, passes .1, t .few)
 
     goes-on : (r : List ℕ) → ys ≡ encode empty ++ r → Going s (due h) (due y) n zs r
     goes-on r k =
         let g = t .going r k in
-        subst (λ (u : Cutter). Going s (due h) (due u) n zs r) (sym (e .1)) (going-on s short (due h) (due (t .cutter)) (t .marks) (t .reached) (t .area) zs r g n (e .0 .0 (g .so-far) r (g .holds)))
+        subst (λ (u : Cutter). Going s (due h) (due u) n zs r) (sym (e .1)) (going-on s short (due h) (due (t .cutter)) (t .state) (t .reached) (t .area) zs r g n (e .0 .0 (g .so-far) r (g .stands)))
 
     abbrev passed : Stand s h ys
-    passed = record { cutter = y; marks = n; area = zs; marks-are = n-is; same = l ∙ t .same; reached = further .reached (t .reached); going = goes-on }
+    passed = record { cutter = y; state = n; area = zs; state-is = n-is; same = l ∙ t .same; reached = further .reached (t .reached); few = still-few; going = goes-on }
 
     nearer : length s - y .at .0 < length s - t .cutter .at .0
     nearer =
@@ -118,17 +124,17 @@ module _ (s : List ℕ) (h : Cutter) (ys : List ℕ) (short : length s ≤ longe
         omega (arith, f, i)
 
   -- the last line
-  ended : (x : Ended) (y : Cutter) (zs : List ℕ) → Said s (t .cutter) (t .marks) (t .area) (Over x) y zs → (r : List ℕ) → ys ≡ encode empty ++ r → Left (runAt s fresh (due h)) x zs r
+  ended : (x : Ended) (y : Cutter) (zs : List ℕ) → Said s (t .cutter) (t .state) (t .area) (Over x) y zs → (r : List ℕ) → ys ≡ encode empty ++ r → Ends (beginAt s (due h)) (countsAt s (due h)) x zs r
   ended x y zs e r k =
       let g = t .going r k in
-      going-over s short (due h) (due (t .cutter)) (t .marks) (t .reached) (t .area) zs r g x (e .0 .0 (g .so-far) r (g .holds))
+      going-over s short (due h) (due (t .cutter)) (t .state) (t .reached) (t .area) zs r g x (e .0 .0 (g .so-far) r (g .stands))
 
 -- the machine values of what was answered
 module _ (r : Turn) (w : Val) (is : Is R.the-row r (w ∷ [])) where
   is-w : w ≡ R′.lowered r
   is-w = ap only (R′.lowers .val-is r (w ∷ []) is)
 
-goes-is : (n : Marks) (w : Val) → Is R.the-row (Goes n) (w ∷ []) → Is K.the-row n (K′.lowered n ∷ [])
+goes-is : (n : State) (w : Val) → Is R.the-row (Goes n) (w ∷ []) → Is K.the-row n (K′.lowered n ∷ [])
 goes-is n w is =
     let k = EL.owed R.the-type R′.the-laws (Goes n) _ is .0 in
     subst (Is K.the-row n) (K′.lowers .val-is n _ k) k
@@ -138,12 +144,8 @@ over-is x w is =
     let k = EL.owed R.the-type R′.the-laws (Over x) _ is .0 in
     subst (Is E.the-row x) (E′.lowers .val-is x _ k) k
 
--- the marks before the first line
-abbrev none : Marks
-none = record { named = false; zoned = false }
-
 none-is : Is K.the-row none (K′.lowered none ∷ [])
-none-is = LL.owes K.the-type K′.the-laws none (refl, (refl, tt))
+none-is = LL.owes K.the-type K′.the-laws none (refl, (refl, (refl, ((refl, lit< tt), ((refl, lit< tt), ((refl, lit< tt), tt))))))
 
 module _ {M : Type 1} (𝓤 : URA M) (H : Heap 𝓤) (A : Atoms 𝓤) (W : Given 𝓤 H A) (mem : Memory → SProp 𝓤) (run : Routine → Fun 𝓤) (κ κ′ κ″ : Lft) (q q′ q″ : Share) (b o : ℕ) (γ : GName) (h : Cutter) (s : RefT (List ℕ)) (b′ o′ : ℕ) (γ′ : GName) (ys : List ℕ) where
   -- the cutter and the area as they were lent, or at other values or under other names
@@ -179,16 +181,16 @@ module _ {M : Type 1} (𝓤 : URA M) (H : Heap 𝓤) (A : Atoms 𝓤) (W : Given
   Area λ′ δ zs = MutSlice (named 2) λ′ u8 .own (bytes δ zs) (u ∷ [])
 
   -- the call of `one_line`, for the lifetimes ν and ν′, with the cutter at z under the name δ and the area at zs under the name δ′
-  abbrev args : GName → GName → Cutter → Marks → List ℕ → RefT Cutter × (RefT (List ℕ) × (RefT (List ℕ) × (Marks × Unit {0})))
+  abbrev args : GName → GName → Cutter → State → List ℕ → RefT Cutter × (RefT (List ℕ) × (RefT (List ℕ) × (State × Unit {0})))
   args δ δ′ z m zs = (at δ z, (s, (bytes δ′ zs, (m, tt))))
 
-  abbrev to-callee : ℕ → ℕ → GName → GName → Cutter → Marks → List ℕ → OneLine 𝓤 H A mem run .Ghost
+  abbrev to-callee : ℕ → ℕ → GName → GName → Cutter → State → List ℕ → OneLine 𝓤 H A mem run .Ghost
   to-callee ν ν′ δ δ′ z m zs = (((ν ∷ [], (κ′, (ν′ ∷ [], tt))), (fullShare, (q′, (fullShare, tt))), tt, args δ δ′ z m zs, (vptr b o ∷ [], (v ∷ [], (u ∷ [], (K′.lowered m ∷ [], tt))))), tt)
 
   abbrev Tokens : ℕ → ℕ → Item 𝓤
   Tokens ν ν′ = ‵ (flft (ν ∷ []) fullShare) ⊛ ‵ (flft κ′ q′) ⊛ ‵ (flft (ν′ ∷ []) fullShare) ⊛ ‵ ftrue
 
-  goes : (ν ν′ : ℕ) (δ δ′ : GName) (z : Cutter) (m : Marks) (zs : List ℕ) → Is K.the-row m (K′.lowered m ∷ []) → (size ≤ length zs) × (length (now s) ≤ longestText)
+  goes : (ν ν′ : ℕ) (δ δ′ : GName) (z : Cutter) (m : State) (zs : List ℕ) → Is K.the-row m (K′.lowered m ∷ []) → (size ≤ length zs) × ((length (now s) ≤ longestText) × Few m)
       → ent 𝓤 (⋆ 𝓤 H A ((Tokens ν ν′ ⊛ ‵ (Cut (ν ∷ []) δ z)) ∷ ‵ Own ∷ ‵ (Area (ν′ ∷ []) δ′ zs) ∷ [])) (OneLine 𝓤 H A mem run .pre (to-callee ν ν′ δ δ′ z m zs))
   goes ν ν′ δ δ′ z m zs m-is asked =
       qed W ((Tokens ν ν′ ⊛ ‵ (Cut (ν ∷ []) δ z)) ∷ ‵ Own ∷ ‵ (Area (ν′ ∷ []) δ′ zs) ∷ []) ∵ says ! asked $ split ! $ frame ! $
@@ -196,12 +198,12 @@ module _ {M : Type 1} (𝓤 : URA M) (H : Heap 𝓤) (A : Atoms 𝓤) (W : Given
 
   -- after the call: the lifetimes are ended, and the cutter and the area come back at their last values
   came : {G : Goal 𝓤 H} {Γ : List (Item 𝓤)} → Soaks G → Room u8 (length ys) → (ν ν′ : ℕ) (δ δ′ : GName) (t : Stand (now s) h ys) (r : Turn) (w : Val)
-      → ((y : Cutter) (zs : List ℕ) → Said (now s) (t .cutter) (t .marks) (t .area) r y zs → length zs ≡ length (t .area) → Is R.the-row r (w ∷ []) → Sq W (‵ (Cut κ γ y) ∷ ‵ (flft κ q) ∷ ‵ (flft κ′ q′) ∷ ‵ (Area κ″ γ′ zs) ∷ ‵ (flft κ″ q″) ∷ Γ) G)
-      → Sq W (((Tokens ν ν′ ⊛ ‵ (R.the-row .own r (w ∷ []))) ⊛ raw (ensured 𝓤 H A callee.ended (callee.clauses 𝓤 H A mem run) (ν ∷ [], (κ′, (ν′ ∷ [], tt))) (args δ δ′ (t .cutter) (t .marks) (t .area)) tt r))
+      → ((y : Cutter) (zs : List ℕ) → Said (now s) (t .cutter) (t .state) (t .area) r y zs → length zs ≡ length (t .area) → Is R.the-row r (w ∷ []) → Sq W (‵ (Cut κ γ y) ∷ ‵ (flft κ q) ∷ ‵ (flft κ′ q′) ∷ ‵ (Area κ″ γ′ zs) ∷ ‵ (flft κ″ q″) ∷ Γ) G)
+      → Sq W (((Tokens ν ν′ ⊛ ‵ (R.the-row .own r (w ∷ []))) ⊛ raw (ensured 𝓤 H A callee.ended (callee.clauses 𝓤 H A mem run) (ν ∷ [], (κ′, (ν′ ∷ [], tt))) (args δ δ′ (t .cutter) (t .state) (t .area)) tt r))
       ∷ ‵ (LentAgain T.the-row κ (ν ∷ []) q γ b o δ (t .cutter)) ∷ ‵ (SliceLent u8 κ″ (ν′ ∷ []) q″ γ′ b′ o′ δ′ (t .area)) ∷ Γ) G
   came soaks room ν ν′ δ δ′ t r w k =
-      split ! $ move ! (1 ∷ []) $ use1 W (some (λ (zs : Cutter × (Unit {0} × (List ℕ × (Unit {0} × Unit {0})))). ‵ (lasts callee.ended (ν ∷ [], (κ′, (ν′ ∷ [], tt))) (args δ δ′ (t .cutter) (t .marks) (t .area)) zs) ⊛ raw (fact 𝓤 (Said (now s) (t .cutter) (t .marks) (t .area) r (zs .0) (zs .1 .1 .0))))) (id⊢ 𝓤 _) $ pick ! (λ zs.
-      split ! $ move ! (1 ∷ []) $ heard ! (Said (now s) (t .cutter) (t .marks) (t .area) r (zs .0) (zs .1 .1 .0)) (λ e. fsplit ! $ move ! (1 ∷ []) $ fsplit ! $ drop ! $ fsplit ! $ fsplit ! $ move ! (1 ∷ []) $ feqL ! (λ l. move ! (1 ∷ []) $ drop ! $
+      split ! $ move ! (1 ∷ []) $ use1 W (some (λ (zs : Cutter × (Unit {0} × (List ℕ × (Unit {0} × Unit {0})))). ‵ (lasts callee.ended (ν ∷ [], (κ′, (ν′ ∷ [], tt))) (args δ δ′ (t .cutter) (t .state) (t .area)) zs) ⊛ raw (fact 𝓤 (Said (now s) (t .cutter) (t .state) (t .area) r (zs .0) (zs .1 .1 .0))))) (id⊢ 𝓤 _) $ pick ! (λ zs.
+      split ! $ move ! (1 ∷ []) $ heard ! (Said (now s) (t .cutter) (t .state) (t .area) r (zs .0) (zs .1 .1 .0)) (λ e. fsplit ! $ move ! (1 ∷ []) $ fsplit ! $ drop ! $ fsplit ! $ fsplit ! $ move ! (1 ∷ []) $ feqL ! (λ l. move ! (1 ∷ []) $ drop ! $
       -- [the last list; the last cutter; the tokens and the answer's; what is kept of the cutter; what is kept of the area; …]
       move ! (2 ∷ []) $ split ! $ move ! (1 ∷ []) $ peeks ! R.the-row (Is R.the-row) (shows 𝓤 H A R.the-row) r (w ∷ []) (λ is. drop ! $
       split ! $ lft-end ! soaks $ move ! (0 ∷ 4 ∷ 3 ∷ []) $ use3 W (later (‵ (Cut κ γ (zs .0)) ⊛ ‵ (flft κ q))) (comes-back 𝓤 H A W T.the-row (named 0) κ (ν ∷ []) q γ b o δ (t .cutter) (zs .0)) $ await ! soaks $ split ! $
@@ -211,7 +213,7 @@ module _ {M : Type 1} (𝓤 : URA M) (H : Heap 𝓤) (A : Atoms 𝓤) (W : Given
       -- [the area's; its token; true; text's token; the cutter's; its token; …]
       move ! (2 ∷ []) $ drop ! $ move ! (3 ∷ 4 ∷ 2 ∷ 0 ∷ 1 ∷ []) $ k (zs .0) (zs .1 .1 .0) e l is))))
 
-  exits : (x : Ended) (z : Cutter) (zs : List ℕ) → ((r : List ℕ) → ys ≡ encode empty ++ r → Left (runAt (now s) fresh (due h)) x zs r) → length zs ≡ length ys → Is E.the-row x (E′.lowered x ∷ [])
+  exits : (x : Ended) (z : Cutter) (zs : List ℕ) → ((r : List ℕ) → ys ≡ encode empty ++ r → Ends (beginAt (now s) (due h)) (countsAt (now s) (due h)) x zs r) → length zs ≡ length ys → Is E.the-row x (E′.lowered x ∷ [])
       → ent 𝓤 (⋆ 𝓤 H A ((‵ (flft κ q) ⊛ ‵ (flft κ′ q′) ⊛ ‵ (flft κ″ q″) ⊛ ‵ ftrue) ∷ ‵ (Cut κ γ z) ∷ ‵ (Area κ″ γ′ zs) ∷ ‵ Own ∷ [])) (Post (E′.lowered x))
   exits x z zs e l is =
       qed W ((‵ (flft κ q) ⊛ ‵ (flft κ′ q′) ⊛ ‵ (flft κ″ q″) ⊛ ‵ ftrue) ∷ ‵ (Cut κ γ z) ∷ ‵ (Area κ″ γ′ zs) ∷ ‵ Own ∷ []) ∵
@@ -240,7 +242,7 @@ module _ {M : Type 1} (𝓤 : URA M) (H : Heap 𝓤) (A : Atoms 𝓤) (W : Given
   Before l₀ l₁ l₂ l₃ l₄ l₅ l₆ l₇ l₈ l₉ l₁₀ t =
       ‵ (Cut κ γ (t .cutter)) ∷ ‵ (flft κ q) ∷ ‵ (flft κ′ q′) ∷ ‵ (Area κ″ γ′ (t .area)) ∷ ‵ (flft κ″ q″) ∷ ‵ Own
       ∷ ‵ (froom (Bytes erased) l₁₀ 0) ∷ ‵ (fdies (Bytes erased) l₁₀) ∷ ‵ (froom (tyRef erased mut (tyInt w8)) l₉ 0) ∷ ‵ (fdies (tyRef erased mut (tyInt w8)) l₉) ∷ ‵ (froom (Ref erased) l₈ 0) ∷ ‵ (fdies (Ref erased) l₈)
-      ∷ ‵ (froom R′.mir l₇ 0) ∷ ‵ (fdies R′.mir l₇) ∷ ‵ (froom E′.mir l₆ 0) ∷ ‵ (fdies E′.mir l₆) ∷ ‵ (froom K′.mir l₅ 0) ∷ ‵ (fdies K′.mir l₅) ∷ ‵ (fat fullShare K′.mir l₄ 0 (K′.lowered (t .marks))) ∷ ‵ (fdies K′.mir l₄)
+      ∷ ‵ (froom R′.mir l₇ 0) ∷ ‵ (fdies R′.mir l₇) ∷ ‵ (froom E′.mir l₆ 0) ∷ ‵ (fdies E′.mir l₆) ∷ ‵ (froom K′.mir l₅ 0) ∷ ‵ (fdies K′.mir l₅) ∷ ‵ (fat fullShare K′.mir l₄ 0 (K′.lowered (t .state))) ∷ ‵ (fdies K′.mir l₄)
       ∷ ‵ (fat fullShare (Bytes (named 2)) l₃ 0 u) ∷ ‵ (fdies (Bytes (named 2)) l₃) ∷ ‵ (fat fullShare Text l₂ 0 v) ∷ ‵ (fdies Text l₂) ∷ ‵ (fat fullShare (Ref (named 0)) l₁ 0 (vptr b o)) ∷ ‵ (fdies (Ref (named 0)) l₁)
       ∷ ‵ (froom E′.mir l₀ 0) ∷ ‵ (fdies E′.mir l₀) ∷ []
 
@@ -253,7 +255,7 @@ module _ {M : Type 1} (𝓤 : URA M) (H : Heap 𝓤) (A : Atoms 𝓤) (W : Given
         alloc1 ! (λ l₀. alloc1 ! (λ l₁. alloc1 ! (λ l₂. alloc1 ! (λ l₃. alloc1 ! (λ l₄. alloc1 ! (λ l₅. alloc1 ! (λ l₆. alloc1 ! (λ l₇. alloc1 ! (λ l₈. alloc1 ! (λ l₉. alloc1 ! (λ l₁₀. alloc0 ! $ params1 ! $
         pass1 ! (init ! 18 refl (tt, tt)) $ pass1 ! (init ! 16 refl (shr-slice-lawful 𝓤 H A W (named 1) κ′ u8 .typed s (v ∷ []) s-is .0)) $ pass1 ! (init ! 14 refl (tt, (tt, (record { fits = room .0 }, tt)))) $ pass0 ! $
         -- [_10; …; _9; …; _8; …; _7; …; _6; …; _5; …; _4; …; _3; …; _2; …; _1; …; room for _0; …; the tokens; the parameters']
-        assigns ! (agg ! (and-then ! (false-lit !) (and-then ! (false-lit !) (no-more !)))) (from ! (stop !)) (init ! 12 refl (LL.lawful K.the-type K′.the-laws 𝓤 H A W .typed none _ none-is .0)) $
+        assigns ! (agg ! (and-then ! (false-lit !) (and-then ! (false-lit !) (and-then ! (false-lit !) (and-then ! (lit ! tt) (and-then ! (lit ! tt) (and-then ! (lit ! tt) (no-more !)))))))) (from ! (stop !)) (init ! 12 refl (LL.lawful K.the-type K′.the-laws 𝓤 H A W .typed none _ none-is .0)) $
         move ! (22 ∷ 23 ∷ []) $ split ! $ move ! (1 ∷ []) $ split ! $ move ! (1 ∷ []) $ split ! $ move ! (4 ∷ []) $ fsplit ! $ move ! (1 ∷ []) $ fsplit ! $ move ! (1 ∷ []) $ fsplit ! $
         -- [the area's; true; text's; the cutter's; the area's token; true; text's token; the cutter's token; _10; …]
         keep ! (3 ∷ 7 ∷ 6 ∷ 0 ∷ 4 ∷ 2 ∷ 8 ∷ 9 ∷ 10 ∷ 11 ∷ 12 ∷ 13 ∷ 14 ∷ 15 ∷ 16 ∷ 17 ∷ 18 ∷ 19 ∷ 20 ∷ 21 ∷ 22 ∷ 23 ∷ 24 ∷ 25 ∷ 26 ∷ 27 ∷ 28 ∷ 29 ∷ []) $
@@ -271,11 +273,11 @@ module _ {M : Type 1} (𝓤 : URA M) (H : Heap 𝓤) (A : Atoms 𝓤) (W : Given
         move ! (7 ∷ []) $ use1 W (‵ Own ⊛ ‵ Own) (shr-slice-copy 𝓤 H A W (named 1) κ′ u8 .twice s (v ∷ [])) $ split ! $
         nothing ! $ move ! (5 ∷ 0 ∷ []) $ join ! $ move ! (8 ∷ 0 ∷ []) $ join ! $ move ! (7 ∷ 0 ∷ []) $ join ! $
         -- [the tokens; text's; text's; the area lent again; what is kept of it; the cutter lent again; what is kept of it; _10; …]
-        move ! (0 ∷ 5 ∷ 1 ∷ 3 ∷ []) $ join ! $ use3 W (raw (OneLine 𝓤 H A mem run .pre (to-callee ν ν′ δ δ′ (t .cutter) (t .marks) (t .area)))) (goes ν ν′ δ δ′ (t .cutter) (t .marks) (t .area) (t .marks-are) (subst (λ (n : ℕ). size ≤ n) (sym (t .same)) (asked .0), asked .1 .0)) $
+        move ! (0 ∷ 5 ∷ 1 ∷ 3 ∷ []) $ join ! $ use3 W (raw (OneLine 𝓤 H A mem run .pre (to-callee ν ν′ δ δ′ (t .cutter) (t .state) (t .area)))) (goes ν ν′ δ δ′ (t .cutter) (t .state) (t .area) (t .state-is) (subst (λ (n : ℕ). size ≤ n) (sym (t .same)) (asked .0), (asked .1 .0, omega (arith, t .few, t .reached .inside, asked .1 .0)))) $
         -- [what `one_line` asks; text's; what is kept of the area; what is kept of the cutter; _10; …; _9; …; _8; …; _7; …; _6; …; _5; …; _4; …; _3; …; _2; …; _1; …; room for _0; …]
-        calls-at ! (fmOf 𝓤 H (W .laws) 𝓣) (OneLine 𝓤 H A mem run) known (to-callee ν ν′ δ δ′ (t .cutter) (t .marks) (t .area))
+        calls-at ! (fmOf 𝓤 H (W .laws) 𝓣) (OneLine 𝓤 H A mem run) known (to-callee ν ν′ δ δ′ (t .cutter) (t .state) (t .area))
         (and-then ! (load ! (from ! (stop !)) (look ! 8 refl)) (and-then ! (load ! (from ! (stop !)) (look ! 20 refl)) (and-then ! (load ! (from ! (stop !)) (look ! 4 refl)) (and-then ! (load ! (from ! (stop !)) (look ! 16 refl)) (no-more !))))) (λ w.
-        use1 W (later (some (λ (r : Turn). (Tokens ν ν′ ⊛ ‵ (R.the-row .own r (w ∷ []))) ⊛ raw (ensured 𝓤 H A callee.ended (callee.clauses 𝓤 H A mem run) (ν ∷ [], (κ′, (ν′ ∷ [], tt))) (args δ δ′ (t .cutter) (t .marks) (t .area)) tt r)))) (id⊢ 𝓤 _) $ await ! tt $
+        use1 W (later (some (λ (r : Turn). (Tokens ν ν′ ⊛ ‵ (R.the-row .own r (w ∷ []))) ⊛ raw (ensured 𝓤 H A callee.ended (callee.clauses 𝓤 H A mem run) (ν ∷ [], (κ′, (ν′ ∷ [], tt))) (args δ δ′ (t .cutter) (t .state) (t .area)) tt r)))) (id⊢ 𝓤 _) $ await ! tt $
         move ! (0 ∷ 3 ∷ 2 ∷ []) $ pick ! (λ r. elim r [
           | Goes n ↦ came tt room ν ν′ δ δ′ t (Goes n) w (λ y zs e l is.
               -- the same as at the turn's start, but for the cutter's and the area's values and the locals _10, _9 and _8
@@ -301,7 +303,7 @@ module _ {M : Type 1} (𝓤 : URA M) (H : Heap 𝓤) (A : Atoms 𝓤) (W : Given
                   tt,
                 ),
               ))
-        ]))))))) (record { cutter = h; marks = none; area = ys; marks-are = none-is; same = refl; reached = asked .1 .1; going = λ r k. going-begin (now s) (due h) ys r k }))))))))))))
+        ]))))))) (record { cutter = h; state = none; area = ys; state-is = none-is; same = refl; reached = asked .1 .1; few = omega arith; going = λ r k. going-begin (now s) (due h) ys r k }))))))))))))
 
 module _ {M : Type 1} (𝓤 : URA M) (H : Heap 𝓤) (A : Atoms 𝓤) (W : Given 𝓤 H A) (mem : Memory → SProp 𝓤) (run : Routine → Fun 𝓤) (𝓣 : Tables 𝓤 H) where
   read-lines-walks : Triple 𝓤 (𝓣 .C #one-line) (OneLine 𝓤 H A mem run) → Walks 𝓤 H A self.ended stayed (WpFn 𝓤 H (𝓣 .C) (𝓣 .Λ) code.function) (self.clauses 𝓤 H A mem run)

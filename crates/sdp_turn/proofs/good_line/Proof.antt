@@ -1,9 +1,8 @@
 -- `sdp_turn::good_line` meets its contract. Assumes nothing.
-use Rattle.sdp_step.specs.Step.{step}
 use Rattle.sdp_strings.specs.Strings.{spanAt}
 use Rattle.sdp_lines.specs.Strings.{bytesOf}
 use Rattle.sdp_turn.proofs.PartLaws.{part-is, part-fits, byte-fits}
-use Rattle.sdp_turn.proofs.TurnLaws.{turns-kept, turns-refused}
+use Rattle.sdp_turn.proofs.TurnLaws.{good-kept, good-idle, good-refused}
 use Rattle.sdp_blame.proofs.StepLaws.{step-blames, blamed-inside}
 use borrow.Author.Needs.{needs}
 use Rattle.sdp_turn.proofs.good_line.Statement.{statement}
@@ -11,40 +10,60 @@ use Rattle.sdp_turn.proofs.good_line.Tie as tie
 
 take-requires : tie.Need-take-requires
 take-requires c κs =
-    let b = c .before .before .before .before .before .before in
-    (search needs, part-fits (b .args .text .now) (b .args .value) (b .pre .1 .0) (b .pre .1 .1))
+    let b = c .before .before .before .before .before .before .before in
+    (search needs, part-fits (b .args .text .now) (b .args .value) (b .pre .1 .0) (b .pre .1 .1 .1))
 
 returns : tie.Need-returns
 returns c =
-    let k = c .before .before .before .before .before in
-    let a = k .before .before .before .before .before .before .before .args in
-    let v = bytesOf (a .text .now) (a .value) in
-    turns-kept (λ ρ. step (spanAt (a .value .at .0) v) ρ v (a .letter)) (a .marks) (a .area .now) _ (a .number .0) (a .value .at .0) _
-    (rw (c .before .marks .given .1, part-is (a .text .now) (a .value)) at (k .take .ensures))
+    let x = c .before .before in
+    let k = x .before .before .before .before in
+    let m = k .before .before in
+    let a = m .before .before .before .before .before .before .args in
+    rw (c .one-kept .ensures)
+    (good-kept (a .text .now) (a .number .0) (a .letter) (a .value) (a .state) (a .area .now) _ _
+    (rw (x .marks .given .1, m .marks-of .ensures, part-is (a .text .now) (a .value)) at (k .take .ensures)))
 
 returns-2 : tie.Need-returns-2
 returns-2 c =
-    let k = c .before .before .before .before .before .before in
-    let b = k .before .before .before .before .before .before .before in
+    let x = c .before in
+    let k = x .before .before .before .before in
+    let m = k .before .before in
+    let a = m .before .before .before .before .before .before .args in
+    rw (c .one-ignored .ensures)
+    (good-idle (a .text .now) (a .number .0) (a .letter) (a .value) (a .state) (a .area .now) _
+    (rw (x .enum-told .given .1, m .marks-of .ensures, part-is (a .text .now) (a .value)) at (k .take .ensures)))
+
+returns-3 : tie.Need-returns-3
+returns-3 c =
+    let x = c .before .before in
+    let k = x .before .before .before .before in
+    let m = k .before .before in
+    let b = m .before .before .before .before .before .before in
     let a = b .args in
     let v = bytesOf (a .text .now) (a .value) in
-    turns-refused (λ ρ. step (spanAt (a .value .at .0) v) ρ v (a .letter)) (a .marks) (a .area .now) _ (a .number .0) (a .value .at .0) _ _
-    (λ ρ e. c .wrong-at .ensures (λ n. byte-fits (a .text .now) (a .value) _ (b .pre .1 .0) (b .pre .1 .1) (blamed-inside (a .letter) v _ (step-blames v (spanAt (a .value .at .0) v) ρ (a .letter) _ e) n)))
-    (rw (c .before .before .w .given .1, part-is (a .text .now) (a .value)) at (k .take .ensures))
+    good-refused (a .text .now) (a .number .0) (a .letter) (a .value) (a .state) (a .area .now) _ _ _
+    (λ ρ e. c .wrong-at .ensures (λ n. byte-fits (a .text .now) (a .value) _ (b .pre .1 .0) (b .pre .1 .1 .1) (blamed-inside (a .letter) v _ (step-blames v (spanAt (a .value .at .0) v) ρ (a .letter) _ e) n)))
+    (rw (x .w .given .1, m .marks-of .ensures, part-is (a .text .now) (a .value)) at (k .take .ensures))
 
 pub good-line-spec : {M : Type 1} → statement M
 good-line-spec =
     tie.close
     (tie.spec
     (λ c. search needs)
+    (λ c κs. search needs)
     (λ c. search needs)
     (λ c. search needs)
     (λ c. search needs)
     take-requires
     (λ c. search needs)
+    (λ c κs. search needs)
+    (λ c. search needs)
+    (λ c κs. search needs)
     (λ c. search needs)
     (λ c κs. search needs)
     (λ c. search needs)
     returns
     (λ c. search needs)
-    returns-2)
+    returns-2
+    (λ c. search needs)
+    returns-3)

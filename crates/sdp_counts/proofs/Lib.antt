@@ -1,0 +1,3 @@
+pub mod MediaLaws
+pub mod CountLaws
+pub mod CountSamples
