@@ -1,6 +1,7 @@
-/* Prints what a session description announces, when it starts in the week that begins with its first time, and then its
- * written form, as rust/sdp/examples/announce.rs does. The text comes from a file or from standard input. The exit status
- * is 0, or 1 for a text that is refused, or 2 where something can't be read or written. From the root of the repository:
+/* Prints what a session description announces, when it starts in the week that begins with its first time, how many of its
+ * lines were kept, ignored and empty, and then its written form, as rust/sdp/examples/announce.rs does. The text comes
+ * from a file or from standard input. The exit status is 0, or 1 for a text that is refused, or 2 where something can't be
+ * read or written. From the root of the repository:
  *
  *     rt staticlib sdp && cc -std=c11 -Ic -o target/example c/example.c target/staticlib/libsdp.a
  *     target/example FILE
@@ -63,7 +64,7 @@ static void print_starts(void) {
     }
 }
 
-static void print_session(void) {
+static void print_session(struct sdp_counts counts) {
     printf("name: ");
     put_string(SDP_NAME);
     printf("\n");
@@ -103,6 +104,8 @@ static void print_session(void) {
             printf("\n");
         }
     }
+    /* how much of the text was passed over */
+    printf("lines: %" PRIu64 " kept, %" PRIu64 " ignored, %" PRIu64 " empty\n", counts.kept, counts.ignored, counts.empty);
 }
 
 static int failed(const char *what) {
@@ -125,12 +128,12 @@ int main(int argc, char **argv) {
     text_len = fread(text, 1, sizeof text, in);
     if (ferror(in)) return failed(name);
 
-    struct sdp_answer answer = sdp_read(text, text_len, area, sizeof area);
-    if (answer.number != SDP_DONE) return refused(answer);
-    print_session();
+    struct sdp_told told = sdp_read(text, text_len, area, sizeof area);
+    if (told.answer.number != SDP_DONE) return refused(told.answer);
+    print_session(told.counts);
 
     /* the length, then memory of just that size, then the text */
-    answer = sdp_length(text, text_len, area, sizeof area);
+    struct sdp_answer answer = sdp_length(text, text_len, area, sizeof area);
     if (answer.number != SDP_DONE) return refused(answer);
     uint8_t *out = malloc(answer.len);
     if (out == NULL) return failed("the written form");

@@ -7,10 +7,11 @@
  * In short:
  *
  *     static uint8_t area[SDP_AREA_SIZE];
- *     struct sdp_answer answer = sdp_read(text, text_len, area, sizeof area);
- *     if (answer.number != 0) ...                        // refused: sdp_words.h makes a sentence of the answer
+ *     struct sdp_told told = sdp_read(text, text_len, area, sizeof area);
+ *     if (told.answer.number != 0) ...                   // refused: sdp_words.h makes a sentence of the answer
  *     ...                                                // the area holds the session: see "The area" below
- *     answer = sdp_length(text, text_len, area, sizeof area);
+ *     ... told.counts.ignored ...                        // so many lines had no use
+ *     struct sdp_answer answer = sdp_length(text, text_len, area, sizeof area);
  *     uint8_t *out = malloc(answer.len);                 // or lend SDP_ROOM bytes, and don't ask for the length
  *     answer = sdp_fill(text, text_len, area, sizeof area, out, answer.len);
  *     if (answer.number == 0) ...                        // the first answer.len bytes of out are the written text
@@ -74,7 +75,7 @@ enum sdp_refusal {
     SDP_TOO_MANY_STARTS = 29       /* more than SDP_MOST_STARTS in the window */
 };
 
-/* What sdp_read, sdp_length and sdp_fill say. What a number doesn't give is 0. */
+/* What sdp_length and sdp_fill say, and sdp_read with the counts of lines below. What a number doesn't give is 0. */
 struct sdp_answer {
     uint64_t number; /* enum sdp_refusal */
     uint64_t line;   /* from 1 */
@@ -82,6 +83,20 @@ struct sdp_answer {
     uint64_t place;  /* from 0 in the text. For 7 where the value starts; for 8 where the first byte stands that is no
                         part of the field's longest well-formed beginning, and of a cut-off character its first */
     uint64_t len;    /* on success of sdp_length and sdp_fill the length of the written text */
+};
+
+/* How many lines of a text are empty, ignored and kept: together all its lines, which are its LFs, and one more where the
+ * last line has none. After a refusal all three are 0. */
+struct sdp_counts {
+    uint64_t empty;   /* nothing before the line's ending */
+    uint64_t ignored; /* no use where they stand: a later v line, k lines, letters unknown or with a use elsewhere only */
+    uint64_t kept;    /* the version line and all with a use, a z line without pairs too */
+};
+
+/* What sdp_read returns. */
+struct sdp_told {
+    struct sdp_answer answer;
+    struct sdp_counts counts;
 };
 
 /* A number that was read: number is 0 and value has it; or number is 8 or 9 as above, and value is 0. */
@@ -120,8 +135,9 @@ struct sdp_starts {
 /* Reads a text into the area, which may hold anything before, and may be longer than SDP_AREA_SIZE. On 0 its first
  * SDP_AREA_SIZE bytes hold the session. After 1 and 2 the area is unchanged, after 3 to 21 these bytes are zero. The
  * strings of the session are places in the text: keep the text, unchanged, as long as you use the area. Lines whose letter
- * has no use are ignored, whatever follows the =; k lines too, which RFC 8866 calls obsolete: they leave no key. */
-struct sdp_answer sdp_read(const uint8_t *text, size_t text_len, uint8_t *area, size_t area_len);
+ * has no use are ignored, whatever follows the =; k lines too, which RFC 8866 calls obsolete: they leave no key. With 0 the
+ * counts say how many lines were passed over; they tell of the text, and are not in the area. */
+struct sdp_told sdp_read(const uint8_t *text, size_t text_len, uint8_t *area, size_t area_len);
 
 /* Writing takes two calls: sdp_length says how long the written text is, the caller finds memory, sdp_fill writes it there.
  * Who has SDP_ROOM bytes to lend needs only the second.

@@ -4,7 +4,8 @@
  *
  * That of sdp_starts has a number alone: struct sdp_answer refusal = {starts.number, 0, 0, 0, 0}.
  *
- * Of sdp_read, give the text too (sdp_sentence_in). Then 8 also says which byte of its line it is for:
+ * Of sdp_read, whose answer is in what it returns, give the text too (sdp_sentence_in). Then 8 also says which byte of its
+ * line it is for:
  *
  *     line 14: the session name is not UTF-8 from byte 512 on, the 9th byte of the line (refusal 8)
  *

@@ -1,5 +1,5 @@
 //! The two sides. Each reads a text, writes what it read, and does both, with what its caller has to pay for.
-use compare::{Answer, Starts};
+use compare::{Starts, Told};
 use sdp_types::Session;
 use std::hint::black_box;
 use std::ops::Range;
@@ -76,7 +76,7 @@ impl Default for Ours {
 }
 
 impl Ours {
-    pub fn answer(&mut self, text: &[u8]) -> Answer {
+    pub fn told(&mut self, text: &[u8]) -> Told {
         compare::read(text, &mut self.area)
     }
 
@@ -119,7 +119,7 @@ impl Side for Ours {
     }
 
     fn read(&mut self, text: &[u8]) -> bool {
-        self.answer(text).number == 0
+        self.told(text).answer.number == 0
     }
 
     fn keep(&mut self, text: &[u8]) -> bool {

@@ -55,7 +55,7 @@ fn the_worst_list_is_full() {
     assert_eq!(worst.parts, (256 + 63) * 65);
     let text = String::from_utf8(worst.text).unwrap();
     let number = |text: &str| {
-        let answer = compare::read(text.as_bytes(), &mut vec![0; compare::area_size()]);
+        let answer = compare::account::read(text.as_bytes(), &mut vec![0; compare::area_size()]);
         (answer.number, answer.field)
     };
     let repeat = text.lines().find(|line| line.starts_with("r=")).unwrap();

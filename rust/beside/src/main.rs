@@ -1,5 +1,5 @@
 //! `beside [FILE]`: a session description and its canonical form side by side.
-use beside::canonical;
+use beside::answer;
 use beside::page::page;
 use beside::program::{file, Program, REFUSED};
 use std::ffi::OsString;
@@ -14,11 +14,13 @@ Shows a session description and its canonical form side by side, line by line. W
 from standard input. The lines are numbered on both sides; between them stands a mark:
   =  the line is written as it stands
   ~  changed: numbers, times and spaces are written in one way
-  -  dropped: an empty line, or a letter that has no use there or no use any more
+  -  dropped: an empty line, a letter that has no use there or no use any more, or a z line without zones
   +  added: what every session has and this text doesn't
   >  moved from here, and written where < stands
   !  the line for which the text is refused; the refusal is below, in the words of docs/REFUSALS.md. Where a field is
      not UTF-8, ^^^^ below the line marks the byte from which on it isn't
+Below, the marks are counted, and then the lines of the text as the reader took them: kept (the first v line and all
+that have a use, a z line without zones too), ignored (no use) and empty. Of a refused text nothing is counted.
 The ends of lines are told above the columns, and not as changes. What can't be seen is shown as \\t, \\xff (a byte) or
 \\u{a0} (a character), a backslash as \\\\, a space at a line's end as \\x20. Long lines go on in the next row. No row is
 wider than 100 columns. There is colour only on a terminal, and none where NO_COLOR is set.
@@ -48,8 +50,8 @@ fn main() -> ExitCode {
         Ok(text) => text,
         Err(error) => return ME.fail(&format!("{name}: {error}")),
     };
-    let written = canonical(&text);
+    let answer = answer(&text);
     let colour = io::stdout().is_terminal() && std::env::var_os("NO_COLOR").map_or(true, |value| value.is_empty());
-    let status = if written.is_ok() { ExitCode::SUCCESS } else { ExitCode::from(REFUSED) };
-    ME.show(&page(&text, written.as_deref().map_err(|error| *error), colour), status)
+    let status = if answer.is_ok() { ExitCode::SUCCESS } else { ExitCode::from(REFUSED) };
+    ME.show(&page(&text, &answer, colour), status)
 }

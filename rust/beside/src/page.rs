@@ -2,7 +2,8 @@
 //! alone, with the refused line marked, and the byte where one is not UTF-8.
 use crate::align::{align, lines, Dropped, Row};
 use crate::cells::{cells, columns, mark_byte, mark_difference, pieces, Cell};
-use sdp::Error;
+use crate::Accepted;
+use sdp::{Counts, Error};
 
 /// No row is wider than this.
 pub const WIDTH: usize = 100;
@@ -147,12 +148,20 @@ impl Pen {
 }
 
 /// What becomes of a text, and the page that shows it.
-pub fn page(text: &[u8], answer: Result<&[u8], Error>, colour: bool) -> String {
+pub fn page(text: &[u8], answer: &Result<Accepted, Error>, colour: bool) -> String {
     let pen = Pen { out: String::new(), colour, spaces: 0 };
     match answer {
-        Ok(written) => both(pen, text, written),
-        Err(refusal) => refused(pen, text, refusal),
+        Ok(Accepted { written, counts }) => both(pen, text, written) + &told(counts),
+        Err(refusal) => refused(pen, text, *refusal),
     }
+}
+
+/// What the reader made of the text's lines. It begins with a word of its own, as no row and no refusal does.
+fn told(counts: &Counts) -> String {
+    let Counts { empty, ignored, kept } = counts;
+    let all = counts.lines();
+    let lines = if all == 1 { "line" } else { "lines" };
+    format!("text: {all} {lines}, {kept} kept, {ignored} ignored, {empty} empty\n")
 }
 
 fn both(mut pen: Pen, text: &[u8], written: &[u8]) -> String {

@@ -3,10 +3,10 @@
 mod c;
 #[path = "../../sdp/tests/page/mod.rs"]
 mod page;
-use beside::align::{align, lines, Row};
+use beside::align::{align, lines, Dropped, Row};
 use beside::cells::{cells, columns};
-use beside::page::{page, LONGEST, WIDTH};
-use beside::canonical;
+use beside::page::{page as page_of, LONGEST, WIDTH};
+use beside::{answer, Accepted};
 use generate::random::{count, from_env};
 use generate::sessions;
 use std::fs;
@@ -30,7 +30,7 @@ fn texts_in(name: &str) -> Vec<PathBuf> {
 
 struct Case {
     text: Vec<u8>,
-    written: Result<Vec<u8>, sdp::Error>,
+    answer: Result<Accepted, sdp::Error>,
     page: String,
 }
 
@@ -38,20 +38,21 @@ struct Case {
 fn cases() -> &'static [Case] {
     static CASES: OnceLock<Vec<Case>> = OnceLock::new();
     let case = |text: Vec<u8>| {
-        let written = canonical(&text);
-        let page = page_of(&text, &written, false);
-        Case { text, written, page }
+        let answer = answer(&text);
+        let page = page_of(&text, &answer, false);
+        Case { text, answer, page }
     };
     CASES.get_or_init(|| texts().into_iter().map(case).collect())
 }
 
-fn page_of(text: &[u8], written: &Result<Vec<u8>, sdp::Error>, colour: bool) -> String {
-    page(text, written.as_deref().map_err(|refusal| *refusal), colour)
+/// The canonical form alone.
+fn canonical(text: &[u8]) -> Result<Vec<u8>, sdp::Error> {
+    answer(text).map(|accepted| accepted.written)
 }
 
 /// The accepted texts, with their canonical forms and their pages.
 fn accepted() -> impl Iterator<Item = (&'static [u8], &'static [u8], &'static str)> {
-    cases().iter().filter_map(|case| Some((&case.text[..], case.written.as_deref().ok()?, case.page.as_str())))
+    cases().iter().filter_map(|case| Some((&case.text[..], &case.answer.as_ref().ok()?.written[..], case.page.as_str())))
 }
 
 fn generated() -> usize {
@@ -282,19 +283,58 @@ fn without_colour(page: &str) -> String {
 #[test]
 fn colour_changes_no_text() {
     let mut coloured = 0;
-    for Case { text, written, page } in cases() {
-        let colour = page_of(text, written, true);
+    for Case { text, answer, page } in cases() {
+        let colour = page_of(text, answer, true);
         assert_eq!(without_colour(&colour), *page);
         coloured += usize::from(colour != *page);
     }
     assert!(coloured > generated() / 2);
 }
 
+/// Below the marks the lines are counted: as the archive says, and as the rows show it. Of a refused text nothing is.
+#[test]
+fn the_lines_are_counted() {
+    let (mut pages, mut seen) = (0, [0; 3]);
+    for Case { text, answer, page } in cases() {
+        let Ok(Accepted { written, counts }) = answer else {
+            assert!(!page.contains("\ntext: "), "{page}");
+            continue;
+        };
+        // what the alignment makes of each line, by code of its own
+        let (mut empty, mut ignored, mut kept) = (0, 0, 0);
+        for row in align(&lines(text), &lines(written)) {
+            match row {
+                Row::Added { .. } | Row::MovedTo { .. } => {}
+                Row::Dropped { why: Dropped::Empty, .. } => empty += 1,
+                Row::Same { .. } | Row::Changed { .. } | Row::MovedFrom { .. } => kept += 1,
+                Row::Dropped { why: Dropped::Nothing, .. } => kept += 1,
+                Row::Dropped { .. } => ignored += 1,
+            }
+        }
+        assert_eq!((counts.empty, counts.ignored, counts.kept), (empty, ignored, kept), "{page}");
+        let all = lines(text).len();
+        let of = if all == 1 { "line" } else { "lines" };
+        let due = format!(" moved\ntext: {all} {of}, {kept} kept, {ignored} ignored, {empty} empty\n");
+        // it is the last row, and no other one begins so
+        assert!(page.ends_with(&due) && page.matches("\ntext: ").count() == 1, "{page}");
+        pages += 1;
+        for (seen, count) in seen.iter_mut().zip([empty, ignored, kept]) {
+            *seen += usize::from(count > 0);
+        }
+    }
+    println!("beside: lines counted on {pages} pages; {seen:?} of them have empty, ignored, kept ones");
+    assert!(seen[0] > generated() / 40 && seen[1] > generated() / 10 && seen[2] == pages);
+    let one = |text: &[u8]| page_of(text, &answer(text), false).lines().last().map(String::from);
+    assert_eq!(one(b"v=0").as_deref(), Some("text: 1 line, 1 kept, 0 ignored, 0 empty"));
+    assert_eq!(one(b"\nv=0").as_deref(), Some("text: 2 lines, 1 kept, 0 ignored, 1 empty"));
+    assert_eq!(one(b"v=0\nz=\nv=0\n").as_deref(), Some("text: 3 lines, 2 kept, 1 ignored, 0 empty"));
+}
+
 #[test]
 fn refusals_in_words() {
     let mut refused = 0;
-    for Case { written, page, .. } in cases() {
-        let Err(error) = written else { continue };
+    for Case { answer, page, .. } in cases() {
+        let Err(error) = answer else { continue };
         let line = error.line();
         let due = format!("\n\nrefused {} line {line} field {}\n", error.number(), error.field());
         let (rows, words) = page.split_once(&due).unwrap_or_else(|| panic!("{page}"));
@@ -313,10 +353,10 @@ fn refusals_in_words() {
 #[test]
 fn the_bad_byte_is_marked() {
     let (mut marked, mut folded) = (0, 0);
-    for Case { text, written, page } in cases() {
+    for Case { text, answer, page } in cases() {
         let carets = |row: &str| row.trim_start().starts_with("! ") && row.trim_matches(['!', ' ']) == "^^^^";
         let rows: Vec<&str> = page.split("\n\nrefused ").next().unwrap().lines().collect();
-        let Some(at) = written.as_ref().err().and_then(|error| error.bad_byte()) else {
+        let Some(at) = answer.as_ref().err().and_then(|error| error.bad_byte()) else {
             assert!(!rows.iter().any(|row| carets(row)), "{page}");
             continue;
         };
@@ -329,7 +369,7 @@ fn the_bad_byte_is_marked() {
         let start = starts.find(|start| width(&above[..*start]) == column);
         let start = start.unwrap_or_else(|| panic!("{escape} stands above them:\n{page}"));
         // it is this one of several: what is shown of the line before it is what stands before it
-        let error = written.as_ref().unwrap_err();
+        let error = answer.as_ref().unwrap_err();
         let number = format!("{} !", error.line());
         let first = (0..caret).rev().find(|row| rows[*row].trim_start().starts_with(&number)).unwrap();
         let margin = rows[first].find('!').unwrap() + 2;
@@ -340,7 +380,7 @@ fn the_bad_byte_is_marked() {
         let due: String = cells(before).into_iter().map(|cell| cell.shown).collect();
         // a space before it is shown as one, since no line ends there
         assert_eq!(shown.trim_end(), due.strip_suffix("\\x20").unwrap_or(&due).trim_end(), "{page}");
-        let colour = page_of(text, written, true);
+        let colour = page_of(text, answer, true);
         assert_eq!(colour.matches("\x1b[7m").count(), 1, "{page}");
         assert!(colour.contains(&format!("\x1b[1;31m\x1b[7m{escape}\x1b[0m")), "{page}");
         marked += 1;

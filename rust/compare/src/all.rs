@@ -5,10 +5,10 @@ use crate::listing::{windows, Listing};
 use crate::starts::tables;
 use crate::whole::Whole;
 use crate::writing::{self, Fill, Length};
-use crate::{read, starts, Answer, Starts};
+use crate::{read, starts, Answer, Starts, Told};
 use generate::Random;
 
-type Reader = fn(&[u8], &mut [u8]) -> Answer;
+type Reader = fn(&[u8], &mut [u8]) -> Told;
 type Lister = fn(&[u8], &[u8], u64, u64) -> Starts;
 
 pub struct All {

@@ -1,7 +1,7 @@
 //! One text through a reader and, without its k lines, through the crate. The reader is a parameter, so that the
 //! comparison can be tested with readers that are known to be wrong.
 use crate::area::{self, SIZE};
-use crate::{placed, theirs, Answer};
+use crate::{account, placed, theirs, Answer, Counts, Told};
 use generate::shrink;
 use oracle::{bad_byte, Refusal, Session};
 use std::collections::BTreeMap;
@@ -31,9 +31,10 @@ pub struct Bench<R> {
     reader: R,
     room: Vec<u8>,
     found: Vec<u8>,
+    counts: Counts,
 }
 
-impl<R: Fn(&[u8], &mut [u8]) -> Answer> Bench<R> {
+impl<R: Fn(&[u8], &mut [u8]) -> Told> Bench<R> {
     pub fn new(reader: R) -> Self {
         // no byte is 0, so that a cell that was never written can't pass for an unused one
         let found: Vec<u8> = (0..SIZE + BEYOND).map(|at| (at * 7) as u8 | 1).collect();
@@ -41,6 +42,7 @@ impl<R: Fn(&[u8], &mut [u8]) -> Answer> Bench<R> {
             reader,
             room: found.clone(),
             found,
+            counts: Counts::default(),
         }
     }
 
@@ -53,13 +55,16 @@ impl<R: Fn(&[u8], &mut [u8]) -> Answer> Bench<R> {
     pub fn both(&mut self, text: &[u8]) -> Result<(Answer, Option<Session>), String> {
         self.room.copy_from_slice(&self.found);
         let kept = text.to_vec();
-        let ours = (self.reader)(text, &mut self.room);
+        let told = (self.reader)(text, &mut self.room);
+        let ours = told.answer;
         let crates = oracle::read(&kept);
         if text != kept {
             return Err("the text was changed".into());
         }
         // an answer of zeros is that for an accepted text
         refused(text, ours, crates.as_ref().err().copied().unwrap_or_default())?;
+        account::check(text, told)?;
+        self.counts = told.counts;
         if self.room[SIZE..] != self.found[SIZE..] {
             return Err("bytes beyond the area were changed".into());
         }
@@ -90,6 +95,11 @@ impl<R: Fn(&[u8], &mut [u8]) -> Answer> Bench<R> {
     /// What the latest text left in the area.
     pub fn area(&self) -> &[u8] {
         &self.room[..SIZE]
+    }
+
+    /// The counts of the latest text's lines.
+    pub fn counts(&self) -> Counts {
+        self.counts
     }
 
     /// As `compare`; a difference ends the test with the smallest input that still shows one.

@@ -1,4 +1,5 @@
 //! The project's functions as Rust calls them, and what compares them with others.
+pub mod account;
 #[cfg(feature = "crate")]
 pub mod all;
 pub mod area;

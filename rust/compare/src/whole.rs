@@ -2,8 +2,8 @@
 //! writer are parameters, so that the comparison can be tested with some that are known to be wrong.
 use crate::area::{decode, Seen, Time};
 use crate::bench::{smallest, Bench};
-use crate::writing::{folded, kept_lines, Outcome, Writing};
-use crate::{theirs, Answer};
+use crate::writing::{folded, Outcome, Writing};
+use crate::{theirs, Answer, Told};
 use generate::sessions::LONGEST;
 use oracle::written;
 
@@ -18,6 +18,10 @@ pub struct Counts {
     pub longest: usize,
     /// How near the bound on a written form was reached.
     pub nearest: Option<usize>,
+    /// Lines of the accepted texts.
+    pub empty: u64,
+    pub ignored: u64,
+    pub kept: u64,
 }
 
 pub struct Whole<R, L, F> {
@@ -36,7 +40,7 @@ fn meaning(text: &[u8], area: &[u8]) -> Result<Seen<Vec<u8>>, String> {
 
 impl<R, L, F> Whole<R, L, F>
 where
-    R: Fn(&[u8], &mut [u8]) -> Answer,
+    R: Fn(&[u8], &mut [u8]) -> Told,
     L: Fn(&[u8], &[u8]) -> Answer,
     F: Fn(&[u8], &[u8], &mut [u8]) -> Answer,
 {
@@ -55,7 +59,7 @@ where
             self.counts.refused += 1;
             return Ok(answer);
         };
-        let area = self.bench.area().to_vec();
+        let (area, lines) = (self.bench.area().to_vec(), self.bench.counts());
         let Outcome::Written(ours) = self.writing.compare(text, &area)? else {
             return Err("a session that was read can't be written".into());
         };
@@ -63,11 +67,14 @@ where
         if folded != crates {
             return Err(format!("ours, folded\n{}\nthe crate\n{}", folded.escape_ascii(), crates.escape_ascii()));
         }
-        let most = text.len() + kept_lines(text) + 36;
+        let most = text.len() + lines.kept as usize + 36;
         let spare = most.checked_sub(ours.len()).ok_or(format!("{} bytes written, at most {most}", ours.len()))?;
         let read_back = self.read_back(text, &area, &ours)?;
         let counts = &mut self.counts;
         counts.accepted += 1;
+        counts.empty += lines.empty;
+        counts.ignored += lines.ignored;
+        counts.kept += lines.kept;
         counts.longest = counts.longest.max(ours.len());
         counts.nearest = Some(counts.nearest.map_or(spare, |nearest| nearest.min(spare)));
         *if read_back { &mut counts.read_back } else { &mut counts.too_long } += 1;

@@ -5,7 +5,7 @@ use crate::area::{self, Part, PARTS, SIZE};
 use crate::judge::{self, Fault};
 use crate::{fill, length, theirs, Answer};
 use generate::sessions::LONGEST;
-use oracle::{fold, leaf, written};
+use oracle::{fold, written};
 use std::collections::BTreeSet;
 
 /// What became of an area: the text that both sides wrote, or why both refuse it.
@@ -229,16 +229,4 @@ pub fn folded(written: &[u8]) -> Vec<u8> {
         [&line[..2], &words.join(&b' ')].concat()
     };
     written.split_inclusive(|byte| *byte == b'\n').map(fold_line).collect::<Vec<_>>().concat()
-}
-
-/// How many lines of an accepted text are kept: the version line and all with a use.
-pub fn kept_lines(text: &[u8]) -> usize {
-    let mut medias = false;
-    let letters = leaf::cuts(text).into_iter().filter(|cut| cut.kind == 2).map(|cut| cut.letter as u8);
-    let kept = letters.enumerate().filter(|(at, letter)| {
-        medias |= *letter == b'm' && *at > 0;
-        let use_of: &[u8] = if medias { b"micba" } else { b"osiuepcbtrza" };
-        *at == 0 || use_of.contains(letter)
-    });
-    kept.count()
 }

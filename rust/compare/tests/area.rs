@@ -55,7 +55,7 @@ fn the_page_has_the_decoder_s_fields() {
 fn the_example_is_what_a_reader_leaves() {
     let (text, area) = page::example();
     let mut left = vec![0xa5; SIZE];
-    assert_eq!(Plain { slip: "" }.read(&text, &mut left), Answer::default());
+    assert_eq!(Plain { slip: "" }.read(&text, &mut left).answer, Answer::default());
     for (at, (page, left)) in area.iter().zip(&left).enumerate() {
         assert_eq!(page, left, "byte {at} of the example");
     }
@@ -129,7 +129,7 @@ fn rich() -> (Vec<u8>, Vec<u8>) {
     let text = b"v=0\no=u 1 2 IN IP4 h\ns=n\ni=d\nu=u\ne=e\ne=f\np=p\nc=IN IP4 h\nb=AS:1\nt=1 2\nr=1 2 3 4\nt=3 4\n\
         r=5 6 7\nz=1 -2\nk=m:t\na=x\na=y:z\nm=a 1 p f\ni=t\nc=A B C\nb=CT:5\nk=q\na=w:\nm=b 2/3 p f\nc=D E F\nk=m:t\na=v\n";
     let mut area = vec![0xa5; SIZE];
-    assert_eq!(Plain { slip: "" }.read(text, &mut area), Answer::default());
+    assert_eq!(Plain { slip: "" }.read(text, &mut area).answer, Answer::default());
     (text.to_vec(), keyed(text, &area))
 }
 

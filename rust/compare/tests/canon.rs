@@ -1,7 +1,8 @@
 //! The program `canon` as a user runs it: on each text of the folder `texts`, on inputs at the limit, on inputs that
 //! come in pieces, and stopped while it waits. The archive must say the same.
+use compare::account::read;
 use compare::area::SIZE;
-use compare::{fill, length, read};
+use compare::{fill, length};
 use generate::sessions::LONGEST;
 use std::fs;
 use std::io::{Read, Write};

@@ -5,7 +5,7 @@ use compare::bench::Bench;
 use compare::judge::{cells, faults, judge, two, Fault, Kind};
 use compare::made::{keyed, put_two};
 use compare::writing::{folded, is_key, ours, Outcome};
-use compare::{read, starts, theirs, Answer};
+use compare::{account, read, starts, theirs, Answer, Told};
 use generate::random::count;
 use generate::sessions::{self, LONGEST};
 use generate::Random;
@@ -16,7 +16,7 @@ use std::path::Path;
 /// The area of an accepted text as it is read today.
 fn today(text: &[u8]) -> Option<Vec<u8>> {
     let mut area = vec![0xa5; SIZE];
-    (read(text, &mut area).number == 0).then_some(area)
+    (account::read(text, &mut area).number == 0).then_some(area)
 }
 
 /// The names of the stored areas, each with its text and the area.
@@ -77,7 +77,7 @@ fn holds(text: &[u8], kept: &[u8], today: &[u8]) -> usize {
     }
     // read back it is the same session, without the keys; no times have become one
     if out.len() <= LONGEST {
-        let mut bench = Bench::new(read as fn(&[u8], &mut [u8]) -> Answer);
+        let mut bench = Bench::new(read as fn(&[u8], &mut [u8]) -> Told);
         assert_eq!(bench.same(&out), Answer::default());
         let mut due = without_keys(seen.clone());
         due.origin.get_or_insert_with(theirs::placeholder);

@@ -2,10 +2,11 @@
 //! And the order beside what the reader takes, of what the writer writes, and of the stored texts.
 #[path = "../../oracle/src/order.rs"]
 mod order;
+use compare::account::read;
 use compare::area::{decode, SIZE};
 use compare::judge::{cleaned, judge, part};
 use compare::made::{self, at, put_two, DAMAGES};
-use compare::{fill, length, letter_order, read, Answer, Order};
+use compare::{fill, length, letter_order, Answer, Order};
 use generate::random::{count, from_env};
 use generate::sessions::{self, LONGEST};
 use generate::{every_string, hours, texts, Random};

@@ -1,16 +1,17 @@
-//! Our reader beside the crate: answers, and all that stands in the area afterwards.
+//! Our reader beside the crate: answers, the counts of lines, and all that stands in the area afterwards.
 mod page;
+use compare::account::read;
 use compare::area::{all_zero, decode, PARTS, SIZE};
 use compare::bench::{Bench, Tally};
-use compare::{area_size, read, Answer};
+use compare::{area_size, Answer, Counts, Told};
 use generate::random::{count, from_env};
 use generate::sessions::{self, fields_of, LONGEST, PAIRS, TABLES};
 use generate::{every_string, texts, Random};
 use oracle::bad_byte;
 use std::collections::BTreeMap;
 
-fn bench() -> Bench<fn(&[u8], &mut [u8]) -> Answer> {
-    Bench::new(read)
+fn bench() -> Bench<fn(&[u8], &mut [u8]) -> Told> {
+    Bench::new(compare::read)
 }
 
 /// Document 01's way to write a sample: after `v=0`, and for an r line after `t=0 0` too, unless it has its own `v`.
@@ -34,7 +35,7 @@ fn answer(lines: &[&[u8]]) -> (u64, u64, u64) {
 const ACCEPTED: (u64, u64, u64) = (0, 0, 0);
 
 /// Of the tables after an accepted reading.
-fn counts(text: &[u8]) -> [usize; 10] {
+fn rows(text: &[u8]) -> [usize; 10] {
     let mut area = vec![0xa5; SIZE];
     assert_eq!(read(text, &mut area), Answer::default());
     decode(&area).unwrap().counts()
@@ -155,6 +156,64 @@ fn k_lines() {
     assert_eq!(answer(&lines), (21, 1 + 5_000 + 17, 1));
 }
 
+/// Document 02, P11: the empty, the ignored and the kept lines of an accepted text, and zeros of a refused one.
+/// rust/oracle/tests/counts.rs has samples of every letter.
+#[test]
+fn the_counts() {
+    let mut bench = bench();
+    let ones: [(&[u8], u64, [u64; 3]); 20] = [
+        (b"v=0", 0, [0, 0, 1]),
+        (b"v=0\n", 0, [0, 0, 1]),
+        (b"v=0\r\n\r\n", 0, [1, 0, 1]),
+        (b"\n\r\n\nv=0", 0, [3, 0, 1]),
+        (b"v=0\nv=0\nv=\xff", 0, [0, 2, 1]),
+        (b"v=0\nk=\nk=x\nm=a 1 p f\nk=\xff\n", 0, [0, 3, 2]),
+        (b"v=0\nx=\n =\n\xff=\xff\r\n", 0, [0, 3, 1]),
+        (b"v=0\nz=", 0, [0, 0, 2]),
+        (b"v=0\nz=\n\nm=a 1 p f\nz=junk\nt=junk\ns=\xff\n", 0, [1, 3, 3]),
+        (b"v=0\ns=\nm=a 1 p f\ns=\nm=a 1 p f\ni=\na=", 0, [0, 1, 6]),
+        (b"\nv=0\no=- 0 0 I J h\n\nx=\nk=\nt=0 0\nr=1 1\n\n", 0, [3, 2, 4]),
+        // whatever was counted before the refused line
+        (b"", 6, [0; 3]),
+        (b"\n\n", 6, [0; 3]),
+        (b"\nx=\nv=0", 6, [0; 3]),
+        (b"\n\nv=1\n", 7, [0; 3]),
+        (b"\nv=0\ns=x\nx=\n\r", 3, [0; 3]),
+        (b"v=0\nx=\n\nabc", 4, [0; 3]),
+        (b"v=0\nx=\n\n=x", 5, [0; 3]),
+        (b"v=0\n\nx=\nz=\nz=", 17, [0; 3]),
+        (b"v=0\n\nx=\ns=\xff", 8, [0; 3]),
+    ];
+    for (text, number, [empty, ignored, kept]) in ones {
+        assert_eq!(bench.same(text).number, number, "{}", text.escape_ascii());
+        assert_eq!(bench.counts(), Counts { empty, ignored, kept }, "{}", text.escape_ascii());
+    }
+    // as many of each kind as the longest text has room for, and a byte more
+    let behind = |line: &[u8]| line.repeat((LONGEST - 4) / line.len());
+    for (line, [empty, ignored, kept]) in [
+        (&b"\n"[..], [32_764, 0, 1]),
+        (b"\r\n", [16_382, 0, 1]),
+        (b"x=\n", [0, 10_921, 1]),
+        (b"k=\r\n", [0, 8_191, 1]),
+        (b"v=\n\n", [8_191, 8_191, 1]),
+    ] {
+        let mut text = [b"v=0\n", &behind(line)[..]].concat();
+        assert_eq!(bench.same(&text).number, 0);
+        assert_eq!(bench.counts(), Counts { empty, ignored, kept }, "{}", line.escape_ascii());
+        text.resize(LONGEST + 1, b'\n');
+        assert_eq!(bench.same(&text).number, 1);
+        assert_eq!(bench.counts(), Counts::default());
+    }
+    // every table full: all lines are kept; one attribute too many, and none is counted
+    let text = generate::hostile::full();
+    assert_eq!(bench.same(&text).number, 0);
+    let Counts { empty, ignored, kept } = bench.counts();
+    assert_eq!((empty, ignored), (0, 0));
+    assert_eq!(kept, text.iter().filter(|byte| **byte == b'\n').count() as u64);
+    assert_eq!(bench.same(&[&text[..], b"\nx=\na=\n"].concat()).number, 21);
+    assert_eq!(bench.counts(), Counts::default());
+}
+
 /// Document 02, P2: 8 has the place of the first byte that is not part of the field's longest well-formed beginning.
 /// rust/oracle/tests/bad_byte.rs has samples of every field.
 #[test]
@@ -238,10 +297,12 @@ fn the_bad_byte_of_each_field() {
 }
 
 /// Demand 3: lines without a use, put in behind the first line that isn't empty, change nothing but the line of a refusal,
-/// which moves by the lines above it, and with 8 the place, which moves by their bytes.
-fn put_in(name: &str, idle: impl Fn(&mut Random, bool) -> Vec<u8>) {
+/// which moves by the lines above it, with 8 the place, which moves by their bytes, and of an accepted text the counts of
+/// empty and of ignored lines, which rise by as many as were put in.
+fn put_in(name: &str, idle: impl Fn(&mut Random, bool) -> Vec<u8>) -> Counts {
     let mut random = Random::of_test(name);
     let (mut accepted, mut refused, mut lines) = (0, 0, 0);
+    let mut risen = Counts::default();
     let mut moved: BTreeMap<u64, u64> = BTreeMap::new();
     let mut bench = bench();
     let (due, fields) = (count(6_000), fields_of(8));
@@ -254,14 +315,16 @@ fn put_in(name: &str, idle: impl Fn(&mut Random, bool) -> Vec<u8>) {
         let whole: Vec<&[u8]> = text.split_inclusive(|byte| *byte == b'\n').collect();
         let Some(first) = whole.iter().position(|line| !matches!(line, [b'\n'] | [b'\r', b'\n'])) else { continue };
         // how many lines and bytes were put in above each line
-        let (mut with, mut above) = (Vec::new(), vec![(0, 0)]);
+        let (mut with, mut above, mut more) = (Vec::new(), vec![(0, 0)], Counts::default());
         for (at, line) in whole.iter().enumerate() {
             with.extend(*line);
             let (mut put, start) = (0, with.len());
             let in_media = whole[..=at].iter().any(|line| line.starts_with(b"m="));
             // none is put after a last line that has no LF
             while at >= first && line.ends_with(b"\n") && random.once_in(3) {
-                with.extend(idle(&mut random, in_media));
+                let line = idle(&mut random, in_media);
+                *if line.is_empty() { &mut more.empty } else { &mut more.ignored } += 1;
+                with.extend(line);
                 with.extend(random.pick(&[&b"\n"[..], b"\r\n"]));
                 put += 1;
             }
@@ -271,6 +334,7 @@ fn put_in(name: &str, idle: impl Fn(&mut Random, bool) -> Vec<u8>) {
             continue;
         }
         let (before, mut area) = (bench.same(&text), bench.area().to_vec());
+        let counts = bench.counts();
         let after = bench.same(&with);
         let (more_lines, more_bytes) = (before.line as usize).checked_sub(1).map_or((0, 0), |line| above[line]);
         let more_bytes = if before.number == 8 { more_bytes } else { 0 };
@@ -281,10 +345,15 @@ fn put_in(name: &str, idle: impl Fn(&mut Random, bool) -> Vec<u8>) {
             *moved.entry(before.field).or_default() += 1;
         }
         if before.number > 0 {
+            assert_eq!((counts, bench.counts()), (Counts::default(), Counts::default()));
             refused += 1;
             continue;
         }
         accepted += 1;
+        let (empty, ignored) = (counts.empty + more.empty, counts.ignored + more.ignored);
+        assert_eq!(bench.counts(), Counts { empty, ignored, ..counts }, "{}", with.escape_ascii());
+        risen.empty += more.empty;
+        risen.ignored += more.ignored;
         let strings = |text: &[u8], area: &[u8]| decode(area).unwrap().strings(text).unwrap();
         assert_eq!(strings(&with, bench.area()), strings(&text, &area), "{}", with.escape_ascii());
         area.fill(0xa5);
@@ -292,23 +361,27 @@ fn put_in(name: &str, idle: impl Fn(&mut Random, bool) -> Vec<u8>) {
         assert_eq!(area, bench.area());
     }
     println!("{name}: {lines} lines, {accepted} texts accepted and {refused} refused");
+    println!("{name}: the counts of accepted texts rose by {} empty and {} ignored lines", risen.empty, risen.ignored);
     println!("{name}: {} places of 8 moved, by field {moved:?}", moved.values().sum::<u64>());
     assert!(accepted * 5 > due && refused * 5 > due && lines > due);
     assert!(due < 3_000 || moved.keys().copied().eq(fields), "a place of each field was moved");
+    risen
 }
 
 #[test]
 fn k_lines_put_in() {
-    put_in("k lines put in", |random, _| sessions::key_line(random));
+    let risen = put_in("k lines put in", |random, _| sessions::key_line(random));
+    assert!(risen.empty == 0 && risen.ignored > 0);
 }
 
 /// Empty lines, and lines of any letter that has no use where they stand.
 #[test]
 fn idle_lines_put_in() {
-    put_in("idle lines put in", |random, in_media| match random.below(3) {
+    let risen = put_in("idle lines put in", |random, in_media| match random.below(3) {
         0 => Vec::new(),
         _ => sessions::ignored(random, sessions::useless(in_media)),
     });
+    assert!(risen.empty > 0 && risen.ignored > 0);
 }
 
 #[test]
@@ -368,7 +441,7 @@ fn each_table_at_its_limit_and_one_over() {
                     full[table - 1] += 1;
                 } else {
                     assert_eq!(answer.number, 0, "{answer:?}");
-                    assert_eq!(counts(text)[table - 1], records);
+                    assert_eq!(rows(text)[table - 1], records);
                 }
             }
         }
@@ -659,15 +732,21 @@ fn generated() {
     let texts = count(120_000);
     println!("read: seed {seed}");
     let mut bench = bench();
-    let mut tally = Tally::default();
+    let (mut tally, mut lines) = (Tally::default(), Counts::default());
     for number in 0..texts {
         let text = sessions::nth(seed, number);
         match bench.compare(&text) {
-            Ok(answer) => tally.add(answer),
+            Ok(answer) => {
+                tally.add(answer);
+                let Counts { empty, ignored, kept } = bench.counts();
+                lines = Counts { empty: lines.empty + empty, ignored: lines.ignored + ignored, kept: lines.kept + kept };
+            }
             Err(_) => panic!("text {number} of seed {seed}: {}", bench.smallest(&text)),
         }
     }
     println!("read: {texts} generated texts compared\n{tally}");
+    println!("read: lines of the accepted ones: {lines:?}");
+    assert!(texts < 1_000 || lines.empty * 5 > tally.of(0) && lines.ignored > tally.of(0), "each kind of lines is counted");
     assert_eq!(tally.of(19), 0, "a second k line is ignored");
     assert!(tally.of(0) * 5 > texts && tally.of(0) * 5 < texts * 4, "both sides are reached well");
     if texts >= 100_000 {

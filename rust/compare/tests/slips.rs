@@ -60,7 +60,7 @@ fn area(number: u64) -> (Vec<u8>, Vec<u8>) {
     if number % 3 == 0 {
         let lines = sessions::good(&mut random);
         let mut read = sessions::ended(&mut random, &lines);
-        if (Plain { slip: "" }).read(&read, &mut area).number == 0 {
+        if (Plain { slip: "" }).read(&read, &mut area).answer.number == 0 {
             read.extend(&text);
             text = read;
             text.truncate(sessions::LONGEST);
@@ -172,7 +172,7 @@ fn the_nearest_slips_are_shown() {
     for shown in &SHOWN {
         let text = [b"v=0\n", shown.text.as_bytes()].concat();
         let mut area = vec![0; SIZE];
-        assert_eq!(Plain { slip: "" }.read(&text, &mut area).number, 0, "{}", shown.text);
+        assert_eq!(Plain { slip: "" }.read(&text, &mut area).answer.number, 0, "{}", shown.text);
         let listed = |slip| rows(&PlainStarts { slip }.starts(&text, &area, shown.window.0, shown.window.1));
         assert_eq!(listed(""), Ok(shown.starts.to_vec()), "{}", shown.slip);
         assert_ne!(listed(shown.slip), Ok(shown.starts.to_vec()), "{}", shown.slip);
@@ -187,13 +187,17 @@ fn slips_on_written_forms_are_found() {
     for (wrong, due) in [
         ("nothing", None),
         ("the reader", Some("read back")),
+        ("the counts", Some("read back: ours Counts { empty: 0, ignored: 1, kept: 3 }\ncounted Counts")),
         ("the length", Some("written once more: the length")),
         ("the filling", Some("written once more: with 47 bytes of output")),
     ] {
         let reader = |text: &[u8], area: &mut [u8]| {
-            let mut answer = Plain { slip: "" }.read(text, area);
-            answer.field += u64::from(wrong == "the reader" && is_written(text));
-            answer
+            let mut told = Plain { slip: "" }.read(text, area);
+            told.answer.field += u64::from(wrong == "the reader" && is_written(text));
+            if wrong == "the counts" && is_written(text) {
+                (told.counts.ignored, told.counts.kept) = (told.counts.ignored + 1, told.counts.kept - 1);
+            }
+            told
         };
         let length = |text: &[u8], area: &[u8]| {
             let mut answer = PlainWriter { slip: "" }.length(text, area);

@@ -1,12 +1,13 @@
 //! The list of starts beside an oracle of its own (`compare::starts`): document 02, P3, over whole numbers. The crate
 //! sdp-types has no such list. Every answer is compared by all its 770 numbers.
 mod plain;
+use compare::account::read;
 use compare::area::{Offset, Repeat, Seen, Span, Time, Zone, SIZE};
 use compare::judge::judge;
 use compare::listing::{self, Listing, Window};
 use compare::made::{self, at, put_two, DAMAGES};
 use compare::starts::{counted, rows, solved, tables, walked, Start, MOST};
-use compare::{fill, length, read, starts, Starts};
+use compare::{fill, length, starts, Starts};
 use generate::hours::{self, hours, Kind, KINDS};
 use generate::random::count;
 use generate::sessions::{self, LONGEST};

@@ -1,7 +1,7 @@
 //! The view of the crate `sdp` beside sdp-types: made into a session of that crate, it is the one that the crate reads.
 use compare::bench::refused;
 use compare::made::keyed;
-use compare::Answer;
+use compare::{account, Answer, Told};
 use generate::random::{count, from_env};
 use generate::sessions::{self, LONGEST, TABLES};
 use generate::{shrink, Random};
@@ -136,6 +136,8 @@ fn agree(text: &[u8], area: &mut Area) -> Result<Option<sdp_types::Session>, Str
             if ours != due {
                 return Err(format!("ours {ours:?}\nthe crate {due:?}"));
             }
+            let counts = view.counts().ok_or("what was read has counts")?;
+            account::check(text, Told { answer: Answer::default(), counts })?;
             // by name, for a name that is there in another case and for one that is not
             for name in ["RTPMAP", "x", ""].iter().copied().chain(due.attributes.last().map(|row| &row.attribute[..])) {
                 let same = view.has_attribute(name) == due.has_attribute(name)
@@ -225,7 +227,7 @@ fn kept_areas() {
         let kept = Area::from_bytes(keyed(&text, area.as_bytes()).try_into().expect("as long as before"));
         let view = sdp::kept(&text, &kept).unwrap_or_else(|error| panic!("{error}: {}", text.escape_ascii()));
         assert_eq!(session(view), due, "{}", text.escape_ascii());
-        assert_eq!(view.to_vec(), written);
+        assert_eq!((view.to_vec(), view.counts()), (written, None));
         keys += of_text;
         compared += 1;
     }

@@ -7,8 +7,8 @@ use compare::area::{
 use compare::judge::{cells, faults, judge, two, Fault, Kind, FAULTS};
 use compare::made::{self, at, put_eight, put_two, DAMAGES};
 use compare::whole::Whole;
-use compare::writing::{is_key, kept_lines, at_once_from, ours, Fill, Length, Outcome};
-use compare::{fill, length, read, theirs, Answer};
+use compare::writing::{is_key, at_once_from, ours, Fill, Length, Outcome};
+use compare::{account, fill, length, read, theirs, Answer, Told};
 use generate::fields::BROKEN;
 use generate::random::count;
 use generate::sessions::{self, LONGEST};
@@ -28,11 +28,11 @@ fn only(number: u64, len: usize) -> Answer {
 /// The area of an accepted text.
 fn area_of(text: &[u8]) -> Option<Vec<u8>> {
     let mut area = vec![0xa5; SIZE];
-    (read(text, &mut area).number == 0).then_some(area)
+    (account::read(text, &mut area).number == 0).then_some(area)
 }
 
 /// Texts through both readers and both writers; what was written is read back.
-fn both_sides() -> Whole<fn(&[u8], &mut [u8]) -> Answer, Length, Fill> {
+fn both_sides() -> Whole<fn(&[u8], &mut [u8]) -> Told, Length, Fill> {
     Whole::new(read, ours())
 }
 
@@ -127,7 +127,7 @@ fn the_bound_is_tight() {
     both.same(b"v=0\r\ns=\r\n");
     both.same(b"\n\nv=0\nx=\xff\nt=+1 01\nz=\n");
     assert_eq!(both.counts.read_back, 4);
-    assert_eq!(kept_lines(b"\nv=0\nv=0\nx=\nk=\ns=\n\nm= 1  \ns=\ni=\nk=\nm= 1  \na="), 6);
+    assert_eq!((both.counts.empty, both.counts.ignored, both.counts.kept), (2, 1, 1 + 1 + 2 + 3));
 }
 
 /// Every text in the folder `texts`, with the nettypes and addrtypes as they stand.

@@ -1,7 +1,8 @@
 //! What the project's answers are compared with: the running crate without k lines and keys, its refusals in document 01's
-//! numbers, the two rules that document 01 adds on top of it, and the bad byte of document 02. Nothing here calls the
-//! project's own code.
+//! numbers, the two rules that document 01 adds on top of it, and document 02's bad byte and counts of lines. Nothing here
+//! calls the project's own code.
 pub mod bad_byte;
+pub mod counts;
 pub mod fold;
 pub mod keys;
 pub mod leaf;

@@ -6,13 +6,16 @@
 //! - `p`, `n`, `d` a number of 16 bits, of 64 bits, a typed time: 0 and the value, or 8 or 9, and 0;
 //! - `c` the cuts of a text, a line for each: kind, number, line, letter, place and length;
 //! - `l` the letter order: 0, and 1 for yes or 0 for no;
-//! - `r` reading a text: number, line, field, place and length, and then the counts of the ten tables, 0 when refused;
-//! - `w` writing what was read: the answers of the length, of the filling of an output without room and of one with room,
-//!   and behind that line what was written; or the answer of the reader when it refuses;
+//! - `r` reading a text: number, line, field, place and length, its empty, ignored and kept lines, and then the counts of
+//!   the ten tables, all 0 when refused;
+//! - `w` writing what was read: its empty, ignored and kept lines, the answers of the length, of the filling of an output
+//!   without room and of one with room, and behind that line what was written; or zeros and the answer of the reader when
+//!   it refuses;
 //! - `o` the value of an o line, whose address is set as its username: 1 for present, and the fields;
 //! - `m` the value of an m line, whose first format is set as its number of ports, or 0 if it is no number: the fields,
 //!   with 1 for present before the number of ports.
 use crate::leaf::{self, Numeral};
+use crate::counts::{self, Counts};
 use crate::{bad_byte, limits, order, texts, written, Refusal, Session};
 use generate::{fields, Random};
 use sdp_types::{Media, Origin};
@@ -78,10 +81,10 @@ fn answer(out: &mut String, kind: u8, bytes: &[u8]) {
                 let text = String::from_utf8(written(&session)).unwrap();
                 let len = text.len() as u64;
                 let answers = [0, 22, 0].map(|number| [number, 0, 0, 0, len]);
-                line('w', &answers.concat());
+                line('w', &[&lines(bytes)[..], &answers.concat()].concat());
                 out.push_str(&text);
             }
-            Err(refusal) => line('w', &refused(bytes, refusal)),
+            Err(refusal) => line('w', &[&[0; 3][..], &refused(bytes, refusal)].concat()),
         },
         b'o' => writeln!(out, "o {}", with_username(bytes)).unwrap(),
         b'm' => writeln!(out, "m {}", with_num_ports(bytes)).unwrap(),
@@ -89,12 +92,19 @@ fn answer(out: &mut String, kind: u8, bytes: &[u8]) {
     }
 }
 
-fn reading(text: &[u8]) -> [u64; 15] {
-    let mut numbers = [0; 15];
+/// The three counts of an accepted text.
+fn lines(text: &[u8]) -> [u64; 3] {
+    let Counts { empty, ignored, kept } = counts::of(text);
+    [empty, ignored, kept]
+}
+
+fn reading(text: &[u8]) -> [u64; 18] {
+    let mut numbers = [0; 18];
     match crate::read(text) {
         Ok(session) => {
+            numbers[5..8].copy_from_slice(&lines(text));
             let counts = limits::counts(&session).map(|count| count as u64);
-            numbers[5..].copy_from_slice(&counts);
+            numbers[8..].copy_from_slice(&counts);
         }
         Err(refusal) => numbers[..5].copy_from_slice(&refused(text, refusal)),
     }

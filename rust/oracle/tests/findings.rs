@@ -5,7 +5,7 @@ use common::{accepted, join, refusal, refused};
 use generate::{random::count, texts, Random};
 use oracle::limits::TEXT;
 use oracle::refusal::parse;
-use oracle::{keys, read, written, Refusal};
+use oracle::{counts, keys, read, written, Refusal};
 
 #[test]
 fn the_token_test_comes_before_utf8() {
@@ -131,22 +131,6 @@ fn hand_built_sessions_need_not_read_back() {
     assert_eq!(read(&written(&session)).unwrap_err().number, 9);
 }
 
-/// v= and all lines with a use, as document 01 counts them for the bound.
-fn kept_lines(text: &[u8]) -> usize {
-    let (lines, refused) = oracle::sdp_types::probe::lines(text);
-    assert!(refused.is_none());
-    let (mut kept, mut in_media) = (1, false);
-    for (_, key, _) in &lines[1..] {
-        in_media |= *key == b'm';
-        kept += usize::from(if in_media {
-            b"micba".contains(key)
-        } else {
-            b"osiuepcbtrza".contains(key)
-        });
-    }
-    kept
-}
-
 #[test]
 fn the_longest_written_form() {
     // every kept line gains one byte; a missing o and s are written, and the last line has no LF
@@ -174,7 +158,7 @@ fn the_longest_written_form() {
     let output = written(&read(&text).unwrap());
     assert_eq!(output.len(), 33_634);
     assert_eq!(read(&output).unwrap_err().number, 1);
-    assert_eq!(kept_lines(&text), 1 + 4 + 16 + 16 + 64 + 32 + 64 + 512 + 4 * 32);
+    assert_eq!(counts::of(&text).kept, 1 + 4 + 16 + 16 + 64 + 32 + 64 + 512 + 4 * 32);
 }
 
 #[test]
@@ -187,7 +171,7 @@ fn bound_and_reading_back() {
         tried += 1;
         if let Ok(session) = read(&text) {
             let output = written(&session);
-            assert!(output.len() <= text.len() + kept_lines(&text) + 36);
+            assert!(output.len() <= text.len() + counts::of(&text).kept as usize + 36);
             accepted += 1;
             // a time that was missing is written, all else reads back as it was
             let again = parse(&output).unwrap();

@@ -76,7 +76,7 @@ fn the_list_has_each_kind_and_each_answer() {
         "c 3 5 ",
         "l 0 0",
         "l 0 1",
-        "w 0 0 0 0 40 22 0 0 0 40 0 0 0 0 40",
+        "w 0 0 1 0 0 0 0 40 22 0 0 0 40 0 0 0 0 40",
     ] {
         assert!(
             stdout.lines().any(|line| line.starts_with(answer)),
@@ -101,8 +101,9 @@ fn the_texts_have_each_refusal() {
     let mut numbers = BTreeSet::new();
     let mut pairs = BTreeSet::new();
     for answer in answers("r") {
-        assert_eq!(answer.len(), 15);
+        assert_eq!(answer.len(), 18);
         assert!(answer[0] == 0 || answer[5..].iter().all(|count| *count == 0));
+        assert_eq!(answer[0] == 0, answer[7] > 0, "an accepted text has its version line");
         assert_eq!(answer[3] > 0, matches!(answer[0], 7 | 8), "7 and 8 have a place, and no other");
         numbers.insert(answer[0]);
         if (8..=11).contains(&answer[0]) {
@@ -116,7 +117,22 @@ fn the_texts_have_each_refusal() {
 
 #[test]
 fn each_refusal_is_met_before_writing_too() {
-    let numbers: BTreeSet<u64> = answers("w").iter().map(|answer| answer[0]).collect();
+    let numbers: BTreeSet<u64> = answers("w").iter().map(|answer| answer[3]).collect();
     // 0 is the length's
     assert_eq!(numbers, (3..=21).filter(|number| *number != 19).chain([0]).collect());
+}
+
+/// Accepted texts with none, one and more of each kind of lines.
+#[test]
+fn the_texts_have_lines_of_each_kind() {
+    let of_w = answers("w").into_iter().map(|answer| (answer[3], answer[..3].to_vec()));
+    let of_r = answers("r").into_iter().map(|answer| (answer[0], answer[5..8].to_vec()));
+    for counts in [of_w.collect::<Vec<_>>(), of_r.collect()] {
+        assert!(counts.iter().all(|(number, lines)| *number == 0 || *lines == [0; 3]));
+        let most = |at: usize| counts.iter().map(|(_, lines)| lines[at]).max();
+        println!("stored answers: at most {:?} empty, {:?} ignored, {:?} kept lines", most(0), most(1), most(2));
+        assert!(most(1) >= Some(5) && most(2) > Some(20));
+    }
+    let empty = |number: u64| answers("w").iter().any(|answer| answer[3] == 0 && answer[0] == number);
+    assert!(empty(0) && empty(2));
 }

@@ -1,6 +1,6 @@
-// Prints what a session description announces, when it starts in the week that begins with its first time, and then its
-// written form. The text comes from a file or from standard input. The exit status is 0, or 1 for a text that is refused,
-// or 2 where something can't be read or written.
+// Prints what a session description announces, when it starts in the week that begins with its first time, how many of its
+// lines were kept, ignored and empty, and then its written form. The text comes from a file or from standard input. The
+// exit status is 0, or 1 for a text that is refused, or 2 where something can't be read or written.
 //
 //     cargo run --release --example announce -- FILE
 use sdp::{Area, Session};
@@ -50,6 +50,10 @@ fn print(session: Session, out: &mut impl Write) -> io::Result<()> {
                 None => writeln!(out, "  {}", attribute.attribute)?,
             }
         }
+    }
+    // how much of the text was passed over
+    if let Some(counts) = session.counts() {
+        writeln!(out, "lines: {} kept, {} ignored, {} empty", counts.kept, counts.ignored, counts.empty)?;
     }
     session.write_to(out)?;
     out.flush()

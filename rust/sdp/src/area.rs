@@ -1,5 +1,5 @@
 //! The bytes that a session is read into.
-use crate::{ffi, Error};
+use crate::{ffi, Counts, Error};
 use std::fmt;
 
 /// Room for one session: [`Area::SIZE`] bytes, lent to [`read`](crate::read). It may be used again for the next text.
@@ -28,8 +28,9 @@ impl Area {
     }
 
     #[inline]
-    pub(crate) fn read(&mut self, text: &[u8]) -> Result<(), Error> {
-        Error::check_in(ffi::read(text, &mut self.0), text).map(|_| ())
+    pub(crate) fn read(&mut self, text: &[u8]) -> Result<Counts, Error> {
+        let told = ffi::read(text, &mut self.0);
+        Error::check_in(told.answer, text).map(|_| told.counts)
     }
 }
 

@@ -30,7 +30,7 @@ pub struct Error {
 }
 
 impl Error {
-    /// The answer of a function of [`ffi`](crate::ffi), with its refusal as an error. For one of [`ffi::read`] take
+    /// The answer of a function of [`ffi`](crate::ffi), with its refusal as an error. For that of [`ffi::read`] take
     /// [`check_in`](Error::check_in).
     ///
     /// [`ffi::read`]: crate::ffi::read

@@ -57,6 +57,35 @@ pub struct Answer {
     pub len: u64,
 }
 
+/// How many lines of a text are empty, ignored and kept. A refused text has none of them.
+#[repr(C)]
+#[derive(Debug, Clone, Copy, PartialEq, Eq, Default)]
+pub struct Counts {
+    /// nothing stands before the line's ending
+    pub empty: u64,
+    /// no use where they stand: a later v line, k lines, letters that are unknown or have a use elsewhere only
+    pub ignored: u64,
+    /// the version line and all with a use, a z line without pairs too
+    pub kept: u64,
+}
+
+impl Counts {
+    /// All lines of the text: its LFs, and one more where the last line has none.
+    pub fn lines(&self) -> u64 {
+        self.empty + self.ignored + self.kept
+    }
+}
+
+/// What reading returns.
+#[repr(C)]
+#[derive(Debug, Clone, Copy, PartialEq, Eq, Default)]
+pub struct Told {
+    /// 0, or why the text was refused
+    pub answer: Answer,
+    /// of an accepted text
+    pub counts: Counts,
+}
+
 /// Whether a text's letters are in order.
 #[repr(C)]
 #[derive(Debug, Clone, Copy, PartialEq, Eq, Default)]
@@ -91,7 +120,7 @@ impl Default for Starts {
 }
 
 mod raw {
-    use super::{Answer, Numeral, Order, Piece, Starts};
+    use super::{Answer, Numeral, Order, Piece, Starts, Told};
     extern "C" {
         pub fn sdp_utf8_end(bytes: *const u8, len: usize) -> usize;
         pub fn sdp_is_token(bytes: *const u8, len: usize) -> bool;
@@ -99,7 +128,7 @@ mod raw {
         pub fn sdp_number64(bytes: *const u8, len: usize) -> Numeral;
         pub fn sdp_typed_time(bytes: *const u8, len: usize) -> Numeral;
         pub fn sdp_cut(text: *const u8, len: usize, place: usize, line: usize) -> Piece;
-        pub fn sdp_read(text: *const u8, text_len: usize, area: *mut u8, area_len: usize) -> Answer;
+        pub fn sdp_read(text: *const u8, text_len: usize, area: *mut u8, area_len: usize) -> Told;
         pub fn sdp_area_size() -> usize;
         pub fn sdp_length(text: *const u8, text_len: usize, area: *const u8, area_len: usize) -> Answer;
         pub fn sdp_fill(
@@ -152,10 +181,10 @@ pub fn cut(text: &[u8], place: usize, line: usize) -> Piece {
     unsafe { raw::sdp_cut(text.as_ptr(), text.len(), place, line) }
 }
 
-/// Reads a text into an area that is lent. docs/AREA.md says what it holds afterwards; the cells of keys are zero, since
-/// k lines are ignored.
+/// Reads a text into an area that is lent, and counts its lines. docs/AREA.md says what the area holds afterwards; the
+/// cells of keys are zero, since k lines are ignored.
 #[inline] // so that only a program that reads needs the archive to have it
-pub fn read(text: &[u8], area: &mut [u8]) -> Answer {
+pub fn read(text: &[u8], area: &mut [u8]) -> Told {
     unsafe { raw::sdp_read(text.as_ptr(), text.len(), area.as_mut_ptr(), area.len()) }
 }
 

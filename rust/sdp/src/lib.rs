@@ -16,6 +16,7 @@
 //! | nothing | [`Session::write`] into a slice, of the length that [`Session::written_len`] says or of [`ROOM`] bytes |
 //! | `ParserError` | [`Error`]: a number, a line, a field, the byte that is not UTF-8, and a sentence |
 //! | nothing | [`kept`]: the session of an area that was kept |
+//! | nothing | [`Session::counts`]: how many lines of the text were empty, ignored and kept |
 //! | nothing | [`Session::starts`]: the instants at which the session starts within a window |
 //!
 //! # Memory
@@ -84,6 +85,7 @@ pub mod words;
 
 pub use area::Area;
 pub use error::Error;
+pub use ffi::Counts;
 pub use session::{
     Attribute, Bandwidth, Connection, Key, Media, Origin, Repeat, Rows, Session, SessionBuf, Time, TimeZone,
 };
@@ -153,14 +155,15 @@ pub const ROOM: usize = 43_727;
 /// The refusals 1, 3 to 18, 20 and 21 of docs/REFUSALS.md: the first line that is refused decides.
 #[inline] // so that only a program that reads needs the archive to have it
 pub fn read<'a>(text: &'a [u8], area: &'a mut Area) -> Result<Session<'a>, Error> {
-    area.read(text)?;
-    Ok(Session::new(text, area))
+    let counts = area.read(text)?;
+    Ok(Session::new(text, area, Some(counts)))
 }
 
 /// The session of an area that was kept, with the text that was read into it: by this release or an earlier one, in Rust
 /// ([`Area::as_bytes`]) or in C. The bytes are judged first, so they may be any.
 ///
 /// An area of a release that still read k lines has their keys ([`Session::key`], [`Media::key`]). They are not written.
+/// An area has no counts of lines, so the session has none ([`Session::counts`]): the text is not read here.
 ///
 /// ```
 /// let text = b"v=0\ns=one\n";
@@ -168,7 +171,8 @@ pub fn read<'a>(text: &'a [u8], area: &'a mut Area) -> Result<Session<'a>, Error
 /// sdp::read(text, &mut area)?;
 /// let bytes = *area.as_bytes(); // put away, and later:
 /// let area = sdp::Area::from_bytes(bytes);
-/// assert_eq!(sdp::kept(text, &area)?.session_name(), "one");
+/// let session = sdp::kept(text, &area)?;
+/// assert_eq!((session.session_name(), session.counts()), ("one", None));
 /// assert_eq!(sdp::kept(b"v=0", &area).unwrap_err().number(), 23); // it is another text's
 /// # Ok::<(), sdp::Error>(())
 /// ```
@@ -180,7 +184,7 @@ pub fn read<'a>(text: &'a [u8], area: &'a mut Area) -> Result<Session<'a>, Error
 pub fn kept<'a>(text: &'a [u8], area: &'a Area) -> Result<Session<'a>, Error> {
     // whoever can say how long it is written has judged it
     Error::check(ffi::length(text, area.as_bytes()))?;
-    Ok(Session::new(text, area))
+    Ok(Session::new(text, area, None))
 }
 
 /// Whether the letters of the text's lines run in the order of RFC 8866: `v o s i? u? e* p* c? b*`, then one or more of

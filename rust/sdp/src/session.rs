@@ -1,5 +1,5 @@
 //! The view: a session read out of the area as it is walked. The places are those of docs/AREA.md.
-use crate::{ffi, Area, Error, Starts};
+use crate::{ffi, Area, Counts, Error, Starts};
 use std::ops::Range;
 use std::{fmt, io};
 
@@ -273,20 +273,21 @@ impl<'a> Media<'a> {
 }
 
 /// A session that was read, as a view: it borrows the text and the area, and reads a part when it is asked for. It is
-/// two references, so it is copied freely.
+/// two references and a few numbers, so it is copied freely.
 ///
 /// `{:?}` prints all of it. By [`Display`](fmt::Display) it is its written form.
 #[derive(Clone, Copy)]
 pub struct Session<'a> {
     text: &'a [u8],
     area: &'a Area,
+    counts: Option<Counts>,
 }
 
 impl<'a> Session<'a> {
-    /// Only for an area that this text was read into, or that was judged with it.
+    /// Only for an area that this text was read into, with its counts, or that was judged with it.
     #[inline]
-    pub(crate) fn new(text: &'a [u8], area: &'a Area) -> Self {
-        Session { text, area }
+    pub(crate) fn new(text: &'a [u8], area: &'a Area, counts: Option<Counts>) -> Self {
+        Session { text, area, counts }
     }
 
     fn cells(self, at: usize) -> Cells<'a> {
@@ -442,6 +443,25 @@ impl<'a> Session<'a> {
     }
 
     attributes_by_name!();
+
+    /// How many lines of the text were empty, ignored and kept when it was read; together they are all its lines. `None`
+    /// of a session that was [`kept`](crate::kept): then no text was read.
+    ///
+    /// They tell of the text and are no part of the session, so equality leaves them out, and `{:?}` too.
+    ///
+    /// ```
+    /// let text = b"v=0\r\n\r\ns=Desk 4\r\nk=prompt\r\nx=new\r\n";
+    /// let mut area = sdp::Area::new();
+    /// let session = sdp::read(text, &mut area)?;
+    /// let counts = session.counts().expect("it was read");
+    /// assert_eq!((counts.kept, counts.ignored, counts.empty), (2, 2, 1));
+    /// assert_eq!(counts.lines(), 5);
+    /// assert_eq!(session, sdp::SessionBuf::parse("v=0\ns=Desk 4\n")?.session());
+    /// # Ok::<(), sdp::Error>(())
+    /// ```
+    pub fn counts(&self) -> Option<Counts> {
+        self.counts
+    }
 
     /// How many bytes the session is written with: so many [`write`](Session::write) needs, and fills. It is asked before
     /// there is memory for them.
@@ -609,7 +629,7 @@ impl<T: PartialEq> PartialEq for Rows<'_, T> {
 impl<T: Eq> Eq for Rows<'_, T> {}
 
 /// `Debug` by the parts, in their order, and equality by the same parts: so two sessions are equal when they say the
-/// same, wherever their strings stand.
+/// same, wherever their strings stand and whatever else is in their texts.
 macro_rules! by_parts {
     ($type:ident: $($field:ident)* $(, $part:ident())*) => {
         impl fmt::Debug for $type<'_> {
@@ -648,6 +668,7 @@ by_parts!(Session: , origin(), session_name(), session_description(), uri(), ema
 pub struct SessionBuf {
     text: Vec<u8>,
     area: Box<Area>,
+    counts: Counts,
 }
 
 impl SessionBuf {
@@ -658,13 +679,13 @@ impl SessionBuf {
     /// As for [`read`](crate::read).
     pub fn parse(text: impl Into<Vec<u8>>) -> Result<Self, Error> {
         let (text, mut area) = (text.into(), Box::new(Area::new()));
-        area.read(&text)?;
-        Ok(SessionBuf { text, area })
+        let counts = area.read(&text)?;
+        Ok(SessionBuf { text, area, counts })
     }
 
     /// The session, for as long as this is borrowed.
     pub fn session(&self) -> Session<'_> {
-        Session::new(&self.text, &self.area)
+        Session::new(&self.text, &self.area, Some(self.counts))
     }
 
     /// The text that was read.

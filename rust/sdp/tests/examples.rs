@@ -54,6 +54,7 @@ starts: 3960597600 by time 1, repeat 2
 starts: 3960601200 by time 1, repeat 1
 media: audio to port 49230
   rtpmap:96 L16/48000/2
+lines: 23 kept, 1 ignored, 0 empty
 ";
 
 #[test]
@@ -84,6 +85,11 @@ fn each_text() {
             let told = output.strip_suffix(&due.escape_ascii().to_string()[..]);
             let told = told.unwrap_or_else(|| panic!("{name}: the written form is the last"));
             assert!(told.starts_with("name: "), "{name}");
+            // the three counts are those of the text's lines
+            let counts = told.rsplit("\\n").nth(1).and_then(|row| row.strip_prefix("lines: ")).unwrap_or("");
+            let numbers: Vec<usize> = counts.split(", ").filter_map(|part| part.split_once(' ')?.0.parse().ok()).collect();
+            let lines = fs::read(&file).unwrap().split_inclusive(|byte| *byte == b'\n').count();
+            assert_eq!((numbers.len(), numbers.iter().sum::<usize>()), (3, lines), "{name}: {told}");
             if name.ends_with("/festival.sdp") {
                 assert_eq!(told, FESTIVAL.as_bytes().escape_ascii().to_string());
                 festival = true;
@@ -100,7 +106,9 @@ fn each_text() {
 fn inputs_and_statuses() {
     for (name, program) in [("announce: ", announce()), ("example: ", example("inputs"))] {
         let run = |arguments: &[&str], input: &[u8]| parts(name, c::run(&program, arguments, input));
-        let accepted = b"name: \nv=0\r\no=- 0 0 IN IP4 0.0.0.0\r\ns=\r\nt=0 0\r\n".escape_ascii().to_string();
+        let told = "name: \nlines: 1 kept, 0 ignored, 0 empty\n";
+        let accepted = format!("{told}v=0\r\no=- 0 0 IN IP4 0.0.0.0\r\ns=\r\nt=0 0\r\n");
+        let accepted = accepted.as_bytes().escape_ascii().to_string();
         assert_eq!(run(&[], b"v=0"), (Some(0), accepted, String::new()));
         let sentence = |words: &str| (Some(1), String::new(), format!("{words}\n"));
         assert_eq!(run(&[], b""), sentence("there is no version: the first line must be v=0 (refusal 6)"));

@@ -77,11 +77,11 @@ fn no_output_is_read() {
     assert_eq!(stores, 1 + 4 + 8, "one byte, four digits, eight bytes");
 }
 
-/// The fields of a struct that crosses to C, by the source; they all are u64, or arrays of it.
+/// The fields of a struct that crosses to C, by the source: u64, arrays of it, or another such struct.
 fn source_fields(name: &str) -> Vec<(String, String)> {
     let head = format!("#[repr(C)]\npub struct {name} {{");
     let mut all = Vec::new();
-    for crate_name in ["sdp_answers", "sdp_lines", "sdp_order", "sdp_starts"] {
+    for crate_name in ["sdp_answers", "sdp_counts", "sdp_lines", "sdp_order", "sdp_read", "sdp_starts"] {
         let source = file(&format!("crates/{crate_name}/src/lib.rt"));
         all.extend(found(&source, &head, &['}']).iter().map(|body| named(body)));
     }
@@ -98,9 +98,17 @@ fn outside(name: &str) -> &str {
     }
 }
 
+/// The structs that functions answer with, and those that stand in these.
 fn structs() -> BTreeSet<String> {
-    let answers = exported().into_iter().map(|function| function.answer);
-    answers.filter(|answer| answer.starts_with(char::is_uppercase)).collect()
+    let mut due: Vec<String> = exported().into_iter().map(|function| function.answer).collect();
+    let mut all = BTreeSet::new();
+    while let Some(kind) = due.pop() {
+        if kind.starts_with(char::is_uppercase) {
+            due.extend(source_fields(&kind).into_iter().map(|(_, kind)| kind));
+            all.insert(kind);
+        }
+    }
+    all
 }
 
 /// The header without its comments and without the preprocessor's lines.
@@ -161,6 +169,7 @@ fn c_has_the_source_s_structs() {
     let header = header();
     let heads = header.lines().filter(|line| line.starts_with("struct sdp_") && line.ends_with('{')).count();
     assert_eq!(heads, structs().len(), "the header has no other structs");
+    assert!(structs().contains("Counts"), "one that stands in another is found");
     for name in structs() {
         let bodies = found(&header, &format!("{}{{", in_c(&name)), &['}']);
         assert_eq!(bodies.len(), 1, "the header has one struct for {name}");
@@ -266,8 +275,9 @@ fn all_functions_from_c() {
     let mut area = [0; Area::SIZE];
     let starting = ["v=0\nt=100 0\nr=50 9 0 7\nz=120 -10\nt=300 0\n", "v=0\nz=9 0 8 0\n", "v=0\nt=1 0\nr=1 0\n"];
     let texts = ["v=0\ns=Desk 4\nz=60 -1h\n", "v=1\n", "+60", "65536", "2d", "IN", "a b", "", "t=\r", "\n"];
-    let texts = texts.into_iter().chain(starting).map(str::as_bytes);
-    let mut refused = BTreeSet::new();
+    let passed_over = "\r\nv=0\n\nx=y\nk=z\nq=\ns=x\nm=a 1 p f\ni=";
+    let texts = texts.into_iter().chain(starting).chain([passed_over]).map(str::as_bytes);
+    let (mut refused, mut counted) = (BTreeSet::new(), BTreeSet::new());
     for text in texts.chain([&b"\xff"[..], b"v=0\r\na=x:\xc3"]) {
         let mut due = format!("{} {}\n", ffi::utf8_end(text), u64::from(ffi::is_token(text)));
         for numeral in [ffi::number16(text), ffi::number64(text), ffi::typed_time(text)] {
@@ -280,7 +290,10 @@ fn all_functions_from_c() {
             let parts = [answer.number, answer.line, answer.field, answer.place, answer.len];
             format!("{}\n", parts.map(|part| part.to_string()).join(" "))
         };
-        due += &answer(ffi::read(text, &mut area));
+        let ffi::Told { answer: read, counts: ffi::Counts { empty, ignored, kept } } = ffi::read(text, &mut area);
+        due += &answer(read);
+        due += &format!("{empty} {ignored} {kept}\n");
+        counted.insert([empty, ignored, kept]);
         let length = ffi::length(text, &area);
         due += &answer(length);
         due += &answer(ffi::fill(text, &area, &mut [0; 20]));
@@ -299,6 +312,7 @@ fn all_functions_from_c() {
         assert_eq!(String::from_utf8(output.stdout).unwrap(), due, "{}", text.escape_ascii());
     }
     assert_eq!(refused.into_iter().collect::<Vec<_>>(), [0, 28, 29]);
+    assert!(counted.contains(&[2, 3, 4]) && counted.contains(&[0; 3]), "{counted:?}");
 }
 
 /// The headers are good C++ too, by the machine's own compiler where it has one.

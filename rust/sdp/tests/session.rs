@@ -1,8 +1,8 @@
 //! The view, the errors and the writing, on texts whose answers were typed by hand.
 mod page;
 use sdp::{
-    ffi, Area, Attribute, Bandwidth, Connection, Error, Key, Origin, Session, SessionBuf, Start, Starts, TimeZone, LONGEST,
-    MOST_STARTS, ROOM,
+    ffi, Area, Attribute, Bandwidth, Connection, Counts, Error, Key, Origin, Session, SessionBuf, Start, Starts, TimeZone,
+    LONGEST, MOST_STARTS, ROOM,
 };
 use std::io::{self, ErrorKind, Write};
 
@@ -427,6 +427,40 @@ fn the_bad_byte() {
     }
     let text = [b"v=0\nu=", &vec![b'x'; 109][..], b"\xff"].concat();
     assert!(refused(&text).to_string().ends_with(" not UTF-8 from byte 115 on, the 112th byte of the line (refusal 8)"));
+}
+
+/// Empty, ignored and kept lines of what is read. Of an area that was kept none are known, and no session is told from
+/// another by them.
+#[test]
+fn counts() {
+    let mut area = Area::new();
+    for (text, [empty, ignored, kept]) in [
+        (&b"v=0"[..], [0, 0, 1]),
+        (RICH, [0, 2, 33]),
+        (b"\r\n\nv=0\r\n\nx=\xff\nv=1\nk=\nz=\ns=x\nm=a 1 p f\ns=y\ni=", [3, 4, 5]),
+        (b"v=0\n\n", [1, 0, 1]),
+    ] {
+        let due = Counts { empty, ignored, kept };
+        let session = sdp::read(text, &mut area).unwrap();
+        assert_eq!(session.counts(), Some(due), "{}", text.escape_ascii());
+        assert_eq!(due.lines(), text.split_inclusive(|byte| *byte == b'\n').count() as u64);
+        let buf = read(text);
+        assert_eq!((buf.session().counts(), buf.clone().session().counts()), (Some(due), Some(due)));
+        let again = sdp::kept(text, &area).unwrap();
+        assert_eq!(again.counts(), None);
+        assert!(again == buf.session() && format!("{again:?}") == format!("{:?}", buf.session()));
+    }
+    // the same area with another text: the counts of the one that was read are not taken for its own
+    sdp::read(b"v=0\ns=one\nx=\n", &mut area).unwrap();
+    assert_eq!(sdp::kept(b"v=0\ns=one", &area).unwrap().counts(), None);
+    let (few, many) = (read(b"v=0\ns=x"), read(b"\nv=0\nk=\ns=x\n\nx=\n"));
+    assert_eq!(few, many);
+    assert_ne!(few.session().counts(), many.session().counts());
+    // a refusal has none
+    let told = ffi::read(b"\nv=0\nx=\nt=now 0\n", &mut [0; Area::SIZE]);
+    assert_eq!((told.answer.number, told.counts, told.counts.lines()), (9, Counts::default(), 0));
+    let told = ffi::read(b"v=0\n\n", &mut [0; 7]);
+    assert_eq!((told.answer.number, told.counts), (2, Counts::default()));
 }
 
 #[test]

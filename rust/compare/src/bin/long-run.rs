@@ -2,6 +2,7 @@
 use compare::all::All;
 use compare::bench::Tally;
 use compare::interrupt;
+use compare::whole::Counts;
 use generate::sessions;
 use std::fs;
 use std::io::{self, Write};
@@ -14,8 +15,8 @@ const HELP: &str = "\
 usage: long-run [SEED [COUNT [FIRST]]]
        long-run --folder FOLDER
 Reads and writes texts with the archive and with the crate sdp-types, reads back what was written, and compares all of
-it; and it lists when they start, beside an oracle. The texts are generated: SEED (8866) chooses them, COUNT (10000000)
-says how many, FIRST (0) is the number of the first. Or they are the files of a folder.
+it; and it counts their lines and lists when they start, beside oracles. The texts are generated: SEED (8866) chooses
+them, COUNT (10000000) says how many, FIRST (0) is the number of the first. Or they are the files of a folder.
 Every five seconds it says how far it is. Ctrl-C ends it with the counts so far; a second one ends it at once.
 status: 0 no difference; 1 a difference, printed with the smallest text that shows it; 2 wrong words, or a file that
 can't be read; 130 Ctrl-C
@@ -132,6 +133,9 @@ fn run(out: &mut impl Write, texts: &Texts) -> io::Result<ExitCode> {
         "{} written as the crate writes them, at most {} bytes; {} read back and written once more, {} too long for that",
         counts.accepted, counts.longest, counts.read_back, counts.too_long
     )?;
+    let lines = counts.kept + counts.ignored + counts.empty;
+    let Counts { kept, ignored, empty, .. } = counts;
+    writeln!(out, "{lines} lines counted as the oracle has them: {kept} kept, {ignored} ignored, {empty} empty")?;
     writeln!(out, "{} lists of starts, {} starts in them, as the oracle has them", lists.windows, lists.starts)?;
     let took = duration(start.elapsed().as_secs_f64());
     writeln!(out, "{} texts of {} MB compared in {took}, no difference", tally.all(), bytes / 1_000_000)?;

@@ -23,7 +23,7 @@ static uint64_t number64(void) { return sdp_number64(text, len).number; }
 static uint64_t typed_time(void) { return sdp_typed_time(text, len).number; }
 static uint64_t cut(void) { return sdp_cut(text, len, 0, 1).kind; }
 static uint64_t cut_last(void) { return sdp_cut(text, len, len > 0 ? len - 1 : 0, SIZE_MAX).kind; }
-static uint64_t read_text(void) { return sdp_read(text, len, area, sizeof area).number; }
+static uint64_t read_text(void) { return sdp_read(text, len, area, sizeof area).answer.number; }
 static uint64_t length(void) {
     struct sdp_answer answer = sdp_length(text, len, area, sizeof area);
     needed = answer.len;

@@ -7,10 +7,10 @@ use compare::area::{
     Attribute, Bandwidth, Connection, Key, Media, MediaConnection, Offset, Origin, Part, Repeat, Seen, Span, Time, Zone,
     PARTS, SIZE,
 };
-use compare::Answer;
+use compare::{Answer, Counts, Told};
 
 /// What each slip does wrong. The comparison must find every one.
-pub const SLIPS: [&str; 73] = [
+pub const SLIPS: [&str; 88] = [
     "a text of 32,769 bytes is read",
     "a text of 32,768 bytes is refused",
     "a text that is too long clears the area",
@@ -84,6 +84,21 @@ pub const SLIPS: [&str; 73] = [
     "the last of two bad bytes is told",
     "CRs above a bad byte are not counted",
     "k lines above a bad byte are not counted",
+    "empty lines are counted as ignored",
+    "CR LF alone is in no count",
+    "empty lines above the version are in no count",
+    "what is behind the last LF is an empty line",
+    "the version line is in no count",
+    "a later version line is kept",
+    "a k line is counted as kept",
+    "an unknown letter is in no count",
+    "a letter without use after m is kept",
+    "an m line is ignored",
+    "the first m line is ignored",
+    "a z line without pairs is ignored",
+    "a last line without LF is in no count",
+    "a refusal has counts",
+    "a text that is too long has counts",
 ];
 
 pub struct Plain {
@@ -115,9 +130,10 @@ impl Plain {
         self.slip == slip
     }
 
-    pub fn read(&self, text: &[u8], area: &mut [u8]) -> Answer {
+    pub fn read(&self, text: &[u8], area: &mut [u8]) -> Told {
+        let none = Counts::default();
         if area.len() < SIZE {
-            return refusal(2, 0, 0);
+            return Told { answer: refusal(2, 0, 0), counts: none };
         }
         let longest = 32_768 + usize::from(self.slips("a text of 32,769 bytes is read"))
             - usize::from(self.slips("a text of 32,768 bytes is refused"));
@@ -125,7 +141,10 @@ impl Plain {
             if self.slips("a text that is too long clears the area") {
                 area[..SIZE].fill(0);
             }
-            return refusal(1, 0, 0);
+            let lines = text.split(|byte| *byte == b'\n').count() as u64;
+            let counted = self.slips("a text that is too long has counts");
+            let counts = if counted { Counts { ignored: lines, ..none } } else { none };
+            return Told { answer: refusal(1, 0, 0), counts };
         }
         let mut reader = Reader {
             plain: self,
@@ -135,6 +154,7 @@ impl Plain {
             zoned: false,
             titled: false,
             keys: 0,
+            counts: none,
         };
         let mut answer = reader.all().err().unwrap_or_default();
         if answer.number == 8 {
@@ -159,7 +179,8 @@ impl Plain {
         if self.slips("bytes beyond the area are cleared") {
             area[SIZE..].fill(0);
         }
-        answer
+        let counted = answer.number == 0 || self.slips("a refusal has counts");
+        Told { answer, counts: if counted { reader.counts } else { none } }
     }
 }
 
@@ -172,6 +193,7 @@ struct Reader<'a> {
     titled: bool,
     /// k lines since the latest m line.
     keys: usize,
+    counts: Counts,
 }
 
 impl<'a> Reader<'a> {
@@ -200,16 +222,18 @@ impl<'a> Reader<'a> {
                 len: whole.len().saturating_sub(2),
             };
             at = next;
+            let last = lf.is_none();
             if whole.is_empty() {
                 line -= u64::from(self.slips("empty lines are not counted"));
+                self.count_empty(value.place - 2..next, version);
                 continue;
             }
             let unknown = version && !b"vosiuepcbtrzkam".contains(&whole[0]);
-            if unknown && self.slips("ignored lines are not tested") {
-                continue;
-            }
             let is_k = whole[0] == b'k';
-            if version && is_k && self.slips("a k line of bad form is ignored") {
+            if unknown && self.slips("ignored lines are not tested")
+                || version && is_k && self.slips("a k line of bad form is ignored")
+            {
+                self.count(whole[0], value);
                 continue;
             }
             let nul = if self.slips("NUL passes") { b'\r' } else { 0 };
@@ -233,6 +257,7 @@ impl<'a> Reader<'a> {
                 }
                 self.version(line, value)?;
                 version = true;
+                self.counts.kept += u64::from(!self.slips("the version line is in no count"));
             } else {
                 if letter == b'v' && self.slips("a second version line is judged") {
                     self.version(line, value)?;
@@ -243,7 +268,13 @@ impl<'a> Reader<'a> {
                 self.line(line, letter, value)?;
                 self.full(line)?;
                 line -= u64::from(is_k && self.slips("k lines are not counted"));
+                if !(last && self.slips("a last line without LF is in no count")) {
+                    self.count(letter, value);
+                }
             }
+        }
+        if self.slips("what is behind the last LF is an empty line") && self.text.ends_with(b"\n") {
+            self.counts.empty += 1;
         }
         if !version {
             return Err(refusal(6, 0, 0));
@@ -273,6 +304,39 @@ impl<'a> Reader<'a> {
             }
         }
         Ok(())
+    }
+
+    fn count_empty(&mut self, bytes: std::ops::Range<usize>, version: bool) {
+        let none = self.slips("CR LF alone is in no count") && bytes.len() == 2
+            || self.slips("empty lines above the version are in no count") && !version;
+        match self.slips("empty lines are counted as ignored") {
+            _ if none => {}
+            true => self.counts.ignored += 1,
+            false => self.counts.empty += 1,
+        }
+    }
+
+    /// A line behind the version's, after it was read.
+    fn count(&mut self, letter: u8, value: Span) {
+        let in_media = !self.seen.medias.is_empty();
+        let known = b"vosiuepcbtrzkam".contains(&letter);
+        let kept = match letter {
+            b'v' => self.slips("a later version line is kept"),
+            b'k' => self.slips("a k line is counted as kept"),
+            b'm' => {
+                let first = self.seen.medias.len() == 1;
+                !(self.slips("an m line is ignored") || first && self.slips("the first m line is ignored"))
+            }
+            b'z' if !in_media && self.words(value).is_empty() => !self.slips("a z line without pairs is ignored"),
+            b'i' | b'c' | b'b' | b'a' => true,
+            _ if in_media => known && self.slips("a letter without use after m is kept"),
+            _ => known,
+        };
+        match kept {
+            true => self.counts.kept += 1,
+            false if !known && self.slips("an unknown letter is in no count") => {}
+            false => self.counts.ignored += 1,
+        }
     }
 
     /// The place of a bad byte; slips count it in other ways.

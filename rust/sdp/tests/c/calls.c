@@ -5,6 +5,10 @@ static void answer(struct sdp_answer a) {
     printf("%" PRIu64 " %" PRIu64 " %" PRIu64 " %" PRIu64 " %" PRIu64 "\n", a.number, a.line, a.field, a.place, a.len);
 }
 
+static void counts(struct sdp_counts c) {
+    printf("%" PRIu64 " %" PRIu64 " %" PRIu64 "\n", c.empty, c.ignored, c.kept);
+}
+
 static void numeral(struct sdp_numeral n) {
     printf("%" PRIu64 " %" PRIu64 "\n", n.number, n.value);
 }
@@ -19,7 +23,8 @@ static void list(struct sdp_starts s) {
 /* "With length 0 a pointer may be anything": every function, with NULL. The answers are those for no bytes. */
 static int empty(void) {
     static uint8_t area[SDP_AREA_SIZE];
-    struct sdp_answer read = sdp_read(NULL, 0, area, sizeof area), short_area = sdp_read(NULL, 0, NULL, 0);
+    struct sdp_answer read = sdp_read(NULL, 0, area, sizeof area).answer;
+    struct sdp_answer short_area = sdp_read(NULL, 0, NULL, 0).answer;
     struct sdp_answer length = sdp_length(NULL, 0, area, sizeof area);
     struct sdp_answer filled = sdp_fill(NULL, 0, area, sizeof area, NULL, 0);
     if (read.number != SDP_NO_VERSION || short_area.number != SDP_AREA_TOO_SHORT) return 2;
@@ -39,6 +44,7 @@ static int empty(void) {
 
 int main(void) {
     static uint8_t text[SDP_LONGEST], area[SDP_AREA_SIZE], out[20], exact[SDP_ROOM];
+    struct sdp_told told;
     struct sdp_answer length;
     size_t len = fread(text, 1, sizeof text, stdin);
     struct sdp_piece p = sdp_cut(text, len, 0, 7);
@@ -53,7 +59,9 @@ int main(void) {
     numeral(sdp_typed_time(text, len));
     printf("%" PRIu64 " %" PRIu64 " %" PRIu64 " %" PRIu64 " ", p.kind, p.number, p.line, p.letter);
     printf("%" PRIu64 " %" PRIu64 " %" PRIu64 " %" PRIu64 "\n", p.place, p.len, p.next_place, p.next_line);
-    answer(sdp_read(text, len, area, sizeof area));
+    told = sdp_read(text, len, area, sizeof area);
+    answer(told.answer);
+    counts(told.counts);
     length = sdp_length(text, len, area, sizeof area);
     answer(length);
     answer(sdp_fill(text, len, area, sizeof area, out, sizeof out));
