@@ -56,9 +56,9 @@ fn read_lines(c: &mut Cutter, text: &[u8], area: &mut [u8]) -> Ended
         named: false,
         zoned: false,
         begun: false,
+        kept: 0,
         empty: 0,
         ignored: 0,
-        kept: 0,
     };
     loop {
         match one_line(c, text, area, state) {

@@ -21,14 +21,14 @@ use sdp_step::Marks;
 use sdp_step::Taken;
 
 // What a reading carries from line to line beside the area: the marks, whether the version line is behind it, and how many
-// lines were empty, ignored and kept so far.
+// lines were kept, empty and ignored so far. In another order the compiled loop is slower (docs/SPEED.md).
 pub struct State {
     pub named: bool,
     pub zoned: bool,
     pub begun: bool,
+    pub kept: u64,
     pub empty: u64,
     pub ignored: u64,
-    pub kept: u64,
 }
 
 // How the lines ended. Where the version is refused, none was read.
@@ -74,9 +74,9 @@ fn one_empty(state: State) -> State
         named: state.named,
         zoned: state.zoned,
         begun: state.begun,
+        kept: state.kept,
         empty: state.empty + 1,
         ignored: state.ignored,
-        kept: state.kept,
     }
 }
 
@@ -89,9 +89,9 @@ fn one_ignored(state: State) -> State
         named: state.named,
         zoned: state.zoned,
         begun: state.begun,
+        kept: state.kept,
         empty: state.empty,
         ignored: state.ignored + 1,
-        kept: state.kept,
     }
 }
 
@@ -104,9 +104,9 @@ fn one_kept(state: State, marks: Marks) -> State
         named: marks.named,
         zoned: marks.zoned,
         begun: true,
+        kept: state.kept + 1,
         empty: state.empty,
         ignored: state.ignored,
-        kept: state.kept + 1,
     }
 }
 
