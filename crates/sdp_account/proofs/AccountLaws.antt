@@ -44,7 +44,7 @@ goes-on s n p k (stops w) e = absurd (let z : _≡_ {A = ℕ} 0 1 = cc in omega 
 
 run-once : (rs : List Raw) (m : ℕ) (s : Session Span) (ρ : Reading Span) (n p : ℕ) → run spanAt ρ n p rs ≡ accepted s
     → emptyLines rs + ignoredFrom m rs + usedFrom m rs ≡ length rs
-unfolding Run.run Count.emptyLines Count.ignoredFrom Count.usedFrom
+unfolding Run.run Count.emptyLines Count.sumFrom
 run-once [] m s ρ n p e = refl
 run-once (r ∷ rs) m s ρ n p e =
     let k : Reading Span → Verdict Span = λ τ. run spanAt τ (n + 1) (p + width r) rs in

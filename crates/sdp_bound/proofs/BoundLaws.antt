@@ -76,7 +76,7 @@ module _ (ρ : Reading (List ℕ)) (p : ℕ) (r : Raw) where
 
 run-cost : (rs : List Raw) (s : Session (List ℕ)) (ρ : Reading (List ℕ)) (n p : ℕ) → run bytesAt ρ n p rs ≡ accepted s
     → cost id s ≤ cost id (ρ .session) + (bodies rs + usedFrom (length (ρ .session .tables .medias)) rs)
-unfolding Run.run SumLaws.sum Count.usedFrom
+unfolding Run.run SumLaws.sum Count.sumFrom
 run-cost [] s ρ n p e = let z : ρ .session ≡ s = cc in omega (arith, ap (cost id) z)
 run-cost (r ∷ rs) s ρ n p e =
     go (stepForm bytesAt ρ p (content r) (formOf (content r))) (line-grown ρ p r (formOf (content r)) refl) (line-medias bytesAt ρ p (content r) (formOf (content r)))

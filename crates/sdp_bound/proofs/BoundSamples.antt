@@ -21,5 +21,5 @@ abbrev version : List ℕ
 version = 0x76 ∷ 0x3d ∷ 0x30 ∷ []
 
 pub version-bound : (lines bytesAt version ≡ accepted empty) × (length (written id empty) ≡ bound version)
-unfolding Count.keptLines Count.usedFrom Run.lines Run.begin Run.run Lines.split Lines.content Lines.chop Lines.formOf Lines.hasNulOrCr Lines.plainForm Runs.indexOf Written.written Written.headLines Written.contactLines Written.closingLines Written.originLine Written.line rows.each Written.timesLines Written.zonesLine
+unfolding Count.keptLines Count.sumFrom Run.lines Run.begin Run.run Lines.split Lines.content Lines.chop Lines.formOf Lines.hasNulOrCr Lines.plainForm Runs.indexOf Written.written Written.headLines Written.contactLines Written.closingLines Written.originLine Written.line rows.each Written.timesLines Written.zonesLine
 version-bound = (refl, refl)

@@ -34,7 +34,7 @@ line-three r medias = go (formOf (content r)) refl
     go (Good l) e = omega (arith, uses-once (kindOf (roleAt medias l)), good-form (content r) l e, content-short r)
 
 used-few : (rs : List Raw) (medias : ℕ) → usedFrom medias rs * 3 ≤ bodies rs
-unfolding Count.usedFrom SumLaws.sum
+unfolding Count.sumFrom SumLaws.sum
 used-few [] medias = omega arith
 used-few (r ∷ rs) medias =
     omega (arith, line-three r medias, used-few rs (medias + opens (roleOf medias (formOf (content r)))))

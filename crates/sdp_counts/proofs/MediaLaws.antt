@@ -22,7 +22,7 @@ use Rattle.sdp_roles.specs.declared.Role.the-variants as role
 use Rattle.sdp_counts.specs.Count.{opens}
 
 module _ {S : Type 0} (mk : Piece → S) (ρ : Reading S) (v : List ℕ) where
-  abbrev pub mediasOf : Reading S → ℕ
+  abbrev mediasOf : Reading S → ℕ
   mediasOf τ = length (τ .session .tables .medias)
 
   -- m medias more

@@ -46,17 +46,18 @@ unfoldable pub emptyLines : List Raw → ℕ
 emptyLines [] = 0
 emptyLines (r ∷ rs) = blanks (formOf (content r)) + emptyLines rs
 
--- those with a use, after the version line and that many medias
-unfoldable pub usedFrom : ℕ → List Raw → ℕ
-usedFrom medias [] = 0
-usedFrom medias (r ∷ rs) =
-    uses (roleOf medias (formOf (content r))) + usedFrom (medias + opens (roleOf medias (formOf (content r)))) rs
+-- the sum of what w says of each, after the version line and that many medias; an m line is one media more
+unfoldable pub sumFrom : (ℕ → Form → ℕ) → ℕ → List Raw → ℕ
+sumFrom w medias [] = 0
+sumFrom w medias (r ∷ rs) = w medias (formOf (content r)) + sumFrom w (medias + opens (roleOf medias (formOf (content r)))) rs
+
+-- those with a use
+abbrev pub usedFrom : ℕ → List Raw → ℕ
+usedFrom medias rs = sumFrom (λ m f. uses (roleOf m f)) medias rs
 
 -- and those without
-unfoldable pub ignoredFrom : ℕ → List Raw → ℕ
-ignoredFrom medias [] = 0
-ignoredFrom medias (r ∷ rs) =
-    idles medias (formOf (content r)) + ignoredFrom (medias + opens (roleOf medias (formOf (content r)))) rs
+abbrev pub ignoredFrom : ℕ → List Raw → ℕ
+ignoredFrom medias rs = sumFrom (λ m f. idles m f) medias rs
 
 -- a choice by the form of a line: past an empty one, or here
 abbrev pub fromVersion : Form → ℕ → ℕ → ℕ
@@ -79,6 +80,7 @@ abbrev pub countLines : List Raw → Counts
 countLines rs = record { empty = emptyLines rs; ignored = ignoredLines rs; kept = keptLines rs }
 
 -- ---- a text
+-- "Each is defined from the text alone"
 abbrev pub countsOf : List ℕ → Counts
 countsOf t = countLines (split t)
 
@@ -90,7 +92,8 @@ kept t = countsOf t .kept
 abbrev pub noCounts : Counts
 noCounts = record { empty = 0; ignored = 0; kept = 0 }
 
--- ---- "the number of lines, which is the LFs plus one if the text doesn't end in LF and isn't empty"
+-- ---- the number of lines
+-- the LFs of a text
 unfoldable pub lfs : List ℕ → ℕ
 lfs [] = 0
 lfs (b ∷ t) = cond (eqb b 10) 1 0 + lfs t
@@ -101,5 +104,6 @@ unended [] = 0
 unended (b ∷ []) = cond (eqb b 10) 0 1
 unended (b ∷ (c ∷ t)) = unended (c ∷ t)
 
+-- "the number of lines, which is the LFs plus one if the text doesn't end in LF and isn't empty"
 abbrev pub lineCount : List ℕ → ℕ
 lineCount t = lfs t + unended t

@@ -12,7 +12,7 @@ use Rattle.sdp_roles.specs.Kinds.{kindOf, byKind}
 use Rattle.sdp_roles.specs.declared.Role.{Role}
 use Rattle.sdp_counts.specs.Count
 use Rattle.sdp_counts.specs.Count.{roleOf, uses, opens, blanks, idles, emptyLines, usedFrom, ignoredFrom, countsOf}
-use Rattle.sdp_insert.specs.Insert.{endedForm, Idle, InsertedFrom, same, keep, put, Inserted, blank, begun, alone, putFrom, emptyFrom, idleFrom, Rise}
+use Rattle.sdp_insert.specs.Insert.{endedForm, Idle, InsertedFrom, same, keep, put, Inserted, blank, begun, alone, putFrom, Rise}
 use Rattle.sdp_insert.proofs.SplitLaws.{split-line}
 
 -- a line that may be put in: it is empty or without use, never both, and opens no media
@@ -30,13 +30,13 @@ unused medias (Bad f) u = absurd u
 
 -- ---- after the version line
 record RiseFrom {medias : ℕ} {t t′ : List ℕ} (i : InsertedFrom medias t t′) : Type 0 where
-  empty : emptyLines (split t′) ≡ emptyLines (split t) + emptyFrom i
-  ignored : ignoredFrom medias (split t′) ≡ ignoredFrom medias (split t) + idleFrom i
+  empty : emptyLines (split t′) ≡ emptyLines (split t) + putFrom (λ m f. blanks f) i
+  ignored : ignoredFrom medias (split t′) ≡ ignoredFrom medias (split t) + putFrom (λ m f. idles m f) i
   used : usedFrom medias (split t′) ≡ usedFrom medias (split t)
-  exactly : emptyFrom i + idleFrom i ≡ putFrom i
+  exactly : putFrom (λ m f. blanks f) i + putFrom (λ m f. idles m f) i ≡ putFrom (λ m f. 1) i
 
 from-rise : {medias : ℕ} {t t′ : List ℕ} (i : InsertedFrom medias t t′) → RiseFrom i
-unfolding Count.emptyLines Count.ignoredFrom Count.usedFrom
+unfolding Count.emptyLines Count.sumFrom
 from-rise (same medias t) = record { empty = omega arith; ignored = omega arith; used = refl; exactly = refl }
 from-rise (keep {t = t} {t′ = t′} l h i) =
     let ih = from-rise i in

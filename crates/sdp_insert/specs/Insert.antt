@@ -102,39 +102,29 @@ bytesAbove (begun l h e i) (suc k) = bytesFrom i k
 bytesAbove alone k = 0
 
 -- ---- document 02, P11, "the lines inserted"
--- how many lines were put in, from there on
-abbrev pub putFrom : {medias : ℕ} {t t′ : List ℕ} → InsertedFrom medias t t′ → ℕ
-putFrom (same medias t) = 0
-putFrom (keep l h i) = putFrom i
-putFrom (put l h u i) = 1 + putFrom i
-
--- how many of them are empty
-abbrev pub emptyFrom : {medias : ℕ} {t t′ : List ℕ} → InsertedFrom medias t t′ → ℕ
-emptyFrom (same medias t) = 0
-emptyFrom (keep l h i) = emptyFrom i
-emptyFrom (put l h u i) = blanks (endedForm l) + emptyFrom i
-
--- and how many have a letter without use
-abbrev pub idleFrom : {medias : ℕ} {t t′ : List ℕ} → InsertedFrom medias t t′ → ℕ
-idleFrom (same medias t) = 0
-idleFrom (keep l h i) = idleFrom i
-idleFrom (put {medias = medias} l h u i) = idles medias (endedForm l) + idleFrom i
+-- the sum of what w says of each line that was put in, by the medias above it and its form, from there on
+abbrev pub putFrom : (ℕ → Form → ℕ) → {medias : ℕ} {t t′ : List ℕ} → InsertedFrom medias t t′ → ℕ
+putFrom w (same medias t) = 0
+putFrom w (keep l h i) = putFrom w i
+putFrom w (put {medias = medias} l h u i) = w medias (endedForm l) + putFrom w i
 
 -- the same from the first line on
+abbrev pub putIn : (ℕ → Form → ℕ) → {t t′ : List ℕ} → Inserted t t′ → ℕ
+putIn w (blank l h e i) = putIn w i
+putIn w (begun l h e i) = putFrom w i
+putIn w alone = 0
+
+-- how many lines were put in
 abbrev pub linesPut : {t t′ : List ℕ} → Inserted t t′ → ℕ
-linesPut (blank l h e i) = linesPut i
-linesPut (begun l h e i) = putFrom i
-linesPut alone = 0
+linesPut i = putIn (λ m f. 1) i
 
+-- how many of them are empty
 abbrev pub emptyPut : {t t′ : List ℕ} → Inserted t t′ → ℕ
-emptyPut (blank l h e i) = emptyPut i
-emptyPut (begun l h e i) = emptyFrom i
-emptyPut alone = 0
+emptyPut i = putIn (λ m f. blanks f) i
 
+-- and how many have a letter without use
 abbrev pub idlePut : {t t′ : List ℕ} → Inserted t t′ → ℕ
-idlePut (blank l h e i) = idlePut i
-idlePut (begun l h e i) = idleFrom i
-idlePut alone = 0
+idlePut i = putIn (λ m f. idles m f) i
 
 -- "empty and ignored rise by exactly the lines inserted and kept stays": the counts c of t, c′ of t′
 pub record Rise {t t′ : List ℕ} (i : Inserted t t′) (c c′ : Counts) : Type 0 where

@@ -12,7 +12,6 @@ use Rattle.sdp_lines.specs.declared.Cursor.{Cursor}
 use Rattle.sdp_area.specs.Session.{Within, empty}
 use Rattle.sdp_area.specs.Area.{encode}
 use Rattle.sdp_counts.specs.Count.{noCounts}
-use Rattle.sdp_counts.specs.declared.Counts.{Counts}
 use Rattle.sdp_turn.specs.Turn.{Standing, searching, Lined, on, ended, stopped, unread, Stands, Turned}
 use Rattle.sdp_read.specs.From.{Reached, beginAt, countsAt, lineAt, Ends}
 use Rattle.sdp_turn.specs.declared.State.{State}

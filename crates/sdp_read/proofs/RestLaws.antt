@@ -28,7 +28,7 @@ use Rattle.sdp_counts.proofs.MediaLaws.{step-medias}
 use Rattle.sdp_line.specs.Version.{noVersion, badVersion, isZero, openingOf}
 use Rattle.sdp_line.specs.declared.Opening.{Opening}
 use Rattle.sdp_line.specs.declared.Opening.the-variants as opening
-use Rattle.sdp_turn.specs.Turn.{oneKept, oneOf, Standing, searching, reading, Lined, on, ended, stopped, unread, openedTo, stepped, lineOf}
+use Rattle.sdp_turn.specs.Turn.{oneOf, Standing, searching, reading, Lined, on, ended, stopped, unread, openedTo, stepped, lineOf}
 use Rattle.sdp_read.specs.Run.{Verdict, accepted, refused, after, stepForm, run, version as firstLine, beginForm, begin}
 use Rattle.sdp_read.specs.From.{Reached, runAt, beginAt, lineAt}
 use Rattle.sdp_turn.proofs.TurnLaws.{fault-told}

@@ -28,7 +28,7 @@ pub plus-none : (c : Counts) → c ≡ plus noCounts c
 plus-none c = counts-are (omega arith) (omega arith) (omega arith)
 
 pub none-left : (k : Counts) (medias : ℕ) → plus k (countFrom medias []) ≡ k
-unfolding Count.emptyLines Count.ignoredFrom Count.usedFrom
+unfolding Count.emptyLines Count.sumFrom
 none-left k medias = counts-are (omega arith) (omega arith) (omega arith)
 
 module _ (k : Counts) (r : Raw) (rs : List Raw) where
@@ -42,13 +42,13 @@ module _ (k : Counts) (r : Raw) (rs : List Raw) where
 
   module _ (medias : ℕ) where
     pub blank-next : formOf (content r) ≡ Blank → plus k (countFrom medias (r ∷ rs)) ≡ plus (oneEmpty k) (countFrom medias rs)
-    unfolding Count.emptyLines Count.ignoredFrom Count.usedFrom
+    unfolding Count.emptyLines Count.sumFrom
     blank-next e =
         let m : medias + 0 ≡ medias = omega arith in
         rw e (counts-are (omega arith) (omega (arith, ap (λ (n : ℕ). ignoredFrom n rs) m)) (omega (arith, ap (λ (n : ℕ). usedFrom n rs) m)))
 
     pub good-next : (l : ℕ) → formOf (content r) ≡ Good l → plus k (countFrom medias (r ∷ rs)) ≡ plus (oneOf (kindOf (roleAt medias l)) k) (countFrom (medias + opens (roleAt medias l)) rs)
-    unfolding Count.emptyLines Count.ignoredFrom Count.usedFrom
+    unfolding Count.emptyLines Count.sumFrom
     good-next l e = rw e (go (kindOf (roleAt medias l)))
       where
         go : (x : Kind) → plus k (record { empty = 0 + emptyLines rs; ignored = byKind x 1 0 0 + ignoredFrom (medias + byKind x 0 1 0) rs; kept = byKind x 0 1 1 + usedFrom (medias + byKind x 0 1 0) rs })

@@ -9,6 +9,7 @@ pub data Kind : Type 0 where
   media : Kind
   other : Kind
 
+-- every role but these two is another use
 abbrev pub kindOf : Role → Kind
 kindOf Nothing = unused
 kindOf Media = media

@@ -34,7 +34,7 @@ counted t s c p e f a h =
     (ap (λ o. o .answer .number) r, ap (λ o. o .counts) r ∙ f)
 
 pub line-counts : LineCounts
-unfolding Runs.indexOf Ranges.fits Utf8.isUtf8 Utf8.utf8End Utf8.endFrom Utf8.charLen Number.allDigits Number.value Number.digitsBelow Number.dropPlus Number.numeral Number.wholeNumber Lines.split Lines.chop Lines.content Lines.hasNulOrCr Lines.plainForm Lines.formOf Split.firstPiece Split.pieceAfter Split.restAfter Split.wordsFrom Split.wordsAt Read.nextNumber Records.timesOf Records.attributeOf MediaLine.portOf MediaLine.mediaOf Roles.beforeMedia Roles.fromMedia Step.row Step.stepRole Run.run Run.begin Run.lines Count.emptyLines Count.usedFrom Count.ignoredFrom Count.keptLines Count.ignoredLines Count.lfs Count.unended
+unfolding Runs.indexOf Ranges.fits Utf8.isUtf8 Utf8.utf8End Utf8.endFrom Utf8.charLen Number.allDigits Number.value Number.digitsBelow Number.dropPlus Number.numeral Number.wholeNumber Lines.split Lines.chop Lines.content Lines.hasNulOrCr Lines.plainForm Lines.formOf Split.firstPiece Split.pieceAfter Split.restAfter Split.wordsFrom Split.wordsAt Read.nextNumber Records.timesOf Records.attributeOf MediaLine.portOf MediaLine.mediaOf Roles.beforeMedia Roles.fromMedia Step.row Step.stepRole Run.run Run.begin Run.lines Count.emptyLines Count.sumFrom Count.keptLines Count.ignoredLines Count.lfs Count.unended
 line-counts = record {
   v-counts = counted «V» _ _ refl refl refl;
   v-lines = refl;

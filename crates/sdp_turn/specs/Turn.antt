@@ -26,7 +26,6 @@ use Rattle.sdp_line.specs.Version.{answer, noVersion, openingOf}
 use Rattle.sdp_line.specs.declared.Opening.{Opening}
 use Rattle.sdp_line.specs.declared.Opening.the-variants as opening
 use Rattle.sdp_turn.specs.declared.State.{State}
-use Rattle.sdp_turn.specs.declared.Ended.{Ended}
 use Rattle.sdp_turn.specs.declared.Ended.the-variants.{Accepted, Stopped, Unread}
 use Rattle.sdp_turn.specs.declared.Turn.{Turn}
 use Rattle.sdp_turn.specs.declared.Turn.the-variants.{Goes, Over}
@@ -56,13 +55,16 @@ placeOf number place = cond (eqb number refusals.encoding) place 0
 abbrev pub wrongAt : ℕ → ℕ → Wrong → Answer
 wrongAt n p w = record { number = w .number; line = n; field = w .field; place = placeOf (w .number) (p + w .at); len = 0 }
 
--- ---- counts: a line is empty, ignored or kept
+-- ---- counts
+-- one empty line more
 abbrev pub oneEmpty : Counts → Counts
 oneEmpty c = record { empty = c .empty + 1; ignored = c .ignored; kept = c .kept }
 
+-- one ignored line more
 abbrev pub oneIgnored : Counts → Counts
 oneIgnored c = record { empty = c .empty; ignored = c .ignored + 1; kept = c .kept }
 
+-- one kept line more
 abbrev pub oneKept : Counts → Counts
 oneKept c = record { empty = c .empty; ignored = c .ignored; kept = c .kept + 1 }
 
@@ -109,9 +111,11 @@ lineOf s (reading ρ c) (Refused f n) = stopped (answer (faultNumber f) (n .0) 0
 lineOf s (reading ρ c) End = ended (ρ .session) c
 
 -- ---- the code's state
+-- its marks
 abbrev pub marksIn : State → Marks
 marksIn g = record { named = g .named; zoned = g .zoned }
 
+-- its counts
 abbrev pub countsIn : State → Counts
 countsIn g = record { empty = g .empty; ignored = g .ignored; kept = g .kept }
 
@@ -123,28 +127,34 @@ linesIn g = g .empty + g .ignored + g .kept
 abbrev pub Few : State → Type 0
 Few g = linesIn g ≤ longestText
 
--- one line more
+-- the state after an empty line
 abbrev pub emptyMore : State → State
 emptyMore g = record { named = g .named; zoned = g .zoned; begun = g .begun; empty = g .empty + 1; ignored = g .ignored; kept = g .kept }
 
+-- after an ignored one
 abbrev pub ignoredMore : State → State
 ignoredMore g = record { named = g .named; zoned = g .zoned; begun = g .begun; empty = g .empty; ignored = g .ignored + 1; kept = g .kept }
 
+-- after a kept one, which leaves the marks m; the first of these is the version line
 abbrev pub keptMore : State → Marks → State
 keptMore g m = record { named = m .named; zoned = m .zoned; begun = true; empty = g .empty; ignored = g .ignored; kept = g .kept + 1 }
 
 -- ---- the code's answers
+-- a refusal, after the version line or before it
 abbrev pub refusedTurn : Bool → Answer → Turn
 refusedTurn true x = Over (Stopped x)
 refusedTurn false x = Over (Unread x)
 
+-- no line is left
 abbrev pub endTurn : State → Turn
 endTurn g = cond (g .begun) (Over (Accepted (countsIn g))) (Over (Unread noVersion))
 
+-- the first line that is not empty, by what it says
 abbrev pub openedTurnTo : State → Opening → Turn
 openedTurnTo g opening.Zero = Goes (keptMore g (marksIn g))
 openedTurnTo g (opening.Refused x) = Over (Unread x)
 
+-- a line of good form, as goodLine
 abbrev pub openedTurn : List ℕ → State → ℕ → ℕ → Span → Turn
 openedTurn s g n l v = openedTurnTo g (openingOf n (v .at .0) l (bytesOf s v))
 
