@@ -1,7 +1,7 @@
-/* Prints what a session description announces, when it starts in the week that begins with its first time, how many of its
- * lines were kept, ignored and empty, and then its written form, as rust/sdp/examples/announce.rs does. The text comes
- * from a file or from standard input. The exit status is 0, or 1 for a text that is refused, or 2 where something can't be
- * read or written. From the root of the repository:
+/* Prints what a session description announces, each with the line that it was read from, when it starts in the week that
+ * begins with its first time, how many of its lines were kept, ignored and empty, and then its written form, as
+ * rust/sdp/examples/announce.rs does. The text comes from a file or from standard input. The exit status is 0, or 1 for a
+ * text that is refused, or 2 where something can't be read or written. From the root of the repository:
  *
  *     rt staticlib sdp && cc -std=c11 -Ic -o target/example c/example.c target/staticlib/libsdp.a
  *     target/example FILE
@@ -47,6 +47,12 @@ static size_t row(size_t table, size_t width, unsigned n) {
     return table + 2 + (n - 1) * width;
 }
 
+/* The line of row n of a table, by the table's column of lines; of a field n is 1. Nothing where there is none. */
+static void put_line(size_t lines, uint64_t n) {
+    unsigned line = two(lines + (n - 1) * 2);
+    if (line > 0) printf(" (line %u)", line);
+}
+
 static void print_starts(void) {
     const uint64_t week = 7 * 86400;
     uint64_t from = two(SDP_TIMES) > 0 ? eight(row(SDP_TIMES, SDP_TIMES_ROW, 1)) : 0;
@@ -59,7 +65,11 @@ static void print_starts(void) {
     }
     for (uint64_t i = 0; i < starts.count; i++) {
         printf("starts: %" PRIu64 " by time %" PRIu64, starts.at[i], starts.time[i]);
-        if (starts.repeat[i] > 0) printf(", repeat %" PRIu64, starts.repeat[i]);
+        put_line(SDP_TIMES_LINES, starts.time[i]);
+        if (starts.repeat[i] > 0) {
+            printf(", repeat %" PRIu64, starts.repeat[i]);
+            put_line(SDP_REPEATS_LINES, starts.repeat[i]);
+        }
         printf("\n");
     }
 }
@@ -67,10 +77,13 @@ static void print_starts(void) {
 static void print_session(struct sdp_counts counts) {
     printf("name: ");
     put_string(SDP_NAME);
+    put_line(SDP_NAME_LINE, 1);
     printf("\n");
     for (unsigned t = 1; t <= two(SDP_TIMES); t++) {
         size_t time = row(SDP_TIMES, SDP_TIMES_ROW, t);
-        printf("time: %" PRIu64 " to %" PRIu64 "\n", eight(time), eight(time + 8));
+        printf("time: %" PRIu64 " to %" PRIu64, eight(time), eight(time + 8));
+        put_line(SDP_TIMES_LINES, t);
+        printf("\n");
         for (unsigned r = 1; r <= two(SDP_REPEATS); r++) {
             size_t repeat = row(SDP_REPEATS, SDP_REPEATS_ROW, r);
             if (two(repeat) != t) continue; /* of another time */
@@ -79,19 +92,30 @@ static void print_session(struct sdp_counts counts) {
                 size_t offset = row(SDP_OFFSETS, SDP_OFFSETS_ROW, o);
                 if (two(offset) == r) printf(" %" PRIu64, eight(offset + 2));
             }
+            put_line(SDP_REPEATS_LINES, r);
             printf("\n");
         }
     }
     for (unsigned z = 1; z <= two(SDP_ZONES); z++) {
         size_t zone = row(SDP_ZONES, SDP_ZONES_ROW, z);
-        printf("zone: %" PRId64 " s from %" PRIu64 " on\n", signed_eight(zone + 8), eight(zone));
+        printf("zone: %" PRId64 " s from %" PRIu64 " on", signed_eight(zone + 8), eight(zone));
+        put_line(SDP_ZONES_LINES, z);
+        printf("\n");
     }
     print_starts();
     for (unsigned m = 1; m <= two(SDP_MEDIAS); m++) {
         size_t media = row(SDP_MEDIAS, SDP_MEDIAS_ROW, m);
         printf("media: ");
         put_string(media);
-        printf(" to port %u\n", two(media + 4));
+        printf(" to port %u", two(media + 4));
+        put_line(SDP_MEDIAS_LINES, m);
+        printf("\n");
+        if (two(media + SDP_MEDIAS_TITLE_MARK) == 1) {
+            printf("  title: ");
+            put_string(media + SDP_MEDIAS_TITLE);
+            put_line(SDP_MEDIA_TITLES_LINES, m);
+            printf("\n");
+        }
         for (unsigned a = 1; a <= two(SDP_ATTRIBUTES); a++) {
             size_t attribute = row(SDP_ATTRIBUTES, SDP_ATTRIBUTES_ROW, a);
             if (two(attribute) != m) continue; /* of the session, or of another media */
@@ -101,6 +125,7 @@ static void print_session(struct sdp_counts counts) {
                 printf(":");
                 put_string(attribute + 8);
             }
+            put_line(SDP_ATTRIBUTES_LINES, a);
             printf("\n");
         }
     }

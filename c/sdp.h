@@ -9,7 +9,8 @@
  *     static uint8_t area[SDP_AREA_SIZE];
  *     struct sdp_told told = sdp_read(text, text_len, area, sizeof area);
  *     if (told.answer.number != 0) ...                   // refused: sdp_words.h makes a sentence of the answer
- *     ...                                                // the area holds the session: see "The area" below
+ *     ...                                                // the area holds the session: see "The area" below, and
+ *                                                        // "The lines" for where in the text each record stands
  *     ... told.counts.ignored ...                        // so many lines had no use
  *     struct sdp_answer answer = sdp_length(text, text_len, area, sizeof area);
  *     uint8_t *out = malloc(answer.len);                 // or lend SDP_ROOM bytes, and don't ask for the length
@@ -39,10 +40,11 @@ extern "C" {
 #endif
 
 enum {
-    SDP_AREA_SIZE = 14558, /* bytes of an area; sdp_area_size() answers the same: assert it once at the start */
-    SDP_LONGEST = 32768,   /* bytes that a text may have */
-    SDP_ROOM = 43727,      /* bytes of output that are enough for any text that was read */
-    SDP_MOST_STARTS = 256  /* starts that sdp_starts lists at most */
+    SDP_AREA_SIZE = 16938,         /* bytes of an area; sdp_area_size() answers the same: assert it once at the start */
+    SDP_EARLIER_AREA_SIZE = 14558, /* bytes of one that was kept before records had lines: see "The lines" below */
+    SDP_LONGEST = 32768,           /* bytes that a text may have */
+    SDP_ROOM = 43727,              /* bytes of output that are enough for any text that was read */
+    SDP_MOST_STARTS = 256          /* starts that sdp_starts lists at most */
 };
 
 /* The number of an answer: 0, or why not. docs/REFUSALS.md has more words, and the numbers of the fields. */
@@ -70,7 +72,7 @@ enum sdp_refusal {
     SDP_REPEAT_WITHOUT_TIME = 20,  /* an r line with no t line before it */
     SDP_TABLE_FULL = 21,           /* gives line, and the table as field: 1 emails .. 10 medias, as in "The area" */
     SDP_OUTPUT_TOO_SHORT = 22,     /* by sdp_fill alone; gives as len the bytes that an output needs */
-    SDP_BAD_SESSION = 23,          /* the area holds no session for this text */
+    SDP_BAD_SESSION = 23,          /* the area holds no session for this text; a line above 32768 too */
     SDP_ZONES_FALL = 28,           /* an adjustment time of the z line is below the one before it */
     SDP_TOO_MANY_STARTS = 29       /* more than SDP_MOST_STARTS in the window */
 };
@@ -152,7 +154,7 @@ struct sdp_answer sdp_length(const uint8_t *text, size_t text_len, const uint8_t
  * as sdp_length answers them, then 22 where out is too short, with the length that is needed as len. Into as many bytes as
  * sdp_length answered it is never 22. A key is never written. One that an earlier release left in the area is judged by
  * both calls as all else there: 23 where its marks are neither 0 nor 1, or its strings don't stand in the text or are not
- * UTF-8. */
+ * UTF-8, or its line is above 32768. */
 struct sdp_answer sdp_fill(const uint8_t *text, size_t text_len, const uint8_t *area, size_t area_len,
                            uint8_t *out, size_t out_len);
 
@@ -259,6 +261,41 @@ enum {
     SDP_MEDIAS_PROTO = 10, SDP_MEDIAS_FMT = 14, SDP_MEDIAS_TITLE_MARK = 18, SDP_MEDIAS_TITLE = 20,
     SDP_MEDIAS_KEY_MARK = 24, SDP_MEDIAS_KEY_METHOD = 26, SDP_MEDIAS_KEY_TEXT_MARK = 30,
     SDP_MEDIAS_KEY_TEXT = 32
+};
+
+/* The lines.
+ *
+ * Behind the session the area has the line of the text that each record was read from, 2 bytes for each: a cell for each
+ * field, and for each table a column with a cell for each row that it has room for. That of row n, from 1, is at
+ * SDP_x_LINES + (n - 1) * 2. So the line of the second media stands at SDP_MEDIAS_LINES + 2, and that of its title at
+ * SDP_MEDIA_TITLES_LINES + 2. Lines count from 1, as in an answer. An offset has the line of its r line, a zone that of the
+ * z line. 0 is no line: the field is absent or the name missing, the cell is past the table's count, or the session was made
+ * by hand.
+ *
+ * An area that was kept before records had lines has SDP_EARLIER_AREA_SIZE bytes, and is too short now. Copy it into one
+ * that is zero. Then it is the same session, judged and written as before, and no line is known:
+ *
+ *     static uint8_t area[SDP_AREA_SIZE];                // zero, since it is static
+ *     memcpy(area, earlier, SDP_EARLIER_AREA_SIZE); */
+enum {
+    SDP_ORIGIN_LINE = 14558,
+    SDP_NAME_LINE = 14560,
+    SDP_DESCRIPTION_LINE = 14562,
+    SDP_URI_LINE = 14564,
+    SDP_CONNECTION_LINE = 14566, /* of the session */
+    SDP_KEY_LINE = 14568,        /* zero, as SDP_KEY */
+    SDP_EMAILS_LINES = 14570,
+    SDP_PHONES_LINES = 14602,
+    SDP_MEDIA_CONNECTIONS_LINES = 14634,
+    SDP_BANDWIDTHS_LINES = 14762,
+    SDP_TIMES_LINES = 14890,
+    SDP_REPEATS_LINES = 14954,
+    SDP_OFFSETS_LINES = 15082,
+    SDP_ZONES_LINES = 15594,
+    SDP_ATTRIBUTES_LINES = 15722,
+    SDP_MEDIAS_LINES = 16746,
+    SDP_MEDIA_TITLES_LINES = 16810, /* of the title of media n */
+    SDP_MEDIA_KEYS_LINES = 16874    /* zero, as SDP_KEY */
 };
 
 #ifdef __cplusplus

@@ -136,7 +136,7 @@ fn canon(text: &[u8], area: &mut [u8], out: &mut [u8]) -> usize
     n
 }
 
-// One byte more than a text may have tells that it is too long. The area has sdp_area's SIZE, and out the room that canon
+// One byte more than a text may have tells that it is too long. The area has sdp_area's AREA_SIZE, and out the room that canon
 // asks for.
 fn main() {
     let mut text = [0u8; 32769];
@@ -146,7 +146,7 @@ fn main() {
         return;
     }
     let n = input.len;
-    let mut area = [0u8; 14558];
+    let mut area = [0u8; 16938];
     let mut out = [0u8; 49152];
     let m = canon(&text[..n], &mut area, &mut out);
     if !write_text(&out[..m]) {

@@ -4,7 +4,7 @@ ghost use Rattle.sdp_utf8.specs.Utf8.{utf8End};
 ghost use Rattle.sdp_bytes.specs.Token.{isToken};
 ghost use Rattle.sdp_number.specs.Number.{wholeNumber, typedTime};
 ghost use Rattle.sdp_lines.specs.Lines.{cutAt};
-ghost use Rattle.sdp_area.specs.Area.{size};
+ghost use Rattle.sdp_area.specs.Columns.{areaSize};
 ghost use Rattle.sdp_read.specs.Run.{readText, toldOf};
 ghost use Rattle.sdp_write.specs.Write.{lengthText, fillText};
 ghost use Rattle.sdp_order.specs.Order.{orderOf, verdictOf};
@@ -120,7 +120,7 @@ pub extern "C" fn sdp_starts(text: &[u8], area: &[u8], from: u64, to: u64) -> St
 // The size of the record area in bytes.
 #[no_mangle]
 pub extern "C" fn sdp_area_size() -> usize
-    ensures { λ r. ⌜ r ≡ size ⌝ }
+    ensures { λ r. ⌜ r ≡ areaSize ⌝ }
 {
-    sdp_area::SIZE
+    sdp_area::AREA_SIZE
 }

@@ -12,7 +12,7 @@ use Rattle.sdp_lines.specs.declared.Span.{Span}
 use Rattle.sdp_lines.specs.declared.Form.{Form}
 use Rattle.sdp_lines.specs.declared.Form.the-variants.{Blank, Good, Bad}
 use Rattle.sdp_area.specs.Session.{Session}
-use Rattle.sdp_area.specs.Area.{size}
+use Rattle.sdp_area.specs.Columns.{areaSize}
 use Rattle.sdp_roles.specs.Roles.{roleAt}
 use Rattle.sdp_roles.specs.Kinds.{Kind, unused, media, other, kindOf, byKind}
 use Rattle.sdp_strings.specs.Strings.{spanAt}
@@ -84,7 +84,7 @@ lines-once t s e = begin-once (split t) s 1 0 e ∙ split-count t
 module _ (t a : List ℕ) where
   refused-none : 0 < readText t a .answer .number → readText t a .counts ≡ noCounts
   unfolding Run.readText
-  refused-none = go (ltb (length a) size) (ltb longestText (length t)) (lines spanAt t)
+  refused-none = go (ltb (length a) areaSize) (ltb longestText (length t)) (lines spanAt t)
     where
       result : Bool → Bool → Verdict Span → Outcome
       result b c v = cond b (untouched a 2) (cond c (untouched a 1) (outcomeOf t a v))

@@ -77,12 +77,33 @@ module _ (s : Session Span) (t : List ℕ) (ok : Within s) (a : List ℕ) (is : 
   unfolding encode
   medias-grown = table-grown mediaRow 32 36 (lit< tt) 15 (lit< tt) (s .tables .medias) refl (ok .medias) length-media
 
-  -- ---- the counts that owners take
+  -- ---- how many rows there are
+  pub emails-count : num 2 a emailsAt ≡ length (s .tables .emails)
+  emails-count = table-count span 16 4 (lit< tt) 6 (lit< tt) (s .tables .emails) refl (ok .emails)
+
+  pub phones-count : num 2 a phonesAt ≡ length (s .tables .phones)
+  phones-count = table-count span 16 4 (lit< tt) 7 (lit< tt) (s .tables .phones) refl (ok .phones)
+
+  pub connections-count : num 2 a connectionsAt ≡ length (s .tables .connections)
+  connections-count = table-count mediaConnectionRow 64 14 (lit< tt) 8 (lit< tt) (s .tables .connections) refl (ok .connections)
+
+  pub bandwidths-count : num 2 a bandwidthsAt ≡ length (s .tables .bandwidths)
+  bandwidths-count = table-count bandwidthRow 64 14 (lit< tt) 9 (lit< tt) (s .tables .bandwidths) refl (ok .bandwidths)
+
   pub times-count : num 2 a timesAt ≡ length (s .tables .times)
   times-count = table-count timeRow 32 16 (lit< tt) 10 (lit< tt) (s .tables .times) refl (ok .times)
 
   pub repeats-count : num 2 a repeatsAt ≡ length (s .tables .repeats)
   repeats-count = table-count repeatRow 64 18 (lit< tt) 11 (lit< tt) (s .tables .repeats) refl (ok .repeats)
+
+  pub offsets-count : num 2 a offsetsAt ≡ length (s .tables .offsets)
+  offsets-count = table-count offsetRow 256 10 (lit< tt) 12 (lit< tt) (s .tables .offsets) refl (ok .offsets)
+
+  pub zones-count : num 2 a zonesAt ≡ length (s .tables .zones)
+  zones-count = table-count zoneRow 64 16 (lit< tt) 13 (lit< tt) (s .tables .zones) refl (ok .zones)
+
+  pub attributes-count : num 2 a attributesAt ≡ length (s .tables .attributes)
+  attributes-count = table-count attributeRow 512 12 (lit< tt) 14 (lit< tt) (s .tables .attributes) refl (ok .attributes)
 
   pub medias-count : num 2 a mediasAt ≡ length (s .tables .medias)
   medias-count = table-count mediaRow 32 36 (lit< tt) 15 (lit< tt) (s .tables .medias) refl (ok .medias)

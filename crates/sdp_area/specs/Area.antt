@@ -103,7 +103,7 @@ segments s =
 unfoldable pub encode : Session Span → List ℕ
 encode s = cat (segments s)
 
--- "one record area of a fixed size"
+-- the bytes of every session; the lines that its records were read from stand behind it (Columns.antt)
 abbrev pub size : ℕ
 size = 14558
 

@@ -10,6 +10,7 @@ ghost use Rattle.sdp_numbers.specs.Tables.{mostMediaConnections, mostBandwidths
 ghost use Rattle.sdp_cells.specs.Bytes.{le, num, over, zeros};
 ghost use Rattle.sdp_cells.specs.Tables.{pairs, grown, told};
 ghost use Rattle.sdp_area.specs.Area.{size, span, originBytes, connectionBytes, mediaConnectionRow, bandwidthRow, timeRow, repeatRow, offsetRow, zoneRow, attributeRow, mediaRow, originAt, nameAt, connectionAt, phonesAt, connectionsAt, bandwidthsAt, timesAt, repeatsAt, offsetsAt, zonesAt, attributesAt, mediasAt};
+ghost use Rattle.sdp_area.specs.Columns.{areaSize};
 ghost use Rattle.sdp_area.specs.Latest.{overTitle, markTitle};
 ghost use Rattle.sdp_area.specs.Maybe.{maybe, maybePorts};
 ghost use Rattle.sdp_area.specs.Which.{markText, overText, contactsAt, mostContacts};
@@ -20,8 +21,8 @@ use sdp_cells::push_words;
 use sdp_cells::put_words;
 use sdp_lines::Span;
 
-// Bytes of the area.
-pub const SIZE: usize = 14558;
+// Bytes of the area: the session's, and behind them the lines.
+pub const AREA_SIZE: usize = 16938;
 
 pub const ORIGIN: usize = 0;
 
@@ -55,6 +56,42 @@ pub const ATTRIBUTES: usize = 7258;
 
 pub const MEDIAS: usize = 13404;
 
+pub const ORIGIN_LINE: usize = 14558;
+
+pub const NAME_LINE: usize = 14560;
+
+pub const DESCRIPTION_LINE: usize = 14562;
+
+pub const URI_LINE: usize = 14564;
+
+pub const CONNECTION_LINE: usize = 14566;
+
+pub const KEY_LINE: usize = 14568;
+
+pub const EMAIL_LINES: usize = 14570;
+
+pub const PHONE_LINES: usize = 14602;
+
+pub const CONNECTION_LINES: usize = 14634;
+
+pub const BANDWIDTH_LINES: usize = 14762;
+
+pub const TIME_LINES: usize = 14890;
+
+pub const REPEAT_LINES: usize = 14954;
+
+pub const OFFSET_LINES: usize = 15082;
+
+pub const ZONE_LINES: usize = 15594;
+
+pub const ATTRIBUTE_LINES: usize = 15722;
+
+pub const MEDIA_LINES: usize = 16746;
+
+pub const TITLE_LINES: usize = 16810;
+
+pub const KEY_LINES: usize = 16874;
+
 // A string that may be absent.
 pub struct MaybeSpan {
     pub there: bool,
@@ -82,11 +119,11 @@ pub enum Contact {
 
 // All of the area zero; what stands behind it stays.
 pub fn clear(area: &mut [u8])
-    requires { ⌜ size ≤ length (now area) ⌝ }
-    ensures { λ _. ⌜ now (area .exit) ≡ zeros size ++ drop size (now (area .entry)) ⌝ }
+    requires { ⌜ areaSize ≤ length (now area) ⌝ }
+    ensures { λ _. ⌜ now (area .exit) ≡ zeros areaSize ++ drop areaSize (now (area .entry)) ⌝ }
 {
     let mut i: usize = 0;
-    while i < SIZE {
+    while i < AREA_SIZE {
         area[i] = 0;
         i += 1;
     }
@@ -449,6 +486,14 @@ pub fn times(area: &[u8]) -> usize
     ensures { λ r. ⌜ (r ≡ num 2 (now (area .entry)) timesAt) × (r < 65536) ⌝ }
 {
     get2(area, TIMES)
+}
+
+// How many offsets there are.
+pub fn offsets(area: &[u8]) -> usize
+    requires { ⌜ size ≤ length (now area) ⌝ }
+    ensures { λ r. ⌜ (r ≡ num 2 (now (area .entry)) offsetsAt) × (r < 65536) ⌝ }
+{
+    get2(area, OFFSETS)
 }
 
 // How many repeats there are.

@@ -7,7 +7,7 @@ use lib.ListN.{length, drop, length-map}
 use Rattle.sdp_lines.specs.Strings.{bytesOf}
 use Rattle.sdp_lines.specs.declared.Span.{Span}
 use Rattle.sdp_area.specs.Session.{MediaConnection, Bandwidth, Attribute, Session}
-use Rattle.sdp_area.specs.Area.{size}
+use Rattle.sdp_area.specs.Columns.{areaSize}
 use Rattle.sdp_strings.specs.Strings.{spanAt}
 use Rattle.sdp_read.specs.Run.{Verdict, accepted, refused, lines, readText}
 use Rattle.sdp_row.specs.Written.{written}
@@ -18,7 +18,7 @@ use Rattle.sdp_same.specs.Said.{saidMediaConnection, saidBandwidth, saidAttribu
 use Rattle.sdp_same.specs.Sound.{FineIn, Rising, Sound}
 use Rattle.sdp_same.proofs.LinesLaws.{accepted-said, refused-said}
 use Rattle.sdp_same.proofs.SoundLaws.{read-sound}
-use Rattle.sdp_same.proofs.SameLaws.{read-is, read-fits, length-is, write-is, read-then-write}
+use Rattle.sdp_same.proofs.SameLaws.{read-is, read-fits, left-length, left-written, read-then-write}
 use Rattle.sdp_same.proofs.WrittenLaws.{id, written-said}
 use Rattle.sdp_back.specs.Again.{again}
 use Rattle.sdp_back.specs.Back.{SaysAgain, ReadBack}
@@ -88,7 +88,7 @@ text-back t s e =
 -- ---- over the promises of read and write
 -- what is written of what t says, read again
 module _ (t : List ℕ) (s : Session Span) (e : lines spanAt t ≡ accepted s) (o b : List ℕ) where
-  says-again : (r : writer.Outcome) → r ≡ fill (written (bytesOf t) s) o → r .answer .number ≡ 0 → length (wrote r) ≤ 32768 → size ≤ length b → SaysAgain (said (bytesOf t) s) (wrote r) b
+  says-again : (r : writer.Outcome) → r ≡ fill (written (bytesOf t) s) o → r .answer .number ≡ 0 → length (wrote r) ≤ 32768 → areaSize ≤ length b → SaysAgain (said (bytesOf t) s) (wrote r) b
   says-again r f n l m =
       let w : wrote r ≡ written (bytesOf t) s = ap wrote f ∙ wrote-fill (written (bytesOf t) s) o (rw f at n) in
       let q : lines bytesAt (wrote r) ≡ accepted (again (said (bytesOf t) s)) = ap (lines bytesAt) w ∙ back t s e in
@@ -113,6 +113,6 @@ kept-back t a k c o b short full =
     let w = kept-written t a k short o in
     let left = read-is t c short full (accepted s) (k .today) in
     let sound = read-sound t s (k .today) in
-    let long : lengthText t (readText t c .area) ≡ answer 0 (length (written (bytesOf t) s)) = ap (λ r. lengthText t (r .area)) left ∙ length-is t short s sound (drop size c) in
-    let today : fillText t (readText t c .area) o ≡ fill (written (bytesOf t) s) o = ap (λ r. fillText t (r .area) o) left ∙ write-is t short s sound (drop size c) o in
+    let long : lengthText t (readText t c .area) ≡ answer 0 (length (written (bytesOf t) s)) = ap (λ r. lengthText t (r .area)) left ∙ left-length t short s sound (drop areaSize c) in
+    let today : fillText t (readText t c .area) o ≡ fill (written (bytesOf t) s) o = ap (λ r. fillText t (r .area) o) left ∙ left-written t short s sound (drop areaSize c) o in
     (kept-length t a k short ∙ sym long, w ∙ sym today, says-again t s (k .today) o b _ w)

@@ -1,5 +1,6 @@
 -- Keys: no reader keeps one, and an area that has some is written without them. Assumes nothing.
 use mathlib.Core.Path.{_≡_, refl, sym, ap, ap₂, _∙_}
+use mathlib.Core.Bool.{true}
 use mathlib.Core.List.{List, [], _∷_, _++_, map}
 use mathlib.Core.Option.{Option, none, some, Option·map}
 use Prim.Native.Nat.{ℕ, _+_, _≤_}
@@ -8,12 +9,15 @@ use lib.ListN.{length, length-map}
 use Rattle.sdp_lines.specs.Strings.{bytesOf}
 use Rattle.sdp_lines.specs.declared.Span.{Span}
 use Rattle.sdp_area.specs.Session.{MediaConnection, Bandwidth, Attribute, Media, Session}
+use Rattle.sdp_area.specs.Area.{encode}
+use Rattle.sdp_area.specs.Columns.{areaSize}
 use Rattle.sdp_strings.specs.Strings.{spanAt}
 use Rattle.sdp_read.specs.Run.{accepted, lines}
 use Rattle.sdp_decode.specs.Rows as rows
 use Rattle.sdp_decode.specs.Rows.{each}
 use Rattle.sdp_row.specs.Written as form
 use Rattle.sdp_row.specs.Written.{headLines, contactLines, closingLines, mediaLines, written}
+use Rattle.sdp_stamp_valid.specs.Fine.{fineLines}
 use Rattle.sdp_write.specs.Write.{answer, lengthText, fill, fillText}
 use Rattle.sdp_same.specs.Fits.{IfGiven, Each, FitKey, FitMedia}
 use Rattle.sdp_same.specs.Said.{said, saidKey, saidMedia}
@@ -93,14 +97,20 @@ module _ (t a : List ℕ) (k : KeptFrom t a) (short : length t ≤ 32768) where
   sound : Sound (FineIn t) (k .session)
   sound = keyed-sound t (k .session) (k .keys) (read-sound t (withoutKeys (k .session)) (k .today))
 
+  full : areaSize ≤ length (encode (k .session) ++ k .behind)
+  full = rw (k .bytes) at (k .full)
+
+  fine : fineLines (encode (k .session) ++ k .behind) ≡ true
+  fine = rw (k .bytes) at (k .low)
+
   pub kept-length : lengthText t a ≡ answer 0 (length (written (bytesOf t) (withoutKeys (k .session))))
   kept-length =
       ap (lengthText t) (k .bytes)
-      ∙ length-is t short (k .session) sound (k .behind)
+      ∙ length-is t short (k .session) sound (k .behind) full fine
       ∙ ap (λ (w : List ℕ). answer 0 (length w)) (sym (written-keyless (bytesOf t) (k .session)))
 
   pub kept-written : (o : List ℕ) → fillText t a o ≡ fill (written (bytesOf t) (withoutKeys (k .session))) o
   kept-written o =
       ap (λ (x : List ℕ). fillText t x o) (k .bytes)
-      ∙ write-is t short (k .session) sound (k .behind) o
+      ∙ write-is t short (k .session) sound (k .behind) full fine o
       ∙ ap (λ (w : List ℕ). fill w o) (sym (written-keyless (bytesOf t) (k .session)))

@@ -1,5 +1,5 @@
 -- Demand 3: a session that the reader accepted, written with room and read back within the limit, is the same session, except that an empty
--- time list has become one `0 0` entry.
+-- time list has become one `0 0` entry. Document 02, P9: "same session" leaves the lines out.
 use mathlib.Core.Path.{_≡_}
 use mathlib.Core.List.{List}
 use Prim.Native.Nat.{ℕ, _≤_}
@@ -8,7 +8,7 @@ use Rattle.sdp_numbers.specs.Refusals.{longestText}
 use Rattle.sdp_lines.specs.Strings.{bytesOf}
 use Rattle.sdp_lines.specs.declared.Span.{Span}
 use Rattle.sdp_area.specs.Session.{Session}
-use Rattle.sdp_area.specs.Area.{size}
+use Rattle.sdp_area.specs.Columns.{areaSize}
 use Rattle.sdp_strings.specs.Strings.{spanAt}
 use Rattle.sdp_read.specs.Run.{accepted, outcomeOf, lines, readText}
 use Rattle.sdp_write.specs.Write.{wrote, fillText}
@@ -35,5 +35,5 @@ ReadBack t a o b =
     readText t a .answer .number ≡ 0
     → fillText t (readText t a .area) o .answer .number ≡ 0
     → length (wrote (fillText t (readText t a .area) o)) ≤ longestText
-    → size ≤ length b
+    → areaSize ≤ length b
     → SaidAgain t a (wrote (fillText t (readText t a .area) o)) b

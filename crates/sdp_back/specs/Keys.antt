@@ -1,6 +1,7 @@
 -- Document 02, P4: "Areas kept from earlier are judged as before, written without their keys, and demand 3's reading back leaves those keys
 -- out."
 use mathlib.Core.Path.{_≡_}
+use mathlib.Core.Bool.{true}
 use mathlib.Core.List.{List, _++_, map}
 use mathlib.Core.Option.{none}
 use Prim.Native.Nat.{ℕ, _≤_}
@@ -9,9 +10,11 @@ use Rattle.sdp_numbers.specs.Refusals.{longestText}
 use Rattle.sdp_lines.specs.Strings.{bytesOf}
 use Rattle.sdp_lines.specs.declared.Span.{Span}
 use Rattle.sdp_area.specs.Session.{Media, Session}
-use Rattle.sdp_area.specs.Area.{encode, size}
+use Rattle.sdp_area.specs.Area.{encode}
+use Rattle.sdp_area.specs.Columns.{areaSize}
 use Rattle.sdp_strings.specs.Strings.{spanAt}
 use Rattle.sdp_read.specs.Run.{accepted, lines, readText}
+use Rattle.sdp_stamp_valid.specs.Fine.{fineLines}
 use Rattle.sdp_write.specs.Write.{wrote, lengthText, fillText}
 use Rattle.sdp_same.specs.Fits.{IfGiven, Each, FitKey}
 use Rattle.sdp_same.specs.Said.{said}
@@ -60,11 +63,14 @@ pub record KeysIn (t : List ℕ) (s : Session Span) : Type 0 where
   pub session : IfGiven (FitKey (FineIn t)) (s .head .key)
   pub medias : Each (λ m. IfGiven (FitKey (FineIn t)) (m .key)) (s .tables .medias)
 
--- an area that a reader which kept keys left of the text t: the session that t says today, and any keys of t
+-- an area that a reader which kept keys left of the text t: the session that t says today, and any keys of t. Behind it may stand whatever
+-- is judged well: document 02, P9, asks of an area that it has the full size, and no line above the limit
 pub record KeptFrom (t a : List ℕ) : Type 0 where
   pub session : Session Span
   pub behind : List ℕ
   pub bytes : a ≡ encode session ++ behind
+  pub full : areaSize ≤ length a
+  pub low : fineLines a ≡ true
   pub keys : KeysIn t session
   pub today : lines spanAt t ≡ accepted (withoutKeys session)
 
@@ -73,10 +79,10 @@ pub record KeptFrom (t a : List ℕ) : Type 0 where
 abbrev pub KeptBack : (t a : List ℕ) → KeptFrom t a → List ℕ → List ℕ → List ℕ → Type 0
 KeptBack t a k c o b =
     length t ≤ longestText
-    → size ≤ length c
+    → areaSize ≤ length c
     → (lengthText t a ≡ lengthText t (readText t c .area))
     × (fillText t a o ≡ fillText t (readText t c .area) o)
     × (fillText t a o .answer .number ≡ 0
     → length (wrote (fillText t a o)) ≤ longestText
-    → size ≤ length b
+    → areaSize ≤ length b
     → SaysAgain (said (bytesOf t) (withoutKeys (k .session))) (wrote (fillText t a o)) b)

@@ -22,7 +22,7 @@ use Rattle.sdp_lines.specs.Answers.{faultNumber}
 use Rattle.sdp_lines.proofs.LineLaws.{good-form}
 use Rattle.sdp_split.specs.Split.{part}
 use Rattle.sdp_judge.specs.declared.Wrong.{Wrong}
-use Rattle.sdp_area.specs.Area.{size}
+use Rattle.sdp_area.specs.Columns.{areaSize}
 use Rattle.sdp_strings.specs.Strings.{spanAt}
 use Rattle.sdp_step.specs.Step.{Reading, Stepped, goes, stops, step, fresh}
 use Rattle.sdp_blame.specs.Blame.{Blames}
@@ -158,7 +158,7 @@ module _ (t : List ℕ) where
 
   pub byte-told : (a : List ℕ) → Tells t (readText t a .answer)
   unfolding reader.readText
-  byte-told a = go (ltb (length a) size) (ltb longestText (length t))
+  byte-told a = go (ltb (length a) areaSize) (ltb longestText (length t))
     where
       go : (b c : Bool) → Tells t (cond b (untouched a 2) (cond c (untouched a 1) (outcomeOf t a (lines spanAt t))) .answer)
       go true c = other 2 0 0 (λ e. omega arith)

@@ -12,7 +12,7 @@ use Rattle.sdp_cells.specs.Tables.{pairs}
 use Rattle.sdp_cells.proofs.ByteLaws.{over-next, length-le}
 use Rattle.sdp_cells.proofs.TableLaws.{length-flat, flat-snoc}
 
-length-pairs : (ws : List ℕ) → length (pairs ws) ≡ length ws * 2
+pub length-pairs : (ws : List ℕ) → length (pairs ws) ≡ length ws * 2
 length-pairs ws = length-flat (le 2) 2 (length-le 2) ws
 
 -- one more written behind those before it

@@ -60,7 +60,7 @@ abbrev pub ignoredFrom : ℕ → List Raw → ℕ
 ignoredFrom medias rs = sumFrom (λ m f. idles m f) medias rs
 
 -- a choice by the form of a line: past an empty one, or here
-abbrev pub fromVersion : Form → ℕ → ℕ → ℕ
+abbrev pub fromVersion : {A : Type 0} → Form → A → A → A
 fromVersion Blank skip here = skip
 fromVersion (Good l) skip here = here
 fromVersion (Bad f) skip here = here

@@ -1,6 +1,6 @@
 -- The length call tells the length that the fill needs. Assumes nothing.
 use mathlib.Core.Path.{_≡_, refl, sym, ap, _∙_}
-use mathlib.Core.Bool.{Bool, true, false, cond}
+use mathlib.Core.Bool.{Bool, true, false, _&&_, cond}
 use mathlib.Core.List.{List}
 use Prim.Native.Nat.{ℕ, _<_}
 use native.Mathlib.Omega.{arith}
@@ -9,8 +9,9 @@ use lib.Dec.{ltb, eqb}
 use borrow.Author.Tests.{eqb-true, eqb-false}
 use Rattle.sdp_numbers.specs.Refusals.{longestText}
 use Rattle.sdp_lines.specs.declared.Answer.{Answer}
-use Rattle.sdp_area.specs.Area.{size}
+use Rattle.sdp_area.specs.Columns.{areaSize}
 use Rattle.sdp_valid.specs.Judge.{wellFormed}
+use Rattle.sdp_stamp_valid.specs.Fine.{fineLines}
 use Rattle.sdp_unfit.specs.Unfit as unfits
 use Rattle.sdp_unfit.specs.Unfit.{unfit}
 use Rattle.sdp_row.specs.Written
@@ -34,7 +35,7 @@ needs t a f = record {
 -- a refusal of the length call is 2, 1 or 23
 not-22 : (t a : List ℕ) → unfit t a ≡ 22 → ⊥
 unfolding unfits.unfit
-not-22 t a = go (ltb (length a) size) (ltb longestText (length t)) (wellFormed a t)
+not-22 t a = go (ltb (length a) areaSize) (ltb longestText (length t)) (wellFormed a t && fineLines a)
   where
     go : (s l f : Bool) → _≡_ {A = ℕ} (cond s 2 (cond l 1 (cond f 0 23))) 22 → ⊥
     go true l f e = omega (arith, e)

@@ -1,1 +1,2 @@
 pub mod FillLaws
+pub mod EarlierLaws

@@ -1,1 +1,2 @@
 pub mod Fills
+pub mod Earlier

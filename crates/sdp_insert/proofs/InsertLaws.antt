@@ -14,7 +14,7 @@ use Rattle.sdp_lines.specs.Strings.{bytesOf}
 use Rattle.sdp_lines.specs.declared.Span.{Span}
 use Rattle.sdp_lines.specs.declared.Answer.{Answer}
 use Rattle.sdp_area.specs.Session.{Session, empty}
-use Rattle.sdp_area.specs.Area.{size}
+use Rattle.sdp_area.specs.Columns.{areaSize}
 use Rattle.sdp_strings.specs.Strings.{spanAt}
 use Rattle.sdp_step.specs.Step.{fresh}
 use Rattle.sdp_read.specs.Run
@@ -63,9 +63,9 @@ module _ (t : List ℕ) where
       go (accepted x) q = absurd (let z : _≡_ {A = ℕ} 0 1 = cc in omega arith)
       go (refused x) q = let z : x ≡ y = cc in ap refused z
 
-  read-short : (a : List ℕ) → length a < size → readText t a ≡ untouched a 2
+  read-short : (a : List ℕ) → length a < areaSize → readText t a ≡ untouched a 2
   unfolding Run.readText
-  read-short a few = rw (lt-ltb (length a) size few)
+  read-short a few = rw (lt-ltb (length a) areaSize few)
 
 -- ---- over the promise of read: "the same session, or the same refusal with its line moved down by the insertions above it", and
 -- its place by their bytes
@@ -75,7 +75,7 @@ insertion {t} {t′} i short short′ a a′ = record {
   short = λ few few′. record { read = read-short t a few; read′ = read-short t′ a′ few′ };
 }
   where
-    go : Follows 1 (above i) (bytesAbove i) (lines bytesAt t) (lines bytesAt t′) → size ≤ length a → size ≤ length a′ → SameSession i a a′ ⊎ SameRefusal i a a′
+    go : Follows 1 (above i) (bytesAbove i) (lines bytesAt t) (lines bytesAt t′) → areaSize ≤ length a → areaSize ≤ length a′ → SameSession i a a′ ⊎ SameRefusal i a a′
     go (inl h) room room′ =
         let x = accepted-from t (h .session) (h .first) in
         let x′ = accepted-from t′ (h .session) (h .second) in

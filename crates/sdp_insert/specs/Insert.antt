@@ -16,7 +16,7 @@ use Rattle.sdp_lines.specs.declared.Span.{Span}
 use Rattle.sdp_lines.specs.declared.Form.{Form}
 use Rattle.sdp_lines.specs.declared.Form.the-variants.{Blank, Good, Bad}
 use Rattle.sdp_area.specs.Session.{Session}
-use Rattle.sdp_area.specs.Area.{size}
+use Rattle.sdp_area.specs.Columns.{areaSize}
 use Rattle.sdp_roles.specs.Roles.{roleAt}
 use Rattle.sdp_roles.specs.declared.Role.the-variants.{Nothing}
 use Rattle.sdp_strings.specs.Strings.{spanAt}
@@ -134,8 +134,9 @@ pub record Rise {t t′ : List ℕ} (i : Inserted t t′) (c c′ : Counts) : Ty
   pub exactly : emptyPut i + idlePut i ≡ linesPut i
 
 -- ---- the answers: t is read into the area a, t′ into the area a′
--- "the same session": counts, numbers, presence, owners and string bytes agree. The two sessions are what the texts say, which the bytes of
--- the areas alone would not tell: these hold a place's last two bytes
+-- "the same session": counts, numbers, presence, owners and string bytes agree; document 02, P9: it "leaves these numbers out", the lines, of
+-- which each area has those of its own text. The two sessions are what the texts say, which the bytes of the areas alone would not tell: these
+-- hold a place's last two bytes
 pub record SameSession {t t′ : List ℕ} (i : Inserted t t′) (a a′ : List ℕ) : Type 0 where
   pub session : Session Span
   pub session′ : Session Span
@@ -168,5 +169,5 @@ pub record TooShort (t t′ a a′ : List ℕ) : Type 0 where
 
 -- "the answer is demand 2's answer for the first text". Two areas of one length have both the stated size or are both too short
 pub record SameAnswer {t t′ : List ℕ} (i : Inserted t t′) (a a′ : List ℕ) : Type 0 where
-  pub full : size ≤ length a → size ≤ length a′ → SameSession i a a′ ⊎ SameRefusal i a a′
-  pub short : length a < size → length a′ < size → TooShort t t′ a a′
+  pub full : areaSize ≤ length a → areaSize ≤ length a′ → SameSession i a a′ ⊎ SameRefusal i a a′
+  pub short : length a < areaSize → length a′ < areaSize → TooShort t t′ a a′

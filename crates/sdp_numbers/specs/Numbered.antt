@@ -38,7 +38,7 @@ allLimits =
     tables.mostEmails ∷ tables.mostPhones ∷ tables.mostMediaConnections ∷ tables.mostBandwidths ∷ tables.mostTimes ∷
     tables.mostRepeats ∷ tables.mostOffsets ∷ tables.mostZones ∷ tables.mostAttributes ∷ tables.mostMedias ∷ []
 
--- 1 to 23, 28 and 29, 1 to 38, 1 to 10, the limits of the tables, of a text and of a list of starts
+-- 1 to 23, 28 and 29, 1 to 38, 1 to 10, the limits of the tables, of a text, of a list of starts and of a line
 pub record Numbered : Type 0 where
   pub refusals-run : allRefusals ≡ 1 ∷ 2 ∷ 3 ∷ 4 ∷ 5 ∷ 6 ∷ 7 ∷ 8 ∷ 9 ∷ 10 ∷ 11 ∷ 12 ∷ 13 ∷ 14 ∷ 15 ∷ 16 ∷ 17 ∷ 18 ∷ 19 ∷ 20 ∷ 21 ∷ 22 ∷ 23 ∷ 28 ∷ 29 ∷ []
   pub fields-run :
@@ -49,3 +49,4 @@ pub record Numbered : Type 0 where
   pub limits-are : allLimits ≡ 16 ∷ 16 ∷ 64 ∷ 64 ∷ 32 ∷ 64 ∷ 256 ∷ 64 ∷ 512 ∷ 32 ∷ []
   pub longest-is : refusals.longestText ≡ 32768
   pub starts-are : refusals.mostStarts ≡ 256
+  pub highest-is : refusals.highestLine ≡ 32768

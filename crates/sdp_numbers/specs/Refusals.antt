@@ -100,3 +100,8 @@ tooManyStarts = 29
 -- the longest list of starts
 abbrev pub mostStarts : ℕ
 mostStarts = 256
+
+-- ---- document 02, P9
+-- "23 also for a line above 32,768"
+abbrev pub highestLine : ℕ
+highestLine = 32768

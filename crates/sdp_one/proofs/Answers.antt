@@ -67,12 +67,14 @@ use Rattle.sdp_area.proofs.has_origin.Reads as sdpAreaHasOrigin
 use Rattle.sdp_area.proofs.has_text.Reads as sdpAreaHasText
 use Rattle.sdp_area.proofs.has_connection.Reads as sdpAreaHasConnection
 use Rattle.sdp_area.proofs.times.Reads as sdpAreaTimes
+use Rattle.sdp_area.proofs.offsets.Reads as sdpAreaOffsets
 use Rattle.sdp_area.proofs.repeats.Reads as sdpAreaRepeats
 use Rattle.sdp_area.proofs.medias.Reads as sdpAreaMedias
 use Rattle.sdp_roles.proofs.role_at.Reads as sdpRolesRoleAt
 use Rattle.sdp_strings.proofs.span_of.Reads as sdpStringsSpanOf
 use Rattle.sdp_strings.proofs.maybe_of.Reads as sdpStringsMaybeOf
 use Rattle.sdp_step.proofs.stored.Reads as sdpStepStored
+use Rattle.sdp_stamp.proofs.stamp.Reads as sdpStampStamp
 use Rattle.sdp_line.proofs.opening_line.Reads as sdpLineOpeningLine
 use Rattle.sdp_read.proofs.read.Reads as sdpReadRead
 use Rattle.sdp_put.proofs.put_byte.Reads as sdpPutPutByte
@@ -87,6 +89,7 @@ use Rattle.sdp_put.proofs.put_offset.Reads as sdpPutPutOffset
 use Rattle.sdp_decode.proofs.num2.Reads as sdpDecodeNum2
 use Rattle.sdp_decode.proofs.num8.Reads as sdpDecodeNum8
 use Rattle.sdp_valid.proofs.judge.Reads as sdpValidJudge
+use Rattle.sdp_stamp_valid.proofs.lines_fine.Reads as sdpStampValidLinesFine
 use Rattle.sdp_unfit.proofs.unfit.Reads as sdpUnfitUnfit
 use Rattle.sdp_room.proofs.room_for.Reads as sdpRoomRoomFor
 use Rattle.sdp_length.proofs.length_of.Reads as sdpLengthLengthOf
@@ -325,6 +328,9 @@ sdp-area-has-connection κs a z z′ e e′ p q = same p q
 pub sdp-area-times : OneAnswer sdpAreaTimes.Learnt
 sdp-area-times κs a z z′ e e′ p q = same (p .0) (q .0)
 
+pub sdp-area-offsets : OneAnswer sdpAreaOffsets.Learnt
+sdp-area-offsets κs a z z′ e e′ p q = same (p .0) (q .0)
+
 pub sdp-area-repeats : OneAnswer sdpAreaRepeats.Learnt
 sdp-area-repeats κs a z z′ e e′ p q = same (p .0) (q .0)
 
@@ -345,6 +351,10 @@ sdp-strings-maybe-of κs a z z′ e e′ p q = same p q
 -- ---- sdp_step
 pub sdp-step-stored : OneAnswer sdpStepStored.Learnt
 sdp-step-stored κs a z z′ e e′ p q = same p q
+
+-- ---- sdp_stamp
+pub sdp-stamp-stamp : OneState (λ κs e. now (e .0)) sdpStampStamp.Learnt
+sdp-stamp-stamp κs a z z′ e e′ p q = (refl, same p q)
 
 -- ---- sdp_line
 pub sdp-line-opening-line : OneAnswer sdpLineOpeningLine.Learnt
@@ -392,6 +402,10 @@ sdp-decode-num8 κs a z z′ e e′ p q = same p q
 -- ---- sdp_valid
 pub sdp-valid-judge : OneAnswer sdpValidJudge.Learnt
 sdp-valid-judge κs a z z′ e e′ p q = same p q
+
+-- ---- sdp_stamp_valid
+pub sdp-stamp-valid-lines-fine : OneAnswer sdpStampValidLinesFine.Learnt
+sdp-stamp-valid-lines-fine κs a z z′ e e′ p q = same p q
 
 -- ---- sdp_unfit
 pub sdp-unfit-unfit : OneAnswer sdpUnfitUnfit.Learnt

@@ -16,6 +16,7 @@ use Rattle.sdp_step.specs.Hold.{Holds, Handled, Takes, Lands, Tells, roleIn}
 use Rattle.sdp_step.specs.declared.Marks.{Marks}
 use Rattle.sdp_step.specs.declared.Taken.{Taken}
 use Rattle.sdp_step.specs.declared.Taken.the-variants.{Kept, Idle, Refused}
+use Rattle.sdp_stamp.specs.Stamp.{noStamps}
 use Rattle.sdp_take_once.specs.Onces.{onceRole}
 use Rattle.sdp_take_row.specs.Rows.{rowRole}
 use Rattle.sdp_take_once.proofs.take_once.Reads as takeOnce
@@ -56,25 +57,25 @@ lands-once media x m r r′ a a′ t h k = handled-once x r r′ a a′ t h k
 lands-once other x m r r′ a a′ t h k = handled-once x r r′ a a′ t h k
 
 -- two states that hold the same
-states-once : (b : Bool) (ρ : Reading Span) (c : Counts) (g g′ : State) (a a′ t : List ℕ) → Carries b ρ c g a t → Carries b ρ c g′ a′ t → (g ≡ g′) × (a ≡ a′)
-states-once b ρ c g g′ a a′ t h k =
+states-once : (b : Bool) (ρ : Reading Span) (ls : List ℕ) (c : Counts) (g g′ : State) (a a′ t : List ℕ) → Carries b ρ ls c g a t → Carries b ρ ls c g′ a′ t → (g ≡ g′) × (a ≡ a′)
+states-once b ρ ls c g g′ a a′ t h k =
     let m : marksIn g ≡ marksIn g′ = same (h .holds .marks) (k .holds .marks) in
     let n : countsIn g ≡ countsIn g′ = same (h .counts) (k .counts) in
     let e : g .begun ≡ g′ .begun = same (h .begun-is) (k .begun-is) in
     ((λ d. record { named = m d .named; zoned = m d .zoned; begun = e d; empty = n d .empty; ignored = n d .ignored; kept = n d .kept }), same (h .holds .bytes) (k .holds .bytes))
 
 turned-once : (x : Lined) (r r′ : Turn) (a a′ t : List ℕ) → Turned x r a t → Turned x r′ a′ t → (r ≡ r′) × (seenTurn r a ≡ seenTurn r′ a′)
-turned-once (on (searching c)) (Goes g) (Goes g′) a a′ t h k = let s = states-once false fresh c g g′ a a′ t h k in (ap Goes (s .0), s .1)
-turned-once (on (reading ρ c)) (Goes g) (Goes g′) a a′ t h k = let s = states-once true ρ c g g′ a a′ t h k in (ap Goes (s .0), s .1)
+turned-once (on (searching c)) (Goes g) (Goes g′) a a′ t h k = let s = states-once false fresh noStamps c g g′ a a′ t h k in (ap Goes (s .0), s .1)
+turned-once (on (reading ρ ls c)) (Goes g) (Goes g′) a a′ t h k = let s = states-once true ρ ls c g g′ a a′ t h k in (ap Goes (s .0), s .1)
 turned-once (on x) (Goes g) (Over e) a a′ t h k = absurd k
 turned-once (on x) (Over e) r′ a a′ t h k = absurd h
-turned-once (ended σ c) (Goes g) r′ a a′ t h k = absurd h
-turned-once (ended σ c) (Over (Stopped y)) r′ a a′ t h k = absurd h
-turned-once (ended σ c) (Over (Unread y)) r′ a a′ t h k = absurd h
-turned-once (ended σ c) (Over (Accepted d)) (Goes g) a a′ t h k = absurd k
-turned-once (ended σ c) (Over (Accepted d)) (Over (Stopped y)) a a′ t h k = absurd k
-turned-once (ended σ c) (Over (Accepted d)) (Over (Unread y)) a a′ t h k = absurd k
-turned-once (ended σ c) (Over (Accepted d)) (Over (Accepted d′)) a a′ t h k = (ap (λ (z : Counts). Over (Accepted z)) (same (h .0) (k .0)), same (h .1) (k .1))
+turned-once (ended σ ls c) (Goes g) r′ a a′ t h k = absurd h
+turned-once (ended σ ls c) (Over (Stopped y)) r′ a a′ t h k = absurd h
+turned-once (ended σ ls c) (Over (Unread y)) r′ a a′ t h k = absurd h
+turned-once (ended σ ls c) (Over (Accepted d)) (Goes g) a a′ t h k = absurd k
+turned-once (ended σ ls c) (Over (Accepted d)) (Over (Stopped y)) a a′ t h k = absurd k
+turned-once (ended σ ls c) (Over (Accepted d)) (Over (Unread y)) a a′ t h k = absurd k
+turned-once (ended σ ls c) (Over (Accepted d)) (Over (Accepted d′)) a a′ t h k = (ap (λ (z : Counts). Over (Accepted z)) (same (h .0) (k .0)), same (h .1) (k .1))
 turned-once (stopped x) (Goes g) r′ a a′ t h k = absurd h
 turned-once (stopped x) (Over (Accepted d)) r′ a a′ t h k = absurd h
 turned-once (stopped x) (Over (Unread y)) r′ a a′ t h k = absurd h

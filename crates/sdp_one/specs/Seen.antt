@@ -3,6 +3,7 @@ use mathlib.Core.List.{List}
 use Prim.Native.Nat.{ℕ}
 use lib.ListN.{drop}
 use Rattle.sdp_area.specs.Area.{size}
+use Rattle.sdp_area.specs.Columns.{areaSize}
 use Rattle.sdp_step.specs.declared.Taken.{Taken}
 use Rattle.sdp_step.specs.declared.Taken.the-variants.{Kept, Idle, Refused}
 use Rattle.sdp_turn.specs.declared.Ended.the-variants.{Accepted, Stopped, Unread}
@@ -15,9 +16,9 @@ seen (Kept m) a = a
 seen Idle a = a
 seen (Refused w) a = drop size a
 
--- the same of what a line does to a reading
+-- the same of what a line does to a reading: a refusal leaves the bytes behind the session and its lines
 abbrev pub seenTurn : Turn → List ℕ → List ℕ
 seenTurn (Goes g) a = a
 seenTurn (Over (Accepted c)) a = a
-seenTurn (Over (Stopped x)) a = drop size a
+seenTurn (Over (Stopped x)) a = drop areaSize a
 seenTurn (Over (Unread x)) a = a

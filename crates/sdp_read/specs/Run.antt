@@ -14,11 +14,12 @@ use Rattle.sdp_lines.specs.declared.Form.{Form}
 use Rattle.sdp_lines.specs.declared.Form.the-variants.{Blank, Good, Bad}
 use Rattle.sdp_split.specs.declared.Piece.{Piece}
 use Rattle.sdp_cells.specs.Bytes.{zeros}
-use Rattle.sdp_area.specs.Area.{encode, size}
+use Rattle.sdp_area.specs.Columns.{areaSize, areaOf}
+use Rattle.sdp_stamp.specs.Stamp.{noStamps, stamped}
 use Rattle.sdp_strings.specs.Strings.{spanAt}
 use Rattle.sdp_step.specs.Step.{Reading, Stepped, goes, stops, stop, step, fresh}
 use Rattle.sdp_lines.specs.declared.Answer.{Answer}
-use Rattle.sdp_counts.specs.Count.{countsOf, noCounts}
+use Rattle.sdp_counts.specs.Count.{countsOf, noCounts, fromVersion}
 use Rattle.sdp_counts.specs.declared.Counts.{Counts}
 use Rattle.sdp_read.specs.declared.Told.{Told}
 -- the answers, the version line's value and what reading says are defined there
@@ -63,6 +64,28 @@ module _ {S : Type 0} (at : ℕ → List ℕ → Piece → S) where
   unfoldable pub lines : List ℕ → Verdict S
   lines s = begin 1 0 (split s)
 
+  -- ---- document 02, P9: the lines of what the session has
+  -- past a line with number n; ρ was the session before it, and ls the lines of what it had
+  abbrev pub stampsAfter : Stepped S → Reading S → ℕ → List ℕ → (Reading S → List ℕ → List ℕ) → List ℕ
+  stampsAfter (goes τ) ρ n ls k = k τ (stamped n (ρ .session) (τ .session) ls)
+  stampsAfter (stops w) ρ n ls k = ls
+
+  -- past the lines after the version, as run
+  unfoldable pub runStamps : Reading S → List ℕ → ℕ → ℕ → List Raw → List ℕ
+  runStamps ρ ls n p [] = ls
+  runStamps ρ ls n p (r ∷ rs) =
+      stampsAfter (stepForm ρ p (content r) (formOf (content r))) ρ n ls (λ τ ks. runStamps τ ks (n + 1) (p + width r) rs)
+
+  -- past all lines, as begin: the version line leaves no record
+  unfoldable pub beginStamps : ℕ → ℕ → List Raw → List ℕ
+  beginStamps n p [] = noStamps
+  beginStamps n p (r ∷ rs) =
+      fromVersion (formOf (content r)) (beginStamps (n + 1) (p + width r) rs) (runStamps fresh noStamps (n + 1) (p + width r) rs)
+
+-- of a whole text
+abbrev pub stampsOf : List ℕ → List ℕ
+stampsOf s = beginStamps spanAt 1 0 (split s)
+
 -- ---- the promise of read
 pub record Outcome : Type 0 where
   pub answer : Answer
@@ -72,8 +95,8 @@ pub record Outcome : Type 0 where
 -- "Any other reading refusal: area all zero. Area bytes beyond the stated size always stay as found." Document 02, P11: "An accepted reading
 -- also returns three counts"; "A refusal returns zeros."
 abbrev pub outcomeOf : List ℕ → List ℕ → Verdict Span → Outcome
-outcomeOf s a (accepted x) = record { answer = answer 0 0 0; counts = countsOf s; area = encode x ++ drop size a }
-outcomeOf s a (refused x) = record { answer = x; counts = noCounts; area = zeros size ++ drop size a }
+outcomeOf s a (accepted x) = record { answer = answer 0 0 0; counts = countsOf s; area = areaOf x (stampsOf s) (drop areaSize a) }
+outcomeOf s a (refused x) = record { answer = x; counts = noCounts; area = zeros areaSize ++ drop areaSize a }
 
 -- "Area too short or text too long: area unchanged"
 abbrev pub untouched : List ℕ → ℕ → Outcome
@@ -82,7 +105,7 @@ untouched a number = record { answer = answer number 0 0; counts = noCounts; are
 -- "Order: 2, 1, then line by line"
 unfoldable pub readText : List ℕ → List ℕ → Outcome
 readText s a =
-    cond (ltb (length a) size) (untouched a refusals.areaTooShort)
+    cond (ltb (length a) areaSize) (untouched a refusals.areaTooShort)
     (cond (ltb longestText (length s)) (untouched a refusals.textTooLong)
     (outcomeOf s a (lines spanAt s)))
 

@@ -1,19 +1,20 @@
 // Document 01, module 4: session and media reading, a text line by line.
 ghost use mathlib.Core.Path.{_≡_};
-ghost use mathlib.Core.List.{List, _++_};
+ghost use mathlib.Core.List.{List};
 ghost use Prim.Native.Nat.{ℕ, _≤_};
 ghost use lib.ListN.{length};
 ghost use Rattle.sdp_numbers.specs.Refusals.{longestText};
 ghost use Rattle.sdp_area.specs.Session.{empty};
-ghost use Rattle.sdp_area.specs.Area.{encode, size};
+ghost use Rattle.sdp_area.specs.Columns.{areaSize, areaOf};
+ghost use Rattle.sdp_stamp.specs.Stamp.{noStamps};
 ghost use Rattle.sdp_lines.specs.Lines.{start};
 ghost use Rattle.sdp_cutter.specs.Cutter.{moveAt, standing, due};
 ghost use Rattle.sdp_line.specs.Version.{answer};
 ghost use Rattle.sdp_counts.specs.Count.{noCounts};
 ghost use Rattle.sdp_read.specs.Run.{readText, toldOf};
 ghost use Rattle.sdp_turn.specs.Turn.{Few, Turns, Passes};
-ghost use Rattle.sdp_read.specs.From.{Reached, lineAt, beginAt, countsAt, Ends};
-use sdp_area::SIZE;
+ghost use Rattle.sdp_read.specs.From.{Reached, lineAt, EndsFrom};
+use sdp_area::AREA_SIZE;
 use sdp_area::clear;
 use sdp_counts::Counts;
 use sdp_cutter::Cutter;
@@ -35,7 +36,7 @@ pub struct Told {
 
 // One line, and what it does to a reading: the cutter that is lent moves itself on.
 fn one_line(c: &mut Cutter, text: &[u8], area: &mut [u8], state: State) -> Turn
-    requires { ⌜ (size ≤ length (now area)) × ((length (now text) ≤ longestText) × Few state) ⌝ }
+    requires { ⌜ (areaSize ≤ length (now area)) × ((length (now text) ≤ longestText) × Few state) ⌝ }
     ensures { λ r. ⌜ (Turns (λ x. lineAt (now (text .entry)) x (due (now (c .entry))))
         state r (now (area .entry)) (now (area .exit))
         × Passes (moveAt (now (text .entry)) (now (c .entry) .at) (now (c .entry) .line) .next) state r)
@@ -47,10 +48,9 @@ fn one_line(c: &mut Cutter, text: &[u8], area: &mut [u8], state: State) -> Turn
 
 // All lines, the version line too: the cutter is lent for each.
 fn read_lines(c: &mut Cutter, text: &[u8], area: &mut [u8]) -> Ended
-    requires { ⌜ (size ≤ length (now area)) × ((length (now text) ≤ longestText) × Reached (now text) (due (now c))) ⌝ }
-    ensures { λ r. ⌜ ((t : List ℕ) → now (area .entry) ≡ encode empty ++ t
-        → Ends (beginAt (now (text .entry)) (due (now (c .entry)))) (countsAt (now (text .entry)) (due (now (c .entry))))
-        r (now (area .exit)) t) ⌝ }
+    requires { ⌜ (areaSize ≤ length (now area)) × ((length (now text) ≤ longestText) × Reached (now text) (due (now c))) ⌝ }
+    ensures { λ r. ⌜ ((t : List ℕ) → now (area .entry) ≡ areaOf empty noStamps t
+        → EndsFrom (now (text .entry)) (due (now (c .entry))) r (now (area .exit)) t) ⌝ }
 {
     let mut state = State {
         named: false,
@@ -74,9 +74,9 @@ fn read_lines(c: &mut Cutter, text: &[u8], area: &mut [u8]) -> Ended
 
 // The lines from the first on: the cutter is made here, and lent.
 fn read_text(text: &[u8], area: &mut [u8]) -> Ended
-    requires { ⌜ (size ≤ length (now area)) × (length (now text) ≤ longestText) ⌝ }
-    ensures { λ r. ⌜ ((t : List ℕ) → now (area .entry) ≡ encode empty ++ t
-        → Ends (beginAt (now (text .entry)) start) (countsAt (now (text .entry)) start) r (now (area .exit)) t) ⌝ }
+    requires { ⌜ (areaSize ≤ length (now area)) × (length (now text) ≤ longestText) ⌝ }
+    ensures { λ r. ⌜ ((t : List ℕ) → now (area .entry) ≡ areaOf empty noStamps t
+        → EndsFrom (now (text .entry)) start r (now (area .exit)) t) ⌝ }
 {
     let mut c = Cutter {
         at: Place(0),
@@ -117,7 +117,7 @@ pub fn read(text: &[u8], area: &mut [u8]) -> Told
     ensures { λ r. ⌜ r ≡ toldOf (readText (now (text .entry)) (now (area .entry))) ⌝ }
     ensures { λ r. ⌜ now (area .exit) ≡ readText (now (text .entry)) (now (area .entry)) .area ⌝ }
 {
-    if area.len() < SIZE {
+    if area.len() < AREA_SIZE {
         return refused(plain(2));
     }
     if 32768 < text.len() {

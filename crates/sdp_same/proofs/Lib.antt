@@ -10,5 +10,7 @@ pub mod FineLaws
 pub mod RowLaws
 pub mod KeptLaws
 pub mod SoundLaws
+pub mod StampLaws
 pub mod JudgeLaws
+pub mod ColumnLaws
 pub mod SameLaws

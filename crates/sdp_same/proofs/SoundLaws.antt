@@ -28,7 +28,7 @@ use Rattle.sdp_same.proofs.LinesLaws.{piece-said, stands-drop, first-st
 use Rattle.sdp_same.proofs.FineLaws.{Fine}
 use Rattle.sdp_same.proofs.KeptLaws.{Goes, line-kept}
 
-empty-sound : (P : Span → Type 0) → Sound P empty
+pub empty-sound : (P : Span → Type 0) → Sound P empty
 empty-sound P = record {
   fits = record {
     head = record { origin = tt; name = tt; description = tt; uri = tt; connection = tt; key = tt };
@@ -62,7 +62,7 @@ module _ (t : List ℕ) where
   fine-in : (p : ℕ) (v : List ℕ) → Stands t p v → p + length v ≤ length t → (x : Piece) → Fine v x → FineIn t (spanAt p v x)
   fine-in p v w l x f = record { inside = (let i = f .inside in omega arith); utf8 = ap isUtf8 (piece-said t p v w x (f .inside)) ∙ f .utf8 }
 
-  abbrev Kept : Reading Span → Type 0
+  abbrev pub Kept : Reading Span → Type 0
   Kept τ = Sound (FineIn t) (τ .session)
 
   abbrev Whole : Verdict Span → Type 0
@@ -70,7 +70,7 @@ module _ (t : List ℕ) where
   Whole (refused x) = 0 < x .number
 
   -- ---- the lines after the version
-  form-sound : (p : ℕ) (l : List ℕ) → Stands t p l → (ρ : Reading Span) → Kept ρ → (g : Form) → formOf l ≡ g → Goes Kept (stepForm spanAt ρ p l g)
+  pub form-sound : (p : ℕ) (l : List ℕ) → Stands t p l → (ρ : Reading Span) → Kept ρ → (g : Form) → formOf l ≡ g → Goes Kept (stepForm spanAt ρ p l g)
   form-sound p l w ρ h Blank e = h
   form-sound p l w ρ h (Bad x) e = fault-number x
   form-sound p l w ρ h (Good c) e =

@@ -30,7 +30,7 @@ use Rattle.sdp_samples.proofs.SampleLaws.{accepts}
 
 counted : (t : List ℕ) (s : Session Span) (c : Counts) → ltb 32768 (length t) ≡ false → lines spanAt t ≡ accepted s → countsOf t ≡ c → Counted t c
 counted t s c p e f a h =
-    let r = accepts t s p e a h in
+    let r = accepts t s _ p e refl a h in
     (ap (λ o. o .answer .number) r, ap (λ o. o .counts) r ∙ f)
 
 pub line-counts : LineCounts

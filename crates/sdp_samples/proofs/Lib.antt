@@ -2,3 +2,4 @@ pub mod SampleLaws
 pub mod PlaceLaws
 pub mod ByteLaws
 pub mod CountLaws
+pub mod StampLaws

@@ -20,13 +20,16 @@ use Rattle.sdp_judge.specs.Read
 use Rattle.sdp_judge.specs.Offset
 use Rattle.sdp_fields.specs.Records
 use Rattle.sdp_lists.specs.Lists
+use Rattle.sdp_cells.specs.Bytes
 use Rattle.sdp_area.specs.Session.{Session, empty}
-use Rattle.sdp_area.specs.Area.{size}
+use Rattle.sdp_area.specs.Latest
+use Rattle.sdp_area.specs.Columns.{areaSize}
 use Rattle.sdp_roles.specs.Roles
 use Rattle.sdp_strings.specs.Strings.{spanAt}
 use Rattle.sdp_step.specs.Step
+use Rattle.sdp_stamp.specs.Stamp
 use Rattle.sdp_read.specs.Run
-use Rattle.sdp_read.specs.Run.{Verdict, accepted, refused, lines}
+use Rattle.sdp_read.specs.Run.{Verdict, accepted, refused, lines, stampsOf}
 use Rattle.sdp_decode.specs.Rows as rows
 use Rattle.sdp_row.specs.Written
 use Rattle.sdp_row.specs.Written.{written}
@@ -37,11 +40,11 @@ use Rattle.sdp_samples.specs.Samples.{Samples, Refuses, Accepts, Writes,
 -- ---- from the lines of a text to the promise of read
 pub refuses : (t : List ℕ) (x : Answer) → ltb 32768 (length t) ≡ false → lines spanAt t ≡ refused x → Refuses t x
 unfolding Run.readText
-refuses t x p e a h = rw (le-ltb (length a) size h, p, e)
+refuses t x p e a h = rw (le-ltb (length a) areaSize h, p, e)
 
-pub accepts : (t : List ℕ) (s : Session Span) → ltb 32768 (length t) ≡ false → lines spanAt t ≡ accepted s → Accepts t s
+pub accepts : (t : List ℕ) (s : Session Span) (ls : List ℕ) → ltb 32768 (length t) ≡ false → lines spanAt t ≡ accepted s → stampsOf t ≡ ls → Accepts t s ls
 unfolding Run.readText
-accepts t s p e a h = rw (le-ltb (length a) size h, p, e)
+accepts t s ls p e f a h = rw (le-ltb (length a) areaSize h, p, e, f)
 
 -- ---- and to the promise of write
 sessionOf : Verdict Span → Session Span
@@ -51,7 +54,7 @@ sessionOf (refused x) = empty
 writes : (t : List ℕ) (s : Session Span) (w : List ℕ) → ltb 32768 (length t) ≡ false → lines spanAt t ≡ accepted s → written (bytesOf t) s ≡ w → Writes t w
 unfolding sessionOf
 writes t s w p e f a o h k =
-    let r = read-then-write t a o (ap (λ x. x .answer .number) (accepts t s p e a h)) in
+    let r = read-then-write t a o (ap (λ x. x .answer .number) (accepts t s _ p e refl a h)) in
     let same : r .session ≡ s = ap sessionOf (sym (r .read) ∙ e) in (
       r .known ∙ (ap (λ x. answer 0 (length (written (bytesOf t) x))) same ∙ ap (λ x. answer 0 (length x)) f),
       r .outcome ∙ (ap (λ x. fill (written (bytesOf t) x) o) same ∙ (ap (λ x. fill x o) f ∙ fills w o k)),
@@ -64,10 +67,10 @@ v-text = refl
 
 -- "Proved together as a single statement: those marked P."
 pub samples : Samples
-unfolding Runs.indexOf Ranges.fits Token.isToken Token.allToken Utf8.isUtf8 Utf8.utf8End Utf8.endFrom Utf8.charLen Number.allDigits Number.value Number.digitsBelow Number.dropPlus Number.numeral Number.wholeNumber Number.typedTime Lines.split Lines.chop Lines.content Lines.width Lines.hasNulOrCr Lines.plainForm Lines.formOf Split.firstPiece Split.restAfter Split.wordsFrom Split.wordsAt Offset.zoneOffset Read.nextText Read.nextToken Read.nextNumber Read.nextTime Records.addressOf Records.originOf Records.timesOf Records.attributeOf Lists.offsetsOf Lists.repeatOf Lists.pairsOf Lists.zonesOf Roles.beforeMedia Step.row Step.stepRole Run.run Run.begin Run.lines
+unfolding Runs.indexOf Ranges.fits Token.isToken Token.allToken Utf8.isUtf8 Utf8.utf8End Utf8.endFrom Utf8.charLen Number.allDigits Number.value Number.digitsBelow Number.dropPlus Number.numeral Number.wholeNumber Number.typedTime Lines.split Lines.chop Lines.content Lines.width Lines.hasNulOrCr Lines.plainForm Lines.formOf Split.firstPiece Split.restAfter Split.wordsFrom Split.wordsAt Offset.zoneOffset Read.nextText Read.nextToken Read.nextNumber Read.nextTime Records.addressOf Records.originOf Records.timesOf Records.attributeOf Lists.offsetsOf Lists.repeatOf Lists.pairsOf Lists.zonesOf Roles.beforeMedia Step.row Step.stepRole Run.run Run.begin Run.lines Run.runStamps Run.beginStamps Stamp.stampRows Stamp.stampAll Stamp.stamped Latest.lastGiven Bytes.over Bytes.zeros
 samples = record {
   empty-text = refuses [] _ refl refl;
-  v-accepted = accepts «V» _ refl refl;
+  v-accepted = accepts «V» _ _ refl refl refl;
   v-written = writes «V» empty ofV refl refl v-text;
   v-forty = refl;
   v-space = refuses spaceAfter _ refl refl;
@@ -75,11 +78,11 @@ samples = record {
   no-letter = refuses («V» next nothingBefore) _ refl refl;
   no-equals = refuses («V» next noEquals) _ refl refl;
   no-interval = refuses («V» next T next noInterval) _ refl refl;
-  lowest-offset = accepts («V» next lowest) _ refl refl;
+  lowest-offset = accepts («V» next lowest) _ _ refl refl refl;
   too-high = refuses («V» next tooHigh) _ refl refl;
-  minus-plus = accepts («V» next minusPlus) _ refl refl;
+  minus-plus = accepts («V» next minusPlus) _ _ refl refl refl;
   two-zones = refuses («V» next noZones next noZones) _ refl refl;
   two-origins = refuses («V» next someOrigin next junkOrigin) _ refl refl;
-  empty-value = accepts («V» next emptyValue) _ refl refl;
-  no-value = accepts («V» next noValue) _ refl refl;
+  empty-value = accepts («V» next emptyValue) _ _ refl refl refl;
+  no-value = accepts («V» next noValue) _ _ refl refl refl;
 }

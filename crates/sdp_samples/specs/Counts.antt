@@ -3,7 +3,7 @@ use Prim.Native.Nat.{ℕ, _≤_}
 use mathlib.Core.Path.{_≡_}
 use mathlib.Core.List.{List, [], _∷_}
 use lib.ListN.{length}
-use Rattle.sdp_area.specs.Area.{size}
+use Rattle.sdp_area.specs.Columns.{areaSize}
 use Rattle.sdp_counts.specs.Count.{lineCount}
 use Rattle.sdp_counts.specs.declared.Counts.{Counts}
 use Rattle.sdp_read.specs.Run.{readText}
@@ -39,7 +39,7 @@ three empty ignored kept = record { empty = empty; ignored = ignored; kept = kep
 
 -- the text t is accepted in every area of full size, and has the counts c
 abbrev pub Counted : List ℕ → Counts → Type 0
-Counted t c = (a : List ℕ) → size ≤ length a → (readText t a .answer .number ≡ 0) × (readText t a .counts ≡ c)
+Counted t c = (a : List ℕ) → areaSize ≤ length a → (readText t a .answer .number ≡ 0) × (readText t a .counts ≡ c)
 
 -- texts with their counts and their lines
 pub record LineCounts : Type 0 where

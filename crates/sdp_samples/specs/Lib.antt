@@ -2,3 +2,4 @@ pub mod Samples
 pub mod Places
 pub mod Bytes
 pub mod Counts
+pub mod Stamps

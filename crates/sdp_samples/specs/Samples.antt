@@ -6,10 +6,11 @@ use mathlib.Core.Option.{none, some}
 use lib.ListN.{length, drop}
 use Rattle.sdp_lines.specs.declared.Answer.{Answer}
 use Rattle.sdp_lines.specs.declared.Span.{Span}
-use Rattle.sdp_cells.specs.Bytes.{zeros}
+use Rattle.sdp_cells.specs.Bytes.{over, zeros}
 use Rattle.sdp_area.specs.Session.{Session, empty}
-use Rattle.sdp_area.specs.Area.{encode, size}
 use Rattle.sdp_area.specs.With.{withZones, withAttributes}
+use Rattle.sdp_area.specs.Columns.{zonesCell, attributesCell, areaSize, areaOf}
+use Rattle.sdp_stamp.specs.Stamp.{noStamps}
 use Rattle.sdp_counts.specs.Count.{countsOf, noCounts}
 use Rattle.sdp_read.specs.Run.{readText}
 use Rattle.sdp_write.specs.Write.{lengthText, fillText}
@@ -101,16 +102,24 @@ five number line field place len = record { number = number; line = line; field 
 
 -- the text t is refused with x in every area of full size: the area is then all zero, and the bytes behind it are as found
 abbrev pub Refuses : List ℕ → Answer → Type 0
-Refuses t x = (a : List ℕ) → size ≤ length a → readText t a ≡ record { answer = x; counts = noCounts; area = zeros size ++ drop size a }
+Refuses t x =
+    (a : List ℕ) → areaSize ≤ length a → readText t a ≡ record { answer = x; counts = noCounts; area = zeros areaSize ++ drop areaSize a }
 
--- the text t is accepted in every area of full size: the area then holds the session s, and the bytes behind it are as found
-abbrev pub Accepts : List ℕ → Session Span → Type 0
-Accepts t s = (a : List ℕ) → size ≤ length a → readText t a ≡ record { answer = five 0 0 0 0 0; counts = countsOf t; area = encode s ++ drop size a }
+-- the text t is accepted in every area of full size: the area then holds the session s and the lines ls of what it has, and the bytes behind
+-- them are as found
+abbrev pub Accepts : List ℕ → Session Span → List ℕ → Type 0
+Accepts t s ls =
+    (a : List ℕ) → areaSize ≤ length a
+    → readText t a ≡ record { answer = five 0 0 0 0 0; counts = countsOf t; area = areaOf s ls (drop areaSize a) }
+
+-- the line n in the cell c, and 0 in all others
+abbrev pub onlyIn : ℕ → ℕ → List ℕ
+onlyIn c n = over noStamps c (n ∷ [])
 
 -- the area that reading t leaves has the length of w, and is written as w in every output that has room for it; the bytes behind it are as found
 abbrev pub Writes : List ℕ → List ℕ → Type 0
 Writes t w =
-    (a o : List ℕ) → size ≤ length a → length w ≤ length o
+    (a o : List ℕ) → areaSize ≤ length a → length w ≤ length o
     → (lengthText t (readText t a .area) ≡ five 0 0 0 0 (length w))
     × (fillText t (readText t a .area) o ≡ record { answer = five 0 0 0 0 (length w); out = w ++ drop (length w) o })
 
@@ -127,7 +136,7 @@ pub record Samples : Type 0 where
   -- "empty text: 6"
   pub empty-text : Refuses [] (five 6 0 0 0 0)
   -- "`V`: accepted, writes 40 bytes"
-  pub v-accepted : Accepts «V» empty
+  pub v-accepted : Accepts «V» empty noStamps
   pub v-written : Writes «V» ofV
   pub v-forty : length ofV ≡ 40
   -- "`v=0 `: 7 line 1", with place and length of the value
@@ -141,15 +150,17 @@ pub record Samples : Type 0 where
   -- "`V`,`T`,`r=d 1`: 9 line 3 field 18"
   pub no-interval : Refuses («V» next T next noInterval) (five 9 3 18 0 0)
   -- "`z=0 -9223372036854775808` accepted"
-  pub lowest-offset : Accepts («V» next lowest) (zoned (2 ^ 64 - 9223372036854775808))
+  pub lowest-offset : Accepts («V» next lowest) (zoned (2 ^ 64 - 9223372036854775808)) (onlyIn zonesCell 2)
   -- "without the `-`: 9 field 22"
   pub too-high : Refuses («V» next tooHigh) (five 9 2 22 0 0)
   -- "`z=0 -+5` is -5"
-  pub minus-plus : Accepts («V» next minusPlus) (zoned (2 ^ 64 - 5))
+  pub minus-plus : Accepts («V» next minusPlus) (zoned (2 ^ 64 - 5)) (onlyIn zonesCell 2)
   -- "`z=`,`z=`: 17 at the second"
   pub two-zones : Refuses («V» next noZones next noZones) (five 17 3 0 0 0)
   -- "two o lines, the second junk: 12"
   pub two-origins : Refuses («V» next someOrigin next junkOrigin) (five 12 3 0 0 0)
   -- "`a=x:` has an empty value, `a=x` none"
   pub empty-value : Accepts («V» next emptyValue) (withAttributes empty (record { owner = 0; attribute = span 6 1; value = some (span 8 0) } ∷ []))
+      (onlyIn attributesCell 2)
   pub no-value : Accepts («V» next noValue) (withAttributes empty (record { owner = 0; attribute = span 6 1; value = none } ∷ []))
+      (onlyIn attributesCell 2)

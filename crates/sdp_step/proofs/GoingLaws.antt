@@ -25,10 +25,14 @@ module _ {S : Type 0} (P : Reading S → Type 0) where
   past-cond false σ τ h k = k
 
   module _ {A : Type 0} where
+    -- there was none before
+    pub past-first : (n : ℕ) (b : Bool) (r : Read A) (k : A → Stepped S) → (b ≡ false → (x : A) → r ≡ got x → Going P (k x)) → Going P (once n b r k)
+    past-first n true r k h = off _
+    past-first n false (got x) k h = h refl x refl
+    past-first n false (refused w) k h = off w
+
     pub past-once : (n : ℕ) (b : Bool) (r : Read A) (k : A → Stepped S) → ((x : A) → r ≡ got x → Going P (k x)) → Going P (once n b r k)
-    past-once n true r k h = off _
-    past-once n false (got x) k h = h x refl
-    past-once n false (refused w) k h = off w
+    past-once n b r k h = past-first n b r k (λ e. h)
 
     pub past-row : (table cap c : ℕ) (r : Read A) (k : A → Reading S) → ((x : A) → r ≡ got x → P (k x)) → Going P (row table cap c r k)
     unfolding Step.row

@@ -1,4 +1,5 @@
--- Document 01, "Lines", "Refusal numbers": what one line does to a reading, by what the cutter found. Document 02, P11: and to the counts.
+-- Document 01, "Lines", "Refusal numbers": what one line does to a reading, by what the cutter found. Document 02, P9: to the lines
+-- of what was read; P11: and to the counts.
 use Prim.Native.Nat.{ℕ, _+_, _≤_}
 use mathlib.Core.Path.{_≡_}
 use mathlib.Core.Bool.{Bool, true, false, cond}
@@ -15,7 +16,9 @@ use Rattle.sdp_cutter.specs.declared.Next.{Next}
 use Rattle.sdp_cutter.specs.declared.Next.the-variants.{Found, Empty, Refused, End}
 use Rattle.sdp_judge.specs.declared.Wrong.{Wrong}
 use Rattle.sdp_area.specs.Session.{Session, empty}
-use Rattle.sdp_area.specs.Area.{encode, size}
+use Rattle.sdp_area.specs.Columns.{cells, areaSize, areaOf}
+use Rattle.sdp_cells.specs.Tables.{pairs}
+use Rattle.sdp_stamp.specs.Stamp.{noStamps, stamped}
 use Rattle.sdp_roles.specs.Kinds.{Kind, kindOf, byKind}
 use Rattle.sdp_strings.specs.Strings.{spanAt}
 use Rattle.sdp_step.specs.Step.{Reading, Stepped, goes, stops, step, fresh}
@@ -73,31 +76,33 @@ abbrev pub oneOf : Kind → Counts → Counts
 oneOf k c = byKind k (oneIgnored c) (oneKept c) (oneKept c)
 
 -- ---- what a line does
--- where a reading stands: the version line is still looked for, or the session so far; with the counts of the lines so far
+-- where a reading stands: the version line is still looked for, or the session so far, with the lines of what it has; with the counts of the
+-- lines so far
 pub data Standing : Type 0 where
   searching : Counts → Standing
-  reading : Reading Span → Counts → Standing
+  reading : Reading Span → List ℕ → Counts → Standing
 
 -- what a line does: the reading goes on, ends, or is refused, at a line after the version or where none was read
 pub data Lined : Type 0 where
   on : Standing → Lined
-  ended : Session Span → Counts → Lined
+  ended : Session Span → List ℕ → Counts → Lined
   stopped : Answer → Lined
   unread : Answer → Lined
 
 -- the first line that is not empty
 abbrev pub openedTo : Counts → Opening → Lined
-openedTo c opening.Zero = on (reading fresh (oneKept c))
+openedTo c opening.Zero = on (reading fresh noStamps (oneKept c))
 openedTo c (opening.Refused x) = unread x
 
--- after the step of the line with number n, whose value stands at place p; c are the counts with it
-abbrev pub stepped : ℕ → ℕ → Counts → Stepped Span → Lined
-stepped n p c (goes ρ) = on (reading ρ c)
-stepped n p c (stops w) = stopped (wrongAt n p w)
+-- after the step of the line with number n, whose value stands at place p; x was the session before it and l its lines, c are the counts with it
+abbrev pub stepped : ℕ → ℕ → Session Span → List ℕ → Counts → Stepped Span → Lined
+stepped n p x l c (goes ρ) = on (reading ρ (stamped n x (ρ .session) l) c)
+stepped n p x l c (stops w) = stopped (wrongAt n p w)
 
--- a line of good form, its number n, its letter l, its value v of the text s
-abbrev pub goodLine : List ℕ → Reading Span → Counts → ℕ → ℕ → Span → Lined
-goodLine s ρ c n l v = stepped n (v .at .0) (oneOf (kindOf (roleIn l ρ)) c) (step (spanAt (v .at .0) (bytesOf s v)) ρ (bytesOf s v) l)
+-- a line of good form, its number n, its letter l, its value v of the text s; ls are the lines of what the session has
+abbrev pub goodLine : List ℕ → Reading Span → List ℕ → Counts → ℕ → ℕ → Span → Lined
+goodLine s ρ ls c n l v =
+    stepped n (v .at .0) (ρ .session) ls (oneOf (kindOf (roleIn l ρ)) c) (step (spanAt (v .at .0) (bytesOf s v)) ρ (bytesOf s v) l)
 
 -- by what the cutter found
 abbrev pub lineOf : List ℕ → Standing → Next → Lined
@@ -105,10 +110,10 @@ lineOf s (searching c) (Found n l v) = openedTo c (openingOf (n .0) (v .at .0) l
 lineOf s (searching c) Empty = on (searching (oneEmpty c))
 lineOf s (searching c) (Refused f n) = unread (answer (faultNumber f) (n .0) 0)
 lineOf s (searching c) End = unread noVersion
-lineOf s (reading ρ c) (Found n l v) = goodLine s ρ c (n .0) l v
-lineOf s (reading ρ c) Empty = on (reading ρ (oneEmpty c))
-lineOf s (reading ρ c) (Refused f n) = stopped (answer (faultNumber f) (n .0) 0)
-lineOf s (reading ρ c) End = ended (ρ .session) c
+lineOf s (reading ρ ls c) (Found n l v) = goodLine s ρ ls c (n .0) l v
+lineOf s (reading ρ ls c) Empty = on (reading ρ ls (oneEmpty c))
+lineOf s (reading ρ ls c) (Refused f n) = stopped (answer (faultNumber f) (n .0) 0)
+lineOf s (reading ρ ls c) End = ended (ρ .session) ls c
 
 -- ---- the code's state
 -- its marks
@@ -159,30 +164,31 @@ abbrev pub openedTurn : List ℕ → State → ℕ → ℕ → Span → Turn
 openedTurn s g n l v = openedTurnTo g (openingOf n (v .at .0) l (bytesOf s v))
 
 -- ---- what the code holds
--- the state g and the area a hold the session ρ and the counts c, with t behind the session
-pub record Carries (begun : Bool) (ρ : Reading Span) (c : Counts) (g : State) (a t : List ℕ) : Type 0 where
+-- the state g and the area a hold the session ρ, its lines and the counts c, with t behind them
+pub record Carries (begun : Bool) (ρ : Reading Span) (ls : List ℕ) (c : Counts) (g : State) (a t : List ℕ) : Type 0 where
   pub begun-is : g .begun ≡ begun
-  pub holds : Holds ρ (marksIn g) a t
+  pub holds : Holds ρ (marksIn g) a (pairs ls ++ t)
+  pub lines : length ls ≡ cells
   pub counts : countsIn g ≡ c
 
 -- before the version line the session is empty
 abbrev pub Stands : Standing → State → List ℕ → List ℕ → Type 0
-Stands (searching c) g a t = Carries false fresh c g a t
-Stands (reading ρ c) g a t = Carries true ρ c g a t
+Stands (searching c) g a t = Carries false fresh noStamps c g a t
+Stands (reading ρ ls c) g a t = Carries true ρ ls c g a t
 
 -- the code's answer for a line, and the area: after a refused line of a session only the bytes behind it still count
 abbrev pub Turned : Lined → Turn → List ℕ → List ℕ → Type 0
 Turned (on x) (Goes g) a t = Stands x g a t
 Turned (on x) (Over e) a t = ⊥
-Turned (ended s c) (Over (Accepted d)) a t = (d ≡ c) × (a ≡ encode s ++ t)
-Turned (ended s c) (Over (Stopped y)) a t = ⊥
-Turned (ended s c) (Over (Unread y)) a t = ⊥
-Turned (ended s c) (Goes g) a t = ⊥
-Turned (stopped x) (Over (Stopped y)) a t = (y ≡ x) × (drop size a ≡ t)
+Turned (ended s ls c) (Over (Accepted d)) a t = (d ≡ c) × (a ≡ areaOf s ls t)
+Turned (ended s ls c) (Over (Stopped y)) a t = ⊥
+Turned (ended s ls c) (Over (Unread y)) a t = ⊥
+Turned (ended s ls c) (Goes g) a t = ⊥
+Turned (stopped x) (Over (Stopped y)) a t = (y ≡ x) × (drop areaSize a ≡ t)
 Turned (stopped x) (Over (Accepted d)) a t = ⊥
 Turned (stopped x) (Over (Unread y)) a t = ⊥
 Turned (stopped x) (Goes g) a t = ⊥
-Turned (unread x) (Over (Unread y)) a t = (y ≡ x) × (a ≡ encode empty ++ t)
+Turned (unread x) (Over (Unread y)) a t = (y ≡ x) × (a ≡ areaOf empty noStamps t)
 Turned (unread x) (Over (Accepted d)) a t = ⊥
 Turned (unread x) (Over (Stopped y)) a t = ⊥
 Turned (unread x) (Goes g) a t = ⊥
@@ -199,7 +205,7 @@ Counted g (Over e) = Unit {0}
 -- a line of good form after the version line
 abbrev pub GoodTurns : List ℕ → ℕ → ℕ → Span → State → Turn → List ℕ → List ℕ → Type 0
 GoodTurns s n l v g r a a′ =
-    ((ρ : Reading Span) (c : Counts) (t : List ℕ) → Carries true ρ c g a t → Turned (goodLine s ρ c n l v) r a′ t) × Counted g r
+    ((ρ : Reading Span) (ls : List ℕ) (c : Counts) (t : List ℕ) → Carries true ρ ls c g a t → Turned (goodLine s ρ ls c n l v) r a′ t) × Counted g r
 
 -- a reading goes on only past a line
 abbrev pub Passes : Next → State → Turn → Type 0

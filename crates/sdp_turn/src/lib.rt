@@ -3,10 +3,12 @@ ghost use mathlib.Core.Path.{_≡_};
 ghost use Prim.Native.Nat.{_+_, _≤_, _<_, _^_};
 ghost use lib.ListN.{length};
 ghost use Rattle.sdp_numbers.specs.Refusals.{longestText, encoding};
-ghost use Rattle.sdp_area.specs.Area.{size};
+ghost use Rattle.sdp_area.specs.Columns.{areaSize};
 ghost use Rattle.sdp_line.specs.Version.{answer};
 ghost use Rattle.sdp_turn.specs.Turn.{Inside, Few, marksIn, countsIn, emptyMore, ignoredMore, keptMore};
 ghost use Rattle.sdp_turn.specs.Turn.{wrongAt, refusedTurn, endTurn, openedTurn, GoodTurns, lineOf, Turns, Passes};
+use sdp_area::medias;
+use sdp_area::offsets;
 use sdp_counts::Counts;
 use sdp_cutter::Next;
 use sdp_judge::Wrong;
@@ -18,6 +20,8 @@ use sdp_lines::LineNumber;
 use sdp_lines::Place;
 use sdp_lines::Span;
 use sdp_lines::fault_number;
+use sdp_roles::role_at;
+use sdp_stamp::stamp;
 use sdp_step::Marks;
 use sdp_step::Taken;
 
@@ -150,14 +154,19 @@ fn good_line(
     letter: u8,
     value: Span,
 ) -> Turn
-    requires { ⌜ (size ≤ length (now area)) × ((length (now text) ≤ longestText) × (Few state × (value .at .0 + value .len ≤ length (now text)))) ⌝ }
+    requires { ⌜ (areaSize ≤ length (now area)) × ((length (now text) ≤ longestText) × (Few state × (value .at .0 + value .len ≤ length (now text)))) ⌝ }
     ensures { λ r. ⌜ GoodTurns (now (text .entry)) (number .0) letter value state r (now (area .entry)) (now (area .exit)) ⌝ }
 {
     let at = value.at;
     let begin = at.0;
     let end = begin + value.len;
+    let role = role_at(medias(area), letter);
+    let before = offsets(area);
     match take(area, at, marks_of(state), number, letter, &text[begin..end]) {
-        Taken::Kept(marks) => Turn::Goes(one_kept(state, marks)),
+        Taken::Kept(marks) => {
+            stamp(area, role, before, number.0);
+            Turn::Goes(one_kept(state, marks))
+        }
         Taken::Idle => Turn::Goes(one_ignored(state)),
         Taken::Refused(w) => Turn::Over(Ended::Stopped(wrong_at(number, at, w))),
     }
@@ -199,7 +208,7 @@ fn at_end(state: State) -> Turn
 
 // What the cutter found, and what it does to a reading.
 pub fn turn_of(text: &[u8], area: &mut [u8], state: State, next: Next) -> Turn
-    requires { ⌜ (size ≤ length (now area)) × ((length (now text) ≤ longestText) × (Few state × Inside (now text) next)) ⌝ }
+    requires { ⌜ (areaSize ≤ length (now area)) × ((length (now text) ≤ longestText) × (Few state × Inside (now text) next)) ⌝ }
     ensures { λ r. ⌜ Turns (λ st. lineOf (now (text .entry)) st next)
         state r (now (area .entry)) (now (area .exit)) × Passes next state r ⌝ }
 {

@@ -33,43 +33,43 @@ five k l m n o k′ l′ m′ n′ o′ h =
 
 -- ---- the ten tables
 module _ (a : List ℕ) (c : Counted a) where
-  small : (num 2 a emailsAt ≤ mostEmails) × (num 2 a phonesAt ≤ mostPhones) × (num 2 a connectionsAt ≤ mostMediaConnections) × (num 2 a bandwidthsAt ≤ mostBandwidths) × (num 2 a timesAt ≤ mostTimes)
+  pub small-within : (num 2 a emailsAt ≤ mostEmails) × (num 2 a phonesAt ≤ mostPhones) × (num 2 a connectionsAt ≤ mostMediaConnections) × (num 2 a bandwidthsAt ≤ mostBandwidths) × (num 2 a timesAt ≤ mostTimes)
   unfolding Judge.smallCounts
-  small = five (num 2 a emailsAt) (num 2 a phonesAt) (num 2 a connectionsAt) (num 2 a bandwidthsAt) (num 2 a timesAt) mostEmails mostPhones mostMediaConnections mostBandwidths mostTimes (c .small)
+  small-within = five (num 2 a emailsAt) (num 2 a phonesAt) (num 2 a connectionsAt) (num 2 a bandwidthsAt) (num 2 a timesAt) mostEmails mostPhones mostMediaConnections mostBandwidths mostTimes (c .small)
 
-  large : (num 2 a repeatsAt ≤ mostRepeats) × (num 2 a offsetsAt ≤ mostOffsets) × (num 2 a zonesAt ≤ mostZones) × (num 2 a attributesAt ≤ mostAttributes) × (num 2 a mediasAt ≤ mostMedias)
+  pub large-within : (num 2 a repeatsAt ≤ mostRepeats) × (num 2 a offsetsAt ≤ mostOffsets) × (num 2 a zonesAt ≤ mostZones) × (num 2 a attributesAt ≤ mostAttributes) × (num 2 a mediasAt ≤ mostMedias)
   unfolding Judge.largeCounts
-  large = five (num 2 a repeatsAt) (num 2 a offsetsAt) (num 2 a zonesAt) (num 2 a attributesAt) (num 2 a mediasAt) mostRepeats mostOffsets mostZones mostAttributes mostMedias (c .large)
+  large-within = five (num 2 a repeatsAt) (num 2 a offsetsAt) (num 2 a zonesAt) (num 2 a attributesAt) (num 2 a mediasAt) mostRepeats mostOffsets mostZones mostAttributes mostMedias (c .large)
 
   pub emails-inside : Inside a emailsAt 4
-  emails-inside = omega (arith, c .whole, small .0)
+  emails-inside = omega (arith, c .whole, small-within .0)
 
   pub phones-inside : Inside a phonesAt 4
-  phones-inside = omega (arith, c .whole, small .1)
+  phones-inside = omega (arith, c .whole, small-within .1)
 
   pub connections-inside : Inside a connectionsAt 14
-  connections-inside = omega (arith, c .whole, small .2)
+  connections-inside = omega (arith, c .whole, small-within .2)
 
   pub bandwidths-inside : Inside a bandwidthsAt 14
-  bandwidths-inside = omega (arith, c .whole, small .3)
+  bandwidths-inside = omega (arith, c .whole, small-within .3)
 
   pub times-inside : Inside a timesAt 16
-  times-inside = omega (arith, c .whole, small .4)
+  times-inside = omega (arith, c .whole, small-within .4)
 
   pub repeats-inside : Inside a repeatsAt 18
-  repeats-inside = omega (arith, c .whole, large .0)
+  repeats-inside = omega (arith, c .whole, large-within .0)
 
   pub offsets-inside : Inside a offsetsAt 10
-  offsets-inside = omega (arith, c .whole, large .1)
+  offsets-inside = omega (arith, c .whole, large-within .1)
 
   pub zones-inside : Inside a zonesAt 16
-  zones-inside = omega (arith, c .whole, large .2)
+  zones-inside = omega (arith, c .whole, large-within .2)
 
   pub attributes-inside : Inside a attributesAt 12
-  attributes-inside = omega (arith, c .whole, large .3)
+  attributes-inside = omega (arith, c .whole, large-within .3)
 
   pub medias-inside : Inside a mediasAt 36
-  medias-inside = omega (arith, c .whole, large .4)
+  medias-inside = omega (arith, c .whole, large-within .4)
 
 -- ---- a row whose kind is known lies in the area; the kinds of rows have their widths
 pub kind-inside : {K : Type 0} (width : K → ℕ) (k k′ : K) (p end : ℕ) → k ≡ k′ → p + width k ≤ end → p + width k′ ≤ end

@@ -41,10 +41,10 @@ unfolding judged
 mark-only m k e = rw (← e, and-true)
 
 -- ---- the rows that are left: n - i of them, from p on
-left-one : (n i : ℕ) → i < n → n - i ≡ suc (n - (i + 1))
+pub left-one : (n i : ℕ) → i < n → n - i ≡ suc (n - (i + 1))
 left-one n i h = omega arith
 
-left-none : (n i : ℕ) → n ≤ i → n - i ≡ 0
+pub left-none : (n i : ℕ) → n ≤ i → n - i ≡ 0
 left-none n i h = omega arith
 
 pub every-all : (f : ℕ → Bool) (w n m p : ℕ) → n ≡ m → everyAt f w m p ≡ everyAt f w (n - 0) p

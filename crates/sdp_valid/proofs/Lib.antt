@@ -1,3 +1,4 @@
 pub mod JudgeLaws
 pub mod CountedLaws
 pub mod PlainLaws
+pub mod FrontLaws

@@ -121,7 +121,7 @@ fn answer_out(a: Answer) {
 }
 
 fn read_out(s: &[u8]) {
-    let mut area = [0u8; 14558];
+    let mut area = [0u8; 16938];
     let told = sdp::sdp_read(s, &mut area);
     letter_out(b'r');
     answer_out(told.answer);
@@ -156,7 +156,7 @@ fn both_out(s: &[u8], area: &[u8], out: &mut [u8]) {
 }
 
 fn written_out(s: &[u8]) {
-    let mut area = [0u8; 14558];
+    let mut area = [0u8; 16938];
     let told = sdp::sdp_read(s, &mut area);
     letter_out(b'w');
     number_out(told.counts.empty);

@@ -14,7 +14,7 @@ const ALLOWED: [&str; 5] = ["bcmp", "memcmp", "memcpy", "memmove", "memset"];
 
 #[test]
 fn size_of_the_area() {
-    assert_eq!(compare::area_size(), 14_558);
+    assert_eq!(compare::area_size(), 16_938);
 }
 
 #[test]

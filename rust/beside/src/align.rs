@@ -1,7 +1,5 @@
-//! Which line of an accepted text became which line of its canonical form. The reader's rules decide this, and no
-//! likeness: each line with a use is written as one line, those of one letter and one media in the order in which they
-//! came. So the first `a` line of the second media became the first `a` line of the second media.
-use std::collections::{BTreeMap, VecDeque};
+//! Which line of an accepted text became which line of its canonical form. Each record carries the line that it was read
+//! from, and each line of the canonical form is one record, so the archive says this, and no likeness.
 
 /// The lines of a text without their ends. A line ends at LF, and one CR just before belongs to that end.
 pub fn lines(text: &[u8]) -> Vec<&[u8]> {
@@ -42,30 +40,16 @@ pub enum Row {
     MovedTo { left: usize, right: usize },
 }
 
-/// What a line with a use is: its media, counted from 1 (0 for the session), and its letter.
-type Kind = (usize, u8);
-
-/// The kind of each line, or why it is dropped.
-fn kinds(lines: &[&[u8]]) -> Vec<Result<Kind, Dropped>> {
-    let (mut version, mut media) = (false, 0);
-    let mut kind = |line: &&[u8]| {
-        let letter = *line.first().ok_or(Dropped::Empty)?;
-        if letter == b'v' {
-            let first = !std::mem::replace(&mut version, true);
-            return if first { Ok((0, letter)) } else { Err(Dropped::LaterVersion) };
-        }
-        if letter == b'k' {
-            return Err(Dropped::Key);
-        }
-        media += usize::from(letter == b'm');
-        let useful: &[u8] = if media > 0 { b"micba" } else { b"osiuepcbtrza" };
-        if useful.contains(&letter) {
-            Ok((media, letter))
-        } else {
-            Err(if media > 0 { Dropped::InMedia } else { Dropped::InSession })
-        }
-    };
-    lines.iter().map(&mut kind).collect()
+/// Why a line that no record was read from is not in the canonical form.
+fn dropped(line: &[u8], in_media: bool) -> Dropped {
+    match line.first() {
+        None => Dropped::Empty,
+        Some(b'v') => Dropped::LaterVersion,
+        Some(b'k') => Dropped::Key,
+        Some(b'z') if !in_media => Dropped::Nothing,
+        Some(_) if in_media => Dropped::InMedia,
+        Some(_) => Dropped::InSession,
+    }
 }
 
 /// The most pairs whose right lines rise: these stand still, the others were moved.
@@ -90,17 +74,17 @@ fn still(pairs: &[(usize, usize)]) -> Vec<bool> {
     still
 }
 
-/// The rows for the lines of an accepted text and those of its canonical form. Each line has one row.
-pub fn align(left: &[&[u8]], right: &[&[u8]]) -> Vec<Row> {
-    let left_kinds = kinds(left);
-    let mut due: BTreeMap<Kind, VecDeque<usize>> = BTreeMap::new();
-    for (at, kind) in kinds(right).into_iter().enumerate() {
-        if let Ok(kind) = kind {
-            due.entry(kind).or_default().push_back(at);
+/// The rows for the lines of an accepted text and those of its canonical form. Each line has one row. `from` has for each line
+/// of the canonical form the one that it was read from, counted from 1, and 0 for what the text doesn't have.
+pub fn align(left: &[&[u8]], right: &[&[u8]], from: &[u64]) -> Vec<Row> {
+    let mut right_of: Vec<Option<usize>> = vec![None; left.len()];
+    for (at, line) in from.iter().enumerate().take(right.len()) {
+        let place = usize::try_from(*line).ok().and_then(|line| line.checked_sub(1));
+        if let Some(of_line) = place.and_then(|place| right_of.get_mut(place)) {
+            of_line.get_or_insert(at);
         }
     }
-    let mut became = |kind: &Result<Kind, Dropped>| kind.as_ref().ok().and_then(|kind| due.get_mut(kind)?.pop_front());
-    let right_of: Vec<Option<usize>> = left_kinds.iter().map(&mut became).collect();
+    let medias = left.iter().position(|line| line.first() == Some(&b'm')).unwrap_or(left.len());
     let pairs: Vec<(usize, usize)> = right_of.iter().enumerate().filter_map(|(l, r)| Some((l, (*r)?))).collect();
     let mut left_of = vec![None; right.len()];
     for (pair, still) in pairs.iter().zip(still(&pairs)) {
@@ -111,11 +95,10 @@ pub fn align(left: &[&[u8]], right: &[&[u8]]) -> Vec<Row> {
         Some((left, _)) => Row::MovedTo { left, right: at },
     };
     let (mut rows, mut written) = (Vec::new(), 0);
-    for (at, kind) in left_kinds.iter().enumerate() {
-        let row = match (kind, right_of[at]) {
-            (Err(why), _) => Row::Dropped { left: at, why: *why },
-            (Ok(_), None) => Row::Dropped { left: at, why: Dropped::Nothing },
-            (Ok(_), Some(to)) if left_of[to] == Some((at, true)) => {
+    for (at, line) in left.iter().enumerate() {
+        let row = match right_of[at] {
+            None => Row::Dropped { left: at, why: dropped(line, at > medias) },
+            Some(to) if left_of[to] == Some((at, true)) => {
                 rows.extend((written..to).map(moved_to));
                 written = to + 1;
                 if left[at] == right[to] {
@@ -124,7 +107,7 @@ pub fn align(left: &[&[u8]], right: &[&[u8]]) -> Vec<Row> {
                     Row::Changed { left: at, right: to }
                 }
             }
-            (Ok(_), Some(to)) => Row::MovedFrom { left: at, right: to },
+            Some(to) => Row::MovedFrom { left: at, right: to },
         };
         rows.push(row);
     }

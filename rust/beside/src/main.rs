@@ -11,7 +11,8 @@ const ME: Program = Program("beside");
 const HELP: &str = "\
 usage: beside [FILE]
 Shows a session description and its canonical form side by side, line by line. Without FILE, or with -, the text comes
-from standard input. The lines are numbered on both sides; between them stands a mark:
+from standard input. The lines are numbered on both sides. Each line on the right is a record of the session, and the
+number on the left, or behind 'from line', is the line of the text that the record carries. Between them stands a mark:
   =  the line is written as it stands
   ~  changed: numbers, times and spaces are written in one way
   -  dropped: an empty line, a letter that has no use there or no use any more, or a z line without zones

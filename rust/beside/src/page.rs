@@ -151,7 +151,7 @@ impl Pen {
 pub fn page(text: &[u8], answer: &Result<Accepted, Error>, colour: bool) -> String {
     let pen = Pen { out: String::new(), colour, spaces: 0 };
     match answer {
-        Ok(Accepted { written, counts }) => both(pen, text, written) + &told(counts),
+        Ok(Accepted { written, from, counts }) => both(pen, text, written, from) + &told(counts),
         Err(refusal) => refused(pen, text, *refusal),
     }
 }
@@ -164,9 +164,9 @@ fn told(counts: &Counts) -> String {
     format!("text: {all} {lines}, {kept} kept, {ignored} ignored, {empty} empty\n")
 }
 
-fn both(mut pen: Pen, text: &[u8], written: &[u8]) -> String {
+fn both(mut pen: Pen, text: &[u8], written: &[u8], from: &[u64]) -> String {
     let (left, right) = (lines(text), lines(written));
-    let aligned = align(&left, &right);
+    let aligned = align(&left, &right, from);
     let mut rows = vec![(
         note(&format!("text ({})", endings(text))),
         ' ',

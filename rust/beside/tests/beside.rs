@@ -9,6 +9,7 @@ use beside::page::{page as page_of, LONGEST, WIDTH};
 use beside::{answer, Accepted};
 use generate::random::{count, from_env};
 use generate::sessions;
+use std::collections::{BTreeMap, VecDeque};
 use std::fs;
 use std::io::Write;
 use std::path::{Path, PathBuf};
@@ -51,8 +52,13 @@ fn canonical(text: &[u8]) -> Result<Vec<u8>, sdp::Error> {
 }
 
 /// The accepted texts, with their canonical forms and their pages.
-fn accepted() -> impl Iterator<Item = (&'static [u8], &'static [u8], &'static str)> {
-    cases().iter().filter_map(|case| Some((&case.text[..], &case.answer.as_ref().ok()?.written[..], case.page.as_str())))
+fn accepted() -> impl Iterator<Item = (&'static [u8], &'static Accepted, &'static str)> {
+    cases().iter().filter_map(|case| Some((&case.text[..], case.answer.as_ref().ok()?, case.page.as_str())))
+}
+
+/// The rows of an accepted text.
+fn rows_of(text: &[u8], Accepted { written, from, .. }: &Accepted) -> Vec<Row> {
+    align(&lines(text), &lines(written), from)
 }
 
 fn generated() -> usize {
@@ -91,14 +97,77 @@ fn texts() -> Vec<Vec<u8>> {
 
 // ---- the alignment
 
+/// What a line with a use is: its media, counted from 1 (0 for the session), and its letter.
+type Kind = (usize, u8);
+
+/// The kind of each line with a use, by the reader's rules.
+fn kinds(lines: &[&[u8]]) -> Vec<Option<Kind>> {
+    let (mut begun, mut media) = (false, 0);
+    let mut kind = |line: &&[u8]| {
+        let letter = *line.first()?;
+        if !std::mem::replace(&mut begun, true) {
+            return Some((0, b'v'));
+        }
+        media += usize::from(letter == b'm');
+        let useful: &[u8] = if media > 0 { b"micba" } else { b"osiuepcbtrza" };
+        useful.contains(&letter).then_some((media, letter))
+    };
+    lines.iter().map(&mut kind).collect()
+}
+
+/// The lines that the records carry are those that the rules give: each line with a use is written as one line, those of one
+/// letter and one media in the order in which they came. What is left over on the right is not in the text.
+#[test]
+fn the_lines_by_the_rules() {
+    let (mut paired, mut added) = (0, 0);
+    for (text, Accepted { written, from, .. }, _) in accepted() {
+        let (left, right) = (lines(text), lines(written));
+        let mut came: BTreeMap<Kind, VecDeque<u64>> = BTreeMap::new();
+        for (line, kind) in (1..).zip(kinds(&left)) {
+            kind.into_iter().for_each(|kind| came.entry(kind).or_default().push_back(line));
+        }
+        let due = kinds(&right).into_iter().map(|kind| {
+            let kind = kind.expect("every line of a canonical form has a use");
+            came.get_mut(&kind).and_then(VecDeque::pop_front).unwrap_or(0)
+        });
+        let due: Vec<u64> = due.collect();
+        assert_eq!(*from, due, "{}", text.escape_ascii());
+        paired += due.iter().filter(|line| **line > 0).count();
+        added += due.iter().filter(|line| **line == 0).count();
+        // of the text's lines with a use only a z line without pairs may be left
+        assert!(came.into_iter().all(|(kind, left)| left.is_empty() || kind == (0, b'z')), "{}", text.escape_ascii());
+    }
+    println!("beside: {paired} lines by the rules, {added} that are not in the text");
+    assert!(paired > generated() * 2 && added > generated() / 4);
+}
+
+/// A wrong line is never lost from the page: it is another row, or one that is added.
+#[test]
+fn wrong_lines() {
+    let text = b"v=0\ns=x\ne=a\ne=b\n";
+    let Accepted { written, from, .. } = answer(text).unwrap();
+    let (left, right) = (lines(text), lines(&written));
+    assert_eq!(from, [1, 0, 2, 3, 4, 0]);
+    for wrong in [vec![], vec![1; 6], vec![1, 2, 3, 4, 5, 6], vec![4, 3, 2, 1, 0, u64::MAX], vec![0; 9]] {
+        let rows = align(&left, &right, &wrong);
+        let of = |row: &Row| match *row {
+            Row::Same { left, right } | Row::Changed { left, right } => (Some(left), Some(right)),
+            Row::Dropped { left, .. } | Row::MovedFrom { left, .. } => (Some(left), None),
+            Row::Added { right } | Row::MovedTo { right, .. } => (None, Some(right)),
+        };
+        let (lefts, rights): (Vec<_>, Vec<_>) = rows.iter().map(of).unzip();
+        assert!(lefts.into_iter().flatten().eq(0..4) && rights.into_iter().flatten().eq(0..6), "{wrong:?}: {rows:?}");
+    }
+}
+
 /// Each line of both sides has one row, in its order; a moved one has one in each column, which name each other.
 #[test]
 fn each_line_once() {
     let (mut texts, mut moved) = (0, 0);
-    for (text, written, _) in accepted() {
+    for (text, accepted, _) in accepted() {
         texts += 1;
-        let (left, right) = (lines(text), lines(written));
-        let rows = align(&left, &right);
+        let (left, right) = (lines(text), lines(&accepted.written));
+        let rows = rows_of(text, accepted);
         let (mut lefts, mut rights, mut from, mut to) = (Vec::new(), Vec::new(), Vec::new(), Vec::new());
         for row in &rows {
             match *row {
@@ -146,10 +215,10 @@ fn each_pair_alone() {
         (&before[start][..], canonical(&[starts[start], line, b"\n"].concat()))
     };
     let (mut pairs, mut dropped, mut added) = (0, 0, 0);
-    for (text, written, _) in accepted() {
-        let (left, right) = (lines(text), lines(written));
+    for (text, accepted, _) in accepted() {
+        let (left, right) = (lines(text), lines(&accepted.written));
         let medias = left.iter().position(|line| line.first() == Some(&b'm')).unwrap_or(left.len());
-        for row in align(&left, &right) {
+        for row in rows_of(text, accepted) {
             match row {
                 Row::Same { left: l, right: r } | Row::Changed { left: l, right: r } | Row::MovedFrom { left: l, right: r } => {
                     let (_, after) = alone(left[l], l >= medias);
@@ -237,7 +306,7 @@ fn the_page_has_all_lines() {
         lines(text).iter().map(line).collect()
     };
     let mut pages = 0;
-    for (text, written, page) in accepted().filter(|(.., page)| page.is_ascii()) {
+    for (text, accepted, page) in accepted().filter(|(.., page)| page.is_ascii()) {
         pages += 1;
         let title = page.lines().next().unwrap();
         let (left, right) = (title.find("text (").unwrap(), title.find("canonical form (").unwrap());
@@ -263,10 +332,44 @@ fn the_page_has_all_lines() {
         // padding can't be told from spaces at a piece's end, so all spaces are left out
         let packed = |lines: &[String]| lines.iter().map(|line| line.replace(' ', "")).collect::<Vec<_>>();
         assert_eq!(packed(&columns[0].3), packed(&shown(text)));
-        assert_eq!(packed(&columns[1].3), packed(&shown(written)));
+        assert_eq!(packed(&columns[1].3), packed(&shown(&accepted.written)));
     }
     println!("beside: {pages} pages read back");
     assert!(pages > generated() / 10);
+}
+
+/// Read from the page: each line of the canonical form stands in a row that names the line its record carries, as the number
+/// on the left or behind `from line`; where it carries none, a note says that it was added.
+#[test]
+fn each_record_s_line_is_named() {
+    let mut seen: BTreeMap<&str, usize> = BTreeMap::new();
+    for (_, accepted, page) in accepted().filter(|(.., page)| page.is_ascii()) {
+        let title = page.lines().next().unwrap();
+        let (left, right) = (title.find("text (").unwrap(), title.find("canonical form (").unwrap());
+        let digits = left - 1;
+        let mark = right - digits - 3;
+        let mut due = accepted.from.iter();
+        for row in page.lines().skip(1).take_while(|row| !row.is_empty()) {
+            let part = |from: usize, to: usize| row[from.min(row.len())..to.min(row.len())].trim();
+            if part(mark + 2, right - 1).is_empty() {
+                continue; // nothing of the canonical form, or a line that goes on
+            }
+            let line = due.next().expect("a line of the canonical form").to_string();
+            let (number, words) = (part(0, digits), part(left, mark - 1));
+            let named = words.strip_prefix("(from line ").map(|rest| rest.trim_end_matches([')', ' ']));
+            let named = named.map(|rest| rest.split(',').next().unwrap());
+            match part(mark, mark + 1) {
+                "=" | "~" => assert_eq!(number, line, "{page}"),
+                "<" => assert_eq!((number, named), ("", Some(&line[..])), "{page}"),
+                "+" => assert_eq!((number, &line[..], words.starts_with('(')), ("", "0", true), "{page}"),
+                other => panic!("{other:?} in {row}"),
+            }
+            *seen.entry(part(mark, mark + 1)).or_default() += 1;
+        }
+        assert_eq!(due.next(), None, "{page}");
+    }
+    println!("beside: lines named in rows marked {seen:?}");
+    assert!(seen.len() == 4 && seen.values().all(|count| *count > generated() / 40), "{seen:?}");
 }
 
 /// A terminal shows the same as a pipe, and colour is never in the text's own bytes.
@@ -296,13 +399,14 @@ fn colour_changes_no_text() {
 fn the_lines_are_counted() {
     let (mut pages, mut seen) = (0, [0; 3]);
     for Case { text, answer, page } in cases() {
-        let Ok(Accepted { written, counts }) = answer else {
+        let Ok(accepted) = answer else {
             assert!(!page.contains("\ntext: "), "{page}");
             continue;
         };
+        let counts = &accepted.counts;
         // what the alignment makes of each line, by code of its own
         let (mut empty, mut ignored, mut kept) = (0, 0, 0);
-        for row in align(&lines(text), &lines(written)) {
+        for row in rows_of(text, accepted) {
             match row {
                 Row::Added { .. } | Row::MovedTo { .. } => {}
                 Row::Dropped { why: Dropped::Empty, .. } => empty += 1,

@@ -1,6 +1,6 @@
 //! The counts of lines that a reading returns (document 02, P11), held to the text: their sum to its LFs, and each of them
 //! to the oracle's, which is there where the crate is.
-use crate::{Answer, Counts, Told};
+use crate::{lined, Answer, Counts, Told};
 
 /// The answer of a reading, unless its counts are wrong. A refusal must have zeros.
 pub fn check(text: &[u8], told: Told) -> Result<Answer, String> {
@@ -27,8 +27,12 @@ pub fn check(text: &[u8], told: Told) -> Result<Answer, String> {
     Ok(answer)
 }
 
-/// Reads with the archive, for a test that looks at the answer and the area. Wrong counts end it.
+/// Reads with the archive, for a test that looks at the answer and the area. Wrong counts end it, and wrong lines.
 #[inline] // so that only a program that reads needs the archive to have it
 pub fn read(text: &[u8], area: &mut [u8]) -> Answer {
-    check(text, crate::read(text, area)).unwrap_or_else(|why| panic!("{}: {why}", text.escape_ascii()))
+    let checked = check(text, crate::read(text, area)).and_then(|answer| match answer.number {
+        0 => lined::check(text, area).map(|()| answer),
+        _ => Ok(answer),
+    });
+    checked.unwrap_or_else(|why| panic!("{}: {why}", text.escape_ascii()))
 }

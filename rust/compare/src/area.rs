@@ -1,8 +1,15 @@
 //! The record area, read with docs/AREA.md in hand: bytes into a session whose strings are places in the text, and that
-//! into one whose strings are bytes. Whatever breaks the page's rules is an error. A test holds `PARTS` to the page.
+//! into one whose strings are bytes. Whatever breaks the page's rules is an error. A test holds `PARTS` and `COLUMNS` to the
+//! page.
 
-/// Bytes of the area.
-pub const SIZE: usize = 14_558;
+/// Bytes of the area: the session, and behind it the lines.
+pub const SIZE: usize = 16_938;
+
+/// Bytes of the session: all that an area was before records had lines.
+pub const SESSION: usize = 14_558;
+
+/// No line is above this.
+pub const LAST_LINE: usize = 32_768;
 
 /// A part of the area: what a session has at most once, or a table.
 #[derive(Debug)]
@@ -165,6 +172,46 @@ pub static PARTS: [Part; 16] = [
     },
 ];
 
+/// The lines of what a part holds, or of what each media may have: a cell of two bytes for each.
+#[derive(Debug)]
+pub struct Column {
+    pub name: &'static str,
+    pub at: usize,
+    pub cells: usize,
+}
+
+const fn column(name: &'static str, at: usize, cells: usize) -> Column {
+    Column { name, at, cells }
+}
+
+/// All columns in their order: those of the parts, and then two more of the medias.
+pub static COLUMNS: [Column; 18] = [
+    column("origin", 14_558, 1),
+    column("name", 14_560, 1),
+    column("description", 14_562, 1),
+    column("uri", 14_564, 1),
+    column("connection", 14_566, 1),
+    column("key", 14_568, 1),
+    column("emails", 14_570, 16),
+    column("phones", 14_602, 16),
+    column("media connections", 14_634, 64),
+    column("bandwidths", 14_762, 64),
+    column("times", 14_890, 32),
+    column("repeats", 14_954, 64),
+    column("offsets", 15_082, 256),
+    column("zones", 15_594, 64),
+    column("attributes", 15_722, 512),
+    column("medias", 16_746, 32),
+    column("media titles", 16_810, 32),
+    column("media keys", 16_874, 32),
+];
+
+/// The line in each cell of a column.
+pub fn lines(area: &[u8], column: &Column) -> Vec<usize> {
+    let cells = area[column.at..column.at + 2 * column.cells].chunks_exact(2);
+    cells.map(|cell| usize::from(u16::from_le_bytes([cell[0], cell[1]]))).collect()
+}
+
 /// A string as the area has it.
 #[derive(Debug, Clone, Copy, PartialEq, Eq, Default)]
 pub struct Span {
@@ -293,6 +340,24 @@ impl<S> Seen<S> {
             self.attributes.len(),
             self.medias.len(),
         ]
+    }
+
+    /// Whether something is there that a cell of a column has the line of, for the first cells; nothing is for the others.
+    fn there(&self, column: &str) -> Vec<bool> {
+        match column {
+            "origin" => vec![self.origin.is_some()],
+            "name" => vec![true],
+            "description" => vec![self.description.is_some()],
+            "uri" => vec![self.uri.is_some()],
+            "connection" => vec![self.connection.is_some()],
+            "key" => vec![self.key.is_some()],
+            "media titles" => self.medias.iter().map(|media| media.title.is_some()).collect(),
+            "media keys" => self.medias.iter().map(|media| media.key.is_some()).collect(),
+            table => {
+                let number = PARTS[6..].iter().position(|part| part.name == table).expect("a table");
+                vec![true; self.counts()[number]]
+            }
+        }
     }
 }
 
@@ -435,7 +500,8 @@ fn owners(of: &str, owners: impl Iterator<Item = u64>, lowest: u64, count: usize
     Ok(())
 }
 
-/// What the first `SIZE` bytes hold, by the rules for an area after acceptance.
+/// The session that the first `SIZE` bytes hold, by the rules for an area after acceptance. Its lines are judged, and are no
+/// part of it: `lines` has them.
 pub fn decode(area: &[u8]) -> Result<Seen<Span>, String> {
     if area.len() < SIZE {
         return Err(format!("an area has {SIZE} bytes, not {}", area.len()));
@@ -535,6 +601,16 @@ pub fn decode(area: &[u8]) -> Result<Seen<Span>, String> {
     owners("repeats", seen.repeats.iter().map(|row| row.owner), 1, times)?;
     owners("offsets", seen.offsets.iter().map(|row| row.owner), 1, repeats)?;
     owners("attributes", seen.attributes.iter().map(|row| row.owner), 0, medias)?;
+    for column in &COLUMNS {
+        let there = seen.there(column.name);
+        for (cell, line) in lines(area, column).into_iter().enumerate() {
+            let there = there.get(cell).copied().unwrap_or(false);
+            if line > if there { LAST_LINE } else { 0 } {
+                let what = if there { "above 32768" } else { "of nothing" };
+                return Err(format!("{}: line {line} in cell {} is {what}", column.name, cell + 1));
+            }
+        }
+    }
     Ok(seen)
 }
 

@@ -1,7 +1,7 @@
 //! One text through a reader and, without its k lines, through the crate. The reader is a parameter, so that the
 //! comparison can be tested with readers that are known to be wrong.
 use crate::area::{self, SIZE};
-use crate::{account, placed, theirs, Answer, Counts, Told};
+use crate::{account, lined, placed, theirs, Answer, Counts, Told};
 use generate::shrink;
 use oracle::{bad_byte, Refusal, Session};
 use std::collections::BTreeMap;
@@ -87,6 +87,7 @@ impl<R: Fn(&[u8], &mut [u8]) -> Told> Bench<R> {
                     return Err(format!("ours {strings:?}\nthe crate {due:?}"));
                 }
                 placed::check(&seen, text)?;
+                lined::check(text, &self.room)?;
             }
         }
         Ok((ours, crates.ok()))

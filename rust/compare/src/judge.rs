@@ -1,6 +1,6 @@
-//! Which areas can be written: document 01, "Writing", in its words, over the layout of docs/AREA.md. Every cell of an
-//! area is either judged or, past a count or in an absent field, not looked at.
-use crate::area::{all_zero, Part, PARTS, SIZE};
+//! Which areas can be written: document 01, "Writing", in its words, and document 02, P9, over the layout of docs/AREA.md.
+//! Every cell of an area is either judged or, past a count or in an absent field, not looked at.
+use crate::area::{all_zero, Column, Part, COLUMNS, PARTS, SIZE};
 use std::collections::BTreeSet;
 use std::sync::OnceLock;
 use std::time::{Duration, Instant};
@@ -23,9 +23,11 @@ pub enum Fault {
     OwnerFalls,
     /// A presence mark is neither present nor absent.
     Mark,
+    /// "23 also for a line above 32,768."
+    Line,
 }
 
-pub const FAULTS: [Fault; 7] = [
+pub const FAULTS: [Fault; 8] = [
     Fault::Count,
     Fault::Outside,
     Fault::Encoding,
@@ -33,6 +35,7 @@ pub const FAULTS: [Fault; 7] = [
     Fault::OwnerPast,
     Fault::OwnerFalls,
     Fault::Mark,
+    Fault::Line,
 ];
 
 #[derive(Debug, Clone, Copy, PartialEq, Eq)]
@@ -42,9 +45,10 @@ pub enum Kind {
     Owner,
     Text,
     Number,
+    Line,
 }
 
-/// A cell of the area. Row 0 is the first one.
+/// A cell of the area. Row 0 is the first one. Of a line the part is that of the record.
 #[derive(Debug, Clone, Copy)]
 pub struct Cell {
     pub part: &'static Part,
@@ -71,6 +75,29 @@ const MARKS: [(&str, &str, &str); 12] = [
     ("medias", "title mark", "title"),
     ("medias", "key mark", "key text"),
     ("medias", "key text mark", "key text"),
+];
+
+/// Each column with the part whose lines it has, what its cells are called, and the mark by which its line is there: the name
+/// has none, and a row of a table needs none.
+const LINES: [(&str, &str, &str, Option<&str>); 18] = [
+    ("origin", "origin", "line", Some("mark")),
+    ("name", "name", "line", None),
+    ("description", "description", "line", Some("mark")),
+    ("uri", "uri", "line", Some("mark")),
+    ("connection", "connection", "line", Some("mark")),
+    ("key", "key", "line", Some("mark")),
+    ("emails", "emails", "line", None),
+    ("phones", "phones", "line", None),
+    ("media connections", "media connections", "line", None),
+    ("bandwidths", "bandwidths", "line", None),
+    ("times", "times", "line", None),
+    ("repeats", "repeats", "line", None),
+    ("offsets", "offsets", "line", None),
+    ("zones", "zones", "line", None),
+    ("attributes", "attributes", "line", None),
+    ("medias", "medias", "line", None),
+    ("media titles", "medias", "title line", Some("title mark")),
+    ("media keys", "medias", "key line", Some("key mark")),
 ];
 
 /// Each table with owners: the lowest owner, and the table that an owner names a row of.
@@ -111,13 +138,33 @@ fn layout() -> &'static [Vec<(Cell, usize)>] {
     static LAYOUT: OnceLock<Vec<Vec<(Cell, usize)>>> = OnceLock::new();
     LAYOUT.get_or_init(|| {
         let parts: Vec<_> = PARTS.iter().map(laid).collect();
-        let end = parts.iter().flatten().fold(0, |at, (cell, _)| {
+        let cells = parts.iter().flatten().map(|(cell, _)| cell).chain(lines().iter().flatten().map(|(cell, _)| cell));
+        let end = cells.fold(0, |at, cell| {
             assert_eq!(cell.at, at, "{} {}: no byte lies between two cells", cell.part.name, cell.name);
             at + cell.width
         });
         assert_eq!(end, SIZE);
         parts
     })
+}
+
+/// The cells of each column, in the same way, and of each the place of the mark that it needs.
+fn lines() -> &'static [Vec<(Cell, Option<usize>)>] {
+    static LAYOUT: OnceLock<Vec<Vec<(Cell, Option<usize>)>>> = OnceLock::new();
+    LAYOUT.get_or_init(|| COLUMNS.iter().zip(LINES).map(|(column, of)| lined(column, of)).collect())
+}
+
+fn lined(column: &Column, of: (&str, &str, &'static str, Option<&str>)) -> Vec<(Cell, Option<usize>)> {
+    let (of_column, of_part, name, mark) = of;
+    assert_eq!(column.name, of_column);
+    let part = part(of_part);
+    assert_eq!(column.cells, part.rows.max(1), "{of_column} has a cell for each row");
+    let at = |row: usize| Cell { part, row, name, kind: Kind::Line, at: column.at + 2 * row, width: 2, judged: false };
+    let mark = mark.map(|mark| {
+        let field = part.fields.iter().find(|(.., name)| *name == mark).expect("a mark of the part");
+        part.at + if part.rows > 0 { 2 } else { 0 } + field.0
+    });
+    (0..column.cells).map(|row| (at(row), mark.map(|mark| mark + row * part.width))).collect()
 }
 
 fn laid(part: &'static Part) -> Vec<(Cell, usize)> {
@@ -138,6 +185,10 @@ fn laid(part: &'static Part) -> Vec<(Cell, usize)> {
 
 /// The cells that are judged, in their order.
 fn judged(area: &[u8]) -> impl Iterator<Item = &'static Cell> + '_ {
+    let lines = lines().iter().flatten().filter(move |(cell, mark)| {
+        let used = cell.part.rows == 0 || cell.row < two(area, cell.part.at);
+        used && mark.map_or(true, |mark| two(area, mark) == 1)
+    });
     let parts = layout().iter().zip(&PARTS).flat_map(move |(cells, part)| {
         let used = match part.rows {
             0 => cells.len(),
@@ -152,14 +203,15 @@ fn judged(area: &[u8]) -> impl Iterator<Item = &'static Cell> + '_ {
             judged
         })
     });
-    parts.map(|(cell, _)| cell)
+    parts.map(|(cell, _)| cell).chain(lines.map(|(cell, _)| cell))
 }
 
 /// All cells of the area, one after another.
 pub fn cells(area: &[u8]) -> Vec<Cell> {
     let mut judged = judged(area).map(|cell| cell.at).peekable();
-    let marked = |(cell, _): &(Cell, usize)| Cell { judged: judged.next_if_eq(&cell.at).is_some(), ..*cell };
-    layout().iter().flatten().map(marked).collect()
+    let marked = |cell: &Cell| Cell { judged: judged.next_if_eq(&cell.at).is_some(), ..*cell };
+    let parts = layout().iter().flatten().map(|(cell, _)| cell);
+    parts.chain(lines().iter().flatten().map(|(cell, _)| cell)).map(marked).collect()
 }
 
 /// Where in a row the fields end that a mark speaks for; 0 for another field.
@@ -187,6 +239,11 @@ pub fn faults(text: &[u8], area: &[u8]) -> BTreeSet<Fault> {
             Kind::Mark => {
                 if two(area, cell.at) > 1 {
                     faults.insert(Fault::Mark);
+                }
+            }
+            Kind::Line => {
+                if two(area, cell.at) > 32_768 {
+                    faults.insert(Fault::Line);
                 }
             }
             Kind::Text => {

@@ -7,6 +7,7 @@ pub mod area;
 pub mod bench;
 pub mod interrupt;
 pub mod judge;
+pub mod lined;
 pub mod listing;
 pub mod made;
 #[cfg(feature = "crate")]

@@ -1,5 +1,5 @@
-//! Areas that no reader made: good ones with any strings, numbers and owners, and damage to an area.
-use crate::area::{Part, PARTS, SIZE};
+//! Areas that no reader made: good ones with any strings, numbers, owners and lines, and damage to an area.
+use crate::area::{Column, Part, COLUMNS, PARTS, SESSION, SIZE};
 use crate::judge::{cells, owners_of, part, two, Cell, Kind, OWNED};
 use generate::{fields, Random};
 
@@ -16,6 +16,11 @@ pub fn at(name: &str, row: usize, field: &str) -> usize {
     let part = part(name);
     let (offset, ..) = part.fields.iter().find(|(.., known)| *known == field).expect("a field of the part");
     part.at + if part.rows > 0 { 2 + row * part.width } else { 0 } + offset
+}
+
+/// The offset of a line in the area, by its column and row.
+pub fn line_at(column: &str, row: usize) -> usize {
+    COLUMNS.iter().find(|known| known.name == column).expect("a column").at + 2 * row
 }
 
 /// A text for strings to stand in: characters of every length, NUL, CR and LF among them, and some bytes that are no
@@ -63,6 +68,17 @@ pub fn number(random: &mut Random) -> u64 {
         3 => (1u64 << 63).wrapping_add(random.below(3) as u64).wrapping_sub(1),
         4 => (random.below(100_000) as u64 * unit).wrapping_neg(),
         _ => random.next(),
+    }
+}
+
+/// A line that is good, at an end or between.
+fn line(random: &mut Random) -> usize {
+    match random.below(6) {
+        0 => 0,
+        1 => 32_768,
+        2 => 32_767,
+        3 => random.below(300),
+        _ => random.below(32_769),
     }
 }
 
@@ -125,15 +141,26 @@ pub fn area(random: &mut Random, text: &[u8]) -> Vec<u8> {
                 let value = number(random);
                 put_two(&mut area, cell.at, value as u16 as usize);
             }
+            Kind::Line => {
+                let value = line(random);
+                put_two(&mut area, cell.at, value);
+            }
             Kind::Count | Kind::Mark | Kind::Owner => {}
         }
     }
     area
 }
 
-/// The area of an accepted text as an earlier release left it, which read k lines: the first one of the session and of each
-/// media is its key. It refused a second one, and one that is not UTF-8; these give no key here. `area` is what is read of
-/// the text today.
+/// The area as a release before P9 left it, and zeros behind: no line is known.
+pub fn earlier(area: &[u8]) -> Vec<u8> {
+    let mut earlier = area[..SESSION].to_vec();
+    earlier.resize(SIZE, 0);
+    earlier
+}
+
+/// The area of an accepted text with the keys that a release put there which read k lines: the first one of the session and
+/// of each media is its key. It refused a second one, and one that is not UTF-8; these give no key here. `area` is what is
+/// read of the text today. That release noted no lines; see `earlier`.
 pub fn keyed(text: &[u8], area: &[u8]) -> Vec<u8> {
     let mut keyed = area.to_vec();
     let (mut start, mut begun, mut medias) = (0, false, 0);
@@ -163,8 +190,8 @@ pub fn keyed(text: &[u8], area: &[u8]) -> Vec<u8> {
 }
 
 /// The kinds of damage.
-pub const DAMAGES: [&str; 9] = [
-    "count", "place", "length", "owner", "fallen owner", "mark", "judged cell", "cell not judged", "bytes",
+pub const DAMAGES: [&str; 10] = [
+    "count", "place", "length", "owner", "fallen owner", "mark", "line", "judged cell", "cell not judged", "bytes",
 ];
 
 fn pick<'a>(random: &mut Random, cells: &'a [Cell], wanted: impl Fn(&Cell) -> bool) -> Option<&'a Cell> {
@@ -241,6 +268,30 @@ pub fn damage(random: &mut Random, kind: &str, text: &[u8], area: &mut [u8]) {
                 4 => 257,
                 5 => 0xffff,
                 6 => 0x0101,
+                _ => random.below(0x1_0000),
+            };
+            put_two(area, cell.at, value);
+        }
+        "line" => {
+            // each column that has such a cell as often as another, and not attributes most of all
+            let judged = !random.once_in(6);
+            let wanted = |cell: &&Cell, column: &Column| {
+                cell.judged == judged && (column.at..column.at + 2 * column.cells).contains(&cell.at)
+            };
+            let of_column = |column| all.iter().filter(|cell| wanted(cell, column)).collect::<Vec<&Cell>>();
+            let columns: Vec<Vec<&Cell>> = COLUMNS.iter().map(of_column).filter(|cells| !cells.is_empty()).collect();
+            if columns.is_empty() {
+                return;
+            }
+            let cells = &columns[random.below(columns.len())];
+            let cell = cells[random.below(cells.len())];
+            let value = match random.below(8) {
+                0 => 0,
+                1 => 32_767,
+                2 => 32_768,
+                3 | 4 => 32_769,
+                5 => 0xffff,
+                6 => 0x8100,
                 _ => random.below(0x1_0000),
             };
             put_two(area, cell.at, value);

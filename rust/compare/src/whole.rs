@@ -1,6 +1,6 @@
 //! One text through reading, writing and reading back, each step beside the crate. The reader and the two calls of the
 //! writer are parameters, so that the comparison can be tested with some that are known to be wrong.
-use crate::area::{decode, Seen, Time};
+use crate::area::{decode, lines, Seen, Time, COLUMNS};
 use crate::bench::{smallest, Bench};
 use crate::writing::{folded, Outcome, Writing};
 use crate::{theirs, Answer, Told};
@@ -22,6 +22,8 @@ pub struct Counts {
     pub empty: u64,
     pub ignored: u64,
     pub kept: u64,
+    /// Records of the accepted texts, and their fields, each with its line.
+    pub lined: u64,
 }
 
 pub struct Whole<R, L, F> {
@@ -59,7 +61,7 @@ where
             self.counts.refused += 1;
             return Ok(answer);
         };
-        let (area, lines) = (self.bench.area().to_vec(), self.bench.counts());
+        let (area, told) = (self.bench.area().to_vec(), self.bench.counts());
         let Outcome::Written(ours) = self.writing.compare(text, &area)? else {
             return Err("a session that was read can't be written".into());
         };
@@ -67,14 +69,16 @@ where
         if folded != crates {
             return Err(format!("ours, folded\n{}\nthe crate\n{}", folded.escape_ascii(), crates.escape_ascii()));
         }
-        let most = text.len() + lines.kept as usize + 36;
+        let most = text.len() + told.kept as usize + 36;
         let spare = most.checked_sub(ours.len()).ok_or(format!("{} bytes written, at most {most}", ours.len()))?;
         let read_back = self.read_back(text, &area, &ours)?;
         let counts = &mut self.counts;
         counts.accepted += 1;
-        counts.empty += lines.empty;
-        counts.ignored += lines.ignored;
-        counts.kept += lines.kept;
+        counts.empty += told.empty;
+        counts.ignored += told.ignored;
+        counts.kept += told.kept;
+        let lined = COLUMNS.iter().flat_map(|column| lines(&area, column)).filter(|line| *line > 0);
+        counts.lined += lined.count() as u64;
         counts.longest = counts.longest.max(ours.len());
         counts.nearest = Some(counts.nearest.map_or(spare, |nearest| nearest.min(spare)));
         *if read_back { &mut counts.read_back } else { &mut counts.too_long } += 1;

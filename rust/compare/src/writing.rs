@@ -1,7 +1,7 @@
 //! One area through a writer, and through the judge and the crate's writer, which gets the session without its keys. The
 //! writer's two calls, the length and the filling, are parameters, so that the comparison can be tested with writers that
 //! are known to be wrong.
-use crate::area::{self, Part, PARTS, SIZE};
+use crate::area::{self, Part, PARTS, SESSION, SIZE};
 use crate::judge::{self, Fault};
 use crate::{fill, length, theirs, Answer};
 use generate::sessions::LONGEST;
@@ -135,13 +135,14 @@ impl<L: Fn(&[u8], &[u8]) -> Answer, F: Fn(&[u8], &[u8], &mut [u8]) -> Answer> Wr
     }
 
     /// What both calls judge before the session: an area that is too short, with this text and with one that is too long, and
-    /// that one with the whole area. Text and area must be as they were, which is looked at once: they are long.
+    /// that one with the whole area. The session without its lines is too short too. Text and area must be as they were, which
+    /// is looked at once: they are long.
     fn limits(&self, text: &[u8], area: &[u8]) -> Result<(), String> {
         let mut long = text.to_vec();
         long.resize(LONGEST + 1, b'\n');
         let (kept_text, kept_area) = (long.clone(), area.to_vec());
-        let short = &area[..SIZE - 1];
-        for (text, area, number) in [(text, short, 2), (&long, short, 2), (&long, area, 1)] {
+        let (short, session) = (&area[..SIZE - 1], &area[..SESSION]);
+        for (text, area, number) in [(text, short, 2), (text, session, 2), (&long, short, 2), (&long, area, 1)] {
             let mut output = pattern(9);
             let answers = [(self.length)(text, area), (self.fill)(text, area, &mut output)];
             let at = format!("with {} bytes of text and {} of area", text.len(), area.len());

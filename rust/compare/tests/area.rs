@@ -1,9 +1,9 @@
 //! docs/AREA.md, the decoder and the Rattle code have one layout, and the decoder finds what breaks the page's rules.
 mod page;
 mod plain;
-use compare::area::{decode, Part, PARTS, SIZE};
-use compare::made::keyed;
-use compare::Answer;
+use compare::area::{decode, lines, Part, COLUMNS, PARTS, SESSION, SIZE};
+use compare::made::{keyed, line_at, put_two};
+use compare::{lined, Answer};
 use page::{file, number, table};
 use plain::Plain;
 
@@ -19,6 +19,15 @@ fn the_parts_fill_the_area() {
         }
         assert_eq!(part.width, offset, "{}", part.name);
         at += part.bytes();
+    }
+    assert_eq!(at, SESSION);
+    // behind them the lines: a column for each part, in the parts' order, and two more
+    for (number, column) in COLUMNS.iter().enumerate() {
+        assert_eq!(column.at, at, "{}", column.name);
+        let of = PARTS.get(number).map_or(("medias", 32), |part| (part.name, part.rows.max(1)));
+        assert_eq!(column.cells, of.1, "{} of {}", column.name, of.0);
+        assert!(number >= PARTS.len() || column.name == of.0, "{}", column.name);
+        at += 2 * column.cells;
     }
     assert_eq!(at, SIZE);
 }
@@ -36,7 +45,19 @@ fn the_page_has_the_decoder_s_parts() {
         let table = (count != "-").then(|| (number(count), number(width)));
         assert_eq!(table, (part.rows > 0).then_some((part.rows, part.width)), "{name}");
     }
-    assert!(file("docs/AREA.md").contains(&format!("{SIZE} bytes")));
+    assert!(file("docs/AREA.md").contains(&format!("{SIZE} bytes, which `sdp_area_size` answers too: {SESSION} for")));
+}
+
+#[test]
+fn the_page_has_the_decoder_s_columns() {
+    let rows = table("Lines");
+    let page: Vec<_> = rows.iter().map(|row| (&row[0][..], number(&row[1]), number(&row[2]))).collect();
+    let due: Vec<_> = COLUMNS.iter().map(|column| (column.name, column.at, column.cells)).collect();
+    assert_eq!(page, due);
+    // from the same lines as the parts
+    for (row, part) in rows.iter().zip(table("The parts")) {
+        assert_eq!(row[3][..1], part[5][..1], "{}", row[0]);
+    }
 }
 
 #[test]
@@ -60,6 +81,8 @@ fn the_example_is_what_a_reader_leaves() {
         assert_eq!(page, left, "byte {at} of the example");
     }
     assert!(decode(&area).unwrap().strings(&text).is_ok());
+    // its lines are those that the text has by itself
+    assert_eq!(lined::check(&text, &area), Ok(()));
 }
 
 /// The constant that the Rattle code has for a part.
@@ -77,7 +100,16 @@ fn the_code_has_the_decoder_s_places() {
         assert_eq!(values.next(), None);
         number(value.trim_end_matches(';'))
     };
-    assert_eq!(value("SIZE"), SIZE);
+    assert_eq!(value("AREA_SIZE"), SIZE);
+    for column in &COLUMNS {
+        // EMAIL_LINES, CONNECTION_LINE and CONNECTION_LINES
+        let name = column.name.strip_prefix("media ").unwrap_or(column.name).to_uppercase();
+        let name = match column.cells {
+            1 => name + "_LINE",
+            _ => name.strip_suffix('S').expect("a table").to_string() + "_LINES",
+        };
+        assert_eq!(value(&name), column.at, "{name}");
+    }
     for part in &PARTS {
         assert_eq!(value(&constant(part)), part.at, "{}", part.name);
         if part.rows > 0 {
@@ -103,7 +135,7 @@ fn the_definition_has_the_decoder_s_tables() {
         let mut values = definition.lines().filter_map(|line| line.strip_prefix(&format!("{name} = ")));
         number(values.next().unwrap_or_else(|| panic!("Area.antt defines {name}")))
     };
-    assert_eq!(after("size"), SIZE);
+    assert_eq!(after("size"), SESSION);
     // a table's limit is named there, and stands on the page of the paper's numbers
     let numbers = file("crates/sdp_numbers/specs/Tables.antt");
     let limit = |name: &str| {
@@ -124,20 +156,43 @@ fn the_definition_has_the_decoder_s_tables() {
     }
 }
 
-/// A session with something in every part, and also absent fields. Its keys are those of an area that was kept.
+#[test]
+fn the_definition_has_the_decoder_s_columns() {
+    let definition = file("crates/sdp_area/specs/Columns.antt");
+    let after = |name: &str| {
+        let mut values = definition.lines().filter_map(|line| line.strip_prefix(&format!("{name} = ")));
+        number(values.next().unwrap_or_else(|| panic!("Columns.antt defines {name}")))
+    };
+    let mut cells = 0;
+    for column in &COLUMNS {
+        let name = column.name.strip_prefix("media ").unwrap_or(column.name);
+        assert_eq!((after(&format!("{name}Cell")), column.at), (cells, SESSION + 2 * cells), "{name}");
+        cells += column.cells;
+    }
+    assert_eq!((after("cells"), after("areaSize")), (cells, SIZE));
+    assert!(definition.contains("\ncellAt i = size + i * 2\n"));
+}
+
+/// A session with something in every part, and also absent fields. Its keys are those of an area that was kept, with lines.
 fn rich() -> (Vec<u8>, Vec<u8>) {
     let text = b"v=0\no=u 1 2 IN IP4 h\ns=n\ni=d\nu=u\ne=e\ne=f\np=p\nc=IN IP4 h\nb=AS:1\nt=1 2\nr=1 2 3 4\nt=3 4\n\
         r=5 6 7\nz=1 -2\nk=m:t\na=x\na=y:z\nm=a 1 p f\ni=t\nc=A B C\nb=CT:5\nk=q\na=w:\nm=b 2/3 p f\nc=D E F\nk=m:t\na=v\n";
     let mut area = vec![0xa5; SIZE];
     assert_eq!(Plain { slip: "" }.read(text, &mut area).answer, Answer::default());
-    (text.to_vec(), keyed(text, &area))
+    let mut area = keyed(text, &area);
+    for (column, cell, line) in [("key", 0, 16), ("media keys", 0, 24), ("media keys", 1, 28)] {
+        put_two(&mut area, line_at(column, cell), line);
+    }
+    (text.to_vec(), area)
 }
 
-/// No byte of the area is passed over: a change is a broken rule or another session.
+/// No byte of the area is passed over: a change is a broken rule, another session or another line.
 #[test]
 fn every_byte_counts() {
     let (_, area) = rich();
+    let decode = |area: &[u8]| decode(area).map(|seen| (seen, COLUMNS.iter().map(|column| lines(area, column)).collect::<Vec<_>>()));
     let seen = decode(&area).unwrap();
+    assert!(seen.1.iter().all(|lines| lines[0] > 0), "every column has a line");
     let (mut broken, mut other) = (0, 0);
     for at in 0..SIZE {
         for value in [0, 1, 2, 0x80, 0xff] {
@@ -155,8 +210,8 @@ fn every_byte_counts() {
             }
         }
     }
-    println!("area: {broken} changes break a rule, {other} give another session");
-    assert!(broken > 4 * 13_000 && other > 500);
+    println!("area: {broken} changes break a rule, {other} give another session or another line");
+    assert!(broken > 4 * 15_000 && other > 600);
 }
 
 #[test]
@@ -171,7 +226,7 @@ fn broken_rules_are_found() {
         let part = PARTS.iter().find(|part| part.name == name).unwrap();
         part.at + if part.rows > 0 { 2 + row * part.width } else { 0 } + offset
     };
-    assert!(decode(&area[..SIZE - 1]).unwrap_err().contains("14558"));
+    assert!(decode(&area[..SIZE - 1]).unwrap_err().contains("16938"));
     // marks
     for place in [
         at("origin", 0, 0),
@@ -218,4 +273,49 @@ fn broken_rules_are_found() {
     assert!(two(at("bandwidths", 0, 0), 2).unwrap_err().contains("after"));
     assert!(two(at("media connections", 0, 0), 0).unwrap_err().contains("after"));
     assert!(two(at("repeats", 0, 0), 0).unwrap_err().contains("after"));
+    // lines: of counted rows and of what is there up to the limit, and else none
+    for column in &COLUMNS {
+        let place = line_at(column.name, 0);
+        assert!(two(place, 0).is_ok() && two(place, 32_768).is_ok(), "{}", column.name);
+        for line in [32_769, 0xffff] {
+            assert!(two(place, line).unwrap_err().contains("above 32768"), "{}", column.name);
+        }
+        if column.cells > 1 {
+            assert!(two(line_at(column.name, column.cells - 1), 1).unwrap_err().contains("of nothing"), "{}", column.name);
+        }
+    }
+    assert!(two(line_at("media titles", 1), 1).unwrap_err().contains("of nothing"), "the second media has no title");
+    let mut none = vec![0; SIZE];
+    for (column, there) in [("origin", false), ("name", true), ("uri", false), ("key", false)] {
+        put_two(&mut none, line_at(column, 0), 7);
+        assert_eq!(decode(&none).is_ok(), there, "{column}");
+        put_two(&mut none, line_at(column, 0), 0);
+    }
+}
+
+/// The finder of lines, on a text whose lines are numbered by hand.
+#[test]
+fn the_finder_of_lines() {
+    let text = b"\r\n\nv=0\r\nx=\no=- 1 2 I J h\n\ns=n\nk=\nt=1 0\nr=1 1\nr=1  1 2 3 \nz=1 -1h  2 0\r\n\ne=x\nc=A B C\nv=0\n\
+        m=a 1 p f\nt=junk\ns=\nm=b 2 p f\r\ni=t\r\n\r\nc=A B C\nb=:1\na=x";
+    let due: &[(&str, &[usize])] = &[
+        ("origin", &[5]),
+        ("name", &[7]),
+        ("times", &[9]),
+        ("repeats", &[10, 11]),
+        ("offsets", &[11, 11]),
+        ("zones", &[12, 12]),
+        ("emails", &[14]),
+        ("connection", &[15]),
+        ("medias", &[17, 20]),
+        ("media titles", &[0, 21]),
+        ("media connections", &[23]),
+        ("bandwidths", &[24]),
+        ("attributes", &[25]),
+    ];
+    for (column, lines) in lined::found(text) {
+        let of = due.iter().find(|(name, _)| *name == column.name).map_or(&[][..], |(_, lines)| lines);
+        assert_eq!(lines[..of.len()], *of, "{}", column.name);
+        assert!(lines.len() == column.cells && lines[of.len()..].iter().all(|line| *line == 0), "{}", column.name);
+    }
 }

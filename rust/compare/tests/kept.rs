@@ -1,11 +1,11 @@
-//! Areas that an earlier release left, with keys in them (document 02, P4): judged as before, and written without their
-//! keys. Some are stored, in texts/kept; others are made from what is read today.
-use compare::area::{all_zero, decode, Key, Seen, Time, SIZE};
+//! Areas that an earlier release left, with keys in them (document 02, P4) and without lines (P9): judged as before, and
+//! written without their keys. Some are stored, in texts/kept; others are made from what is read today.
+use compare::area::{all_zero, decode, Key, Seen, Time, SESSION, SIZE};
 use compare::bench::Bench;
-use compare::judge::{cells, faults, judge, two, Fault, Kind};
-use compare::made::{keyed, put_two};
+use compare::judge::{cells, faults, judge, two, Cell, Fault, Kind};
+use compare::made::{earlier, keyed, put_two};
 use compare::writing::{folded, is_key, ours, Outcome};
-use compare::{account, read, starts, theirs, Answer, Told};
+use compare::{account, length, read, starts, theirs, Answer, Told};
 use generate::random::count;
 use generate::sessions::{self, LONGEST};
 use generate::Random;
@@ -19,7 +19,7 @@ fn today(text: &[u8]) -> Option<Vec<u8>> {
     (account::read(text, &mut area).number == 0).then_some(area)
 }
 
-/// The names of the stored areas, each with its text and the area.
+/// The names of the stored areas, each with its text and the area, which is carried over: zeros follow it.
 fn stored() -> Vec<(String, Vec<u8>, Vec<u8>)> {
     let texts = Path::new(env!("CARGO_MANIFEST_DIR")).join("../../texts");
     let mut all = Vec::new();
@@ -29,7 +29,11 @@ fn stored() -> Vec<(String, Vec<u8>, Vec<u8>)> {
         let name = path.file_stem().unwrap().to_str().unwrap().to_string();
         let text = texts.join(format!("kinds/{name}.sdp"));
         let text = fs::read(&text).unwrap_or_else(|error| panic!("{}: {error}", text.display()));
-        all.push((name, text, fs::read(path).unwrap()));
+        let mut area = fs::read(path).unwrap();
+        assert_eq!(area.len(), SESSION, "{name}");
+        assert_eq!(length(&text, &area).number, 2, "{name}: by itself it is too short");
+        area.resize(SIZE, 0);
+        all.push((name, text, area));
     }
     all.sort();
     assert_eq!(all.len(), 5, "texts/kept has five areas");
@@ -53,11 +57,13 @@ fn without_keys(mut seen: Seen<Vec<u8>>) -> Seen<Vec<u8>> {
 /// All that must hold of an area with keys and of that of the same text today: how many keys there are.
 fn holds(text: &[u8], kept: &[u8], today: &[u8]) -> usize {
     assert_eq!(kept.len(), SIZE);
-    // they differ in the cells of keys only, and today these are zero
+    // they differ in the cells of keys, which are zero today, and in the lines, which were not noted
     for cell in cells(kept) {
         let at = cell.at..cell.at + cell.width;
         if is_key(cell.part, cell.name) {
             assert!(all_zero(&today[at]), "{} {}", cell.part.name, cell.name);
+        } else if cell.kind == Kind::Line {
+            assert!(all_zero(&kept[at]), "{} {}", cell.part.name, cell.name);
         } else {
             assert_eq!(kept[at.clone()], today[at], "{} {}", cell.part.name, cell.name);
         }
@@ -104,7 +110,9 @@ fn stored_areas() {
         assert_eq!(folded(&out), written(&session), "{name}");
         assert_ne!(without_keys(theirs::of(&session)), theirs::of(&session), "{name}");
         // what the other tests make is what that release left
-        assert!(keyed(&text, &today) == kept, "{name}");
+        assert!(earlier(&keyed(&text, &today)) == kept, "{name}");
+        // and the lines of today with these keys change nothing
+        assert_eq!(ours().same(&text, &keyed(&text, &today)), Outcome::Written(out), "{name}");
     }
     println!("kept: {keys} keys in the stored areas");
     assert!(keys >= 10);
@@ -124,7 +132,7 @@ fn made_of_what_is_read() {
             sessions::ended(&mut random, &lines)
         };
         let Some(today) = today(&text) else { continue };
-        let kept = keyed(&text, &today);
+        let kept = earlier(&keyed(&text, &today));
         let count = holds(&text, &kept, &today);
         keys += count;
         areas += u64::from(count > 0);
@@ -174,6 +182,11 @@ fn broken_keys() {
                         broken(cell.at, &[(0, from), (2, bytes)], Fault::Encoding);
                     }
                 }
+                Kind::Line => {
+                    for line in [32_769, 0x8100, 0xffff] {
+                        broken(cell.at, &[(0, line)], Fault::Line);
+                    }
+                }
                 kind => panic!("a key has no cell of the kind {kind:?}"),
             }
         }
@@ -187,7 +200,9 @@ fn broken_keys() {
             put_two(&mut area, mark.at, 0);
             same(&area);
             let of_this = of_keys().filter(|cell| cell.row == mark.row && cell.part.name == mark.part.name);
-            for cell in of_this.filter(|cell| cell.at > mark.at) {
+            // the line is that of the key, and not of its text
+            let spoken_for = |cell: &&Cell| cell.kind != Kind::Line || !mark.name.ends_with("text mark");
+            for cell in of_this.filter(|cell| cell.at > mark.at).filter(spoken_for) {
                 area[cell.at..cell.at + cell.width].fill(0xff);
             }
             same(&area);
@@ -197,6 +212,13 @@ fn broken_keys() {
                 let mut area = kept.clone();
                 put_two(&mut area, cell.at, place);
                 put_two(&mut area, cell.at + 2, len);
+                same(&area);
+            }
+        }
+        for cell in of_keys().filter(|cell| cell.kind == Kind::Line && cell.judged) {
+            for line in [1, 32_768] {
+                let mut area = kept.clone();
+                put_two(&mut area, cell.at, line);
                 same(&area);
             }
         }

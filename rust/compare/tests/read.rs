@@ -1,13 +1,14 @@
-//! Our reader beside the crate: answers, the counts of lines, and all that stands in the area afterwards.
+//! Our reader beside the crate: answers, the counts of lines, and all that stands in the area afterwards. The lines of records
+//! are none of the crate's, and are held to the text.
 mod page;
 use compare::account::read;
-use compare::area::{all_zero, decode, PARTS, SIZE};
+use compare::area::{all_zero, decode, lines as area_lines, COLUMNS, PARTS, SESSION, SIZE};
 use compare::bench::{Bench, Tally};
-use compare::{area_size, Answer, Counts, Told};
+use compare::{area_size, lined, Answer, Counts, Told};
 use generate::random::{count, from_env};
 use generate::sessions::{self, fields_of, LONGEST, PAIRS, TABLES};
 use generate::{every_string, texts, Random};
-use oracle::bad_byte;
+use oracle::{bad_byte, leaf};
 use std::collections::BTreeMap;
 
 fn bench() -> Bench<fn(&[u8], &mut [u8]) -> Told> {
@@ -214,6 +215,124 @@ fn the_counts() {
     assert_eq!(bench.counts(), Counts::default());
 }
 
+/// The columns of an area that have a line, without the zeros at their ends.
+fn lines_in(area: &[u8]) -> Vec<(&'static str, Vec<usize>)> {
+    let all = COLUMNS.iter().map(|column| (column.name, area_lines(area, column)));
+    let cut = all.map(|(name, mut lines)| {
+        lines.truncate(lines.iter().rposition(|line| *line > 0).map_or(0, |last| last + 1));
+        (name, lines)
+    });
+    cut.filter(|(_, lines)| !lines.is_empty()).collect()
+}
+
+/// Document 02, P9: the line of each record and of each field, by hand. rust/sdp/tests/session.rs has a text with everything.
+#[test]
+fn the_lines() {
+    let mut bench = bench();
+    let ones: [(&[u8], &[(&str, &[usize])]); 19] = [
+        (b"v=0", &[]),
+        (b"\n\r\nv=0\r\n\n", &[]),
+        (b"v=0\ns=", &[("name", &[2])]),
+        (b"v=0\r\n\r\n\r\ns=x\r\n", &[("name", &[4])]),
+        (b"\n\nv=0\nv=0\nv=1\ns=", &[("name", &[6])]),
+        (b"v=0\nx=\nk=\no=- 0 0 IN IP4 0.0.0.0", &[("origin", &[4])]),
+        (b"v=0\ni=\nu=\nc=I J h", &[("description", &[2]), ("uri", &[3]), ("connection", &[4])]),
+        (b"v=0\np=\ne=\np=\ne=", &[("emails", &[3, 5]), ("phones", &[2, 4])]),
+        (b"v=0\nz=\nt=0 0", &[("times", &[3])]), // a z line without pairs has no record
+        (b"v=0\nz=1 1 2 2\n", &[("zones", &[2, 2])]),
+        (b"v=0\nt=0 0\n\nr=1 1\nr=1 1 5\n", &[("times", &[2]), ("repeats", &[4, 5]), ("offsets", &[5])]),
+        (
+            b"v=0\nt=0 0\nr=1 1 1 2\nz=1 1\nt=0 0\nr=1 1 3",
+            &[("times", &[2, 5]), ("repeats", &[3, 6]), ("offsets", &[3, 3, 6]), ("zones", &[4])],
+        ),
+        // b and a of the session and of medias are in one column
+        (
+            b"v=0\nb=:1\na=\nm=a 1 p f\na=\nb=:2\nm=a 1 p f\nb=:3\na=",
+            &[("bandwidths", &[2, 6, 8]), ("attributes", &[3, 5, 9]), ("medias", &[4, 7])],
+        ),
+        (b"v=0\nc=I J h\nm=a 1 p f\nc=I J h", &[("connection", &[2]), ("media connections", &[4]), ("medias", &[3])]),
+        // a title has the cell of its media
+        (b"v=0\ni=\nm=a 1 p f\ni=", &[("description", &[2]), ("medias", &[3]), ("media titles", &[4])]),
+        (b"v=0\nm=a 1 p f\nm=a 1 p f\ni=", &[("medias", &[2, 3]), ("media titles", &[0, 4])]),
+        (
+            b"v=0\nm=a 1 p f\ni=\nm=a 1 p f\nm=a 1 p f\na=\ni=",
+            &[("attributes", &[6]), ("medias", &[2, 4, 5]), ("media titles", &[3, 0, 7])],
+        ),
+        // without a use after m, and keys anywhere
+        (b"v=0\nm=a 1 p f\ns=\no=junk\nt=\nk=\na=", &[("attributes", &[7]), ("medias", &[2])]),
+        (b"v=0\nk=x\nk=x:y\nm=a 1 p f\nk=x", &[("medias", &[4])]),
+    ];
+    for (text, due) in ones {
+        assert_eq!(bench.same(text).number, 0, "{}", text.escape_ascii());
+        let due: Vec<_> = due.iter().map(|(name, lines)| (*name, lines.to_vec())).collect();
+        assert_eq!(lines_in(bench.area()), due, "{}", text.escape_ascii());
+    }
+    // whatever stood above the refused line
+    for text in [&b"v=0\ns=x\ne=\nm=a 1 p f\ni=\na=x\na=\xff"[..], b"v=0\nt=0 0\nr=1 1 1\nz=1 1\nz=", b"s=x\nv=0"] {
+        assert!(bench.same(text).number > 0 && lines_in(bench.area()).is_empty(), "{}", text.escape_ascii());
+    }
+    // at the ends of a byte, and behind as many empty lines as the longest text has room for
+    for (last, name, below) in [("s=", "name", 0), ("z=1 1 1 1", "zones", 0), ("m= 0  \ni=", "media titles", 1)] {
+        for above in [253, 254, 255, 256, LONGEST - 4 - last.len()] {
+            let text = [&b"v=0\n"[..], &b"\n".repeat(above), last.as_bytes()].concat();
+            assert_eq!(bench.same(&text).number, 0);
+            let found = lines_in(bench.area());
+            let (_, lines) = found.iter().find(|(column, _)| *column == name).expect("its column");
+            assert!(lines.iter().all(|line| *line == 2 + above + below), "{name} behind {above} empty lines: {lines:?}");
+        }
+    }
+    // every table full: each row has its own line, but offsets and zones
+    let text = generate::hostile::full();
+    assert_eq!(bench.same(&text).number, 0);
+    for (name, lines) in lines_in(bench.area()) {
+        let rising = lines.windows(2).all(|pair| pair[0] < pair[1] || pair[0] == pair[1] && ["offsets", "zones"].contains(&name));
+        assert!(rising && COLUMNS.iter().any(|column| (column.name, column.cells) == (name, lines.len())), "{name}");
+    }
+}
+
+/// The lines that are found from the text are those that the crate's own cutter counts, and have the letters of their columns;
+/// each kept line is that of a record, but the version's and a z line without pairs.
+#[test]
+fn the_lines_by_the_crate_s_cutter() {
+    let letters = *b"osiuckepcbtrrzamik"; // of each column
+    let mut random = Random::of_test("lines by the crate's cutter");
+    let (mut compared, mut texts) = (0, 0);
+    while texts < count(10_000) {
+        let good = sessions::good(&mut random);
+        let text = match texts % 3 {
+            0 => texts::text(&mut random),
+            1 => sessions::text(&mut random),
+            _ => sessions::ended(&mut random, &good),
+        };
+        texts += 1;
+        if oracle::read(&text).is_err() {
+            continue;
+        }
+        let cuts = leaf::cuts(&text);
+        let letter_of = |line: usize| cuts.iter().find(|cut| cut.line as usize == line).map(|cut| cut.letter as u8);
+        let mut named = std::collections::BTreeSet::new();
+        for ((column, lines), letter) in lined::found(&text).into_iter().zip(letters) {
+            for line in lines.into_iter().filter(|line| *line > 0) {
+                assert_eq!(letter_of(line), Some(letter), "{}: line {line} of {}", column.name, text.escape_ascii());
+                named.insert(line);
+                compared += 1;
+            }
+        }
+        let mut kept = oracle::counts::of(&text).kept as usize - 1;
+        // the only line with a use that may leave nothing
+        kept -= usize::from(oracle::read(&text).unwrap().time_zones.is_empty() && has_zone_line(&text));
+        assert_eq!(named.len(), kept, "{}", text.escape_ascii());
+    }
+    println!("lines: {compared} of {texts} texts are those of the crate's cutter");
+    assert!(compared > texts);
+}
+
+/// Whether a z line stands before the first m line.
+fn has_zone_line(text: &[u8]) -> bool {
+    let mut lines = text.split(|byte| *byte == b'\n').take_while(|line| !line.starts_with(b"m="));
+    lines.any(|line| line.starts_with(b"z="))
+}
+
 /// Document 02, P2: 8 has the place of the first byte that is not part of the field's longest well-formed beginning.
 /// rust/oracle/tests/bad_byte.rs has samples of every field.
 #[test]
@@ -298,12 +417,14 @@ fn the_bad_byte_of_each_field() {
 
 /// Demand 3: lines without a use, put in behind the first line that isn't empty, change nothing but the line of a refusal,
 /// which moves by the lines above it, with 8 the place, which moves by their bytes, and of an accepted text the counts of
-/// empty and of ignored lines, which rise by as many as were put in.
+/// empty and of ignored lines, which rise by as many as were put in, and the lines of the records, each of which moves by
+/// those above it.
 fn put_in(name: &str, idle: impl Fn(&mut Random, bool) -> Vec<u8>) -> Counts {
     let mut random = Random::of_test(name);
     let (mut accepted, mut refused, mut lines) = (0, 0, 0);
     let mut risen = Counts::default();
     let mut moved: BTreeMap<u64, u64> = BTreeMap::new();
+    let mut lines_moved: BTreeMap<&str, u64> = BTreeMap::new();
     let mut bench = bench();
     let (due, fields) = (count(6_000), fields_of(8));
     for round in 0..due {
@@ -356,6 +477,14 @@ fn put_in(name: &str, idle: impl Fn(&mut Random, bool) -> Vec<u8>) -> Counts {
         risen.ignored += more.ignored;
         let strings = |text: &[u8], area: &[u8]| decode(area).unwrap().strings(text).unwrap();
         assert_eq!(strings(&with, bench.area()), strings(&text, &area), "{}", with.escape_ascii());
+        for column in &COLUMNS {
+            let (before, after) = (area_lines(&area, column), area_lines(bench.area(), column));
+            let further = |line: usize| line.checked_sub(1).map_or(0, |at| above[at].0 as usize);
+            let due: Vec<usize> = before.iter().map(|line| line + further(*line)).collect();
+            assert_eq!(after, due, "{}: {}", column.name, with.escape_ascii());
+            let seen = before.iter().filter(|line| further(**line) > 0).count();
+            *lines_moved.entry(column.name).or_default() += seen as u64;
+        }
         area.fill(0xa5);
         assert_eq!(read(&with, &mut area), Answer::default());
         assert_eq!(area, bench.area());
@@ -363,6 +492,9 @@ fn put_in(name: &str, idle: impl Fn(&mut Random, bool) -> Vec<u8>) -> Counts {
     println!("{name}: {lines} lines, {accepted} texts accepted and {refused} refused");
     println!("{name}: the counts of accepted texts rose by {} empty and {} ignored lines", risen.empty, risen.ignored);
     println!("{name}: {} places of 8 moved, by field {moved:?}", moved.values().sum::<u64>());
+    println!("{name}: lines of records moved, by column {lines_moved:?}");
+    let keys = |name: &str| ["key", "media keys"].contains(&name);
+    assert!(due < 3_000 || lines_moved.iter().all(|(name, seen)| (*seen > 100) != keys(name)), "a line of each column was moved");
     assert!(accepted * 5 > due && refused * 5 > due && lines > due);
     assert!(due < 3_000 || moved.keys().copied().eq(fields), "a place of each field was moved");
     risen
@@ -640,7 +772,7 @@ fn areas_of_every_length() {
     let mut tried = 0;
     for (text, number) in four_texts() {
         // too short: 2 comes before 1, and nothing is written
-        for len in (0..300).chain([SIZE / 2, SIZE - 2, SIZE - 1]) {
+        for len in (0..300).chain([SIZE / 2, SESSION - 1, SESSION, SESSION + 1, SIZE - 2, SIZE - 1]) {
             let mut area = pattern[..len].to_vec();
             assert_eq!(read(&text, &mut area), two, "an area of {len} bytes");
             assert_eq!(area, pattern[..len]);
@@ -733,6 +865,7 @@ fn generated() {
     println!("read: seed {seed}");
     let mut bench = bench();
     let (mut tally, mut lines) = (Tally::default(), Counts::default());
+    let mut of_records: BTreeMap<&str, u64> = BTreeMap::new();
     for number in 0..texts {
         let text = sessions::nth(seed, number);
         match bench.compare(&text) {
@@ -740,12 +873,19 @@ fn generated() {
                 tally.add(answer);
                 let Counts { empty, ignored, kept } = bench.counts();
                 lines = Counts { empty: lines.empty + empty, ignored: lines.ignored + ignored, kept: lines.kept + kept };
+                for column in COLUMNS.iter().filter(|_| answer.number == 0) {
+                    let seen = area_lines(bench.area(), column).into_iter().filter(|line| *line > 0).count();
+                    *of_records.entry(column.name).or_default() += seen as u64;
+                }
             }
             Err(_) => panic!("text {number} of seed {seed}: {}", bench.smallest(&text)),
         }
     }
     println!("read: {texts} generated texts compared\n{tally}");
     println!("read: lines of the accepted ones: {lines:?}");
+    println!("read: lines of their records: {of_records:?}");
+    let keys = |name: &str| ["key", "media keys"].contains(&name);
+    assert!(texts < 1_000 || of_records.iter().all(|(name, seen)| (seen * 20 > tally.of(0)) != keys(name)), "of each column");
     assert!(texts < 1_000 || lines.empty * 5 > tally.of(0) && lines.ignored > tally.of(0), "each kind of lines is counted");
     assert_eq!(tally.of(19), 0, "a second k line is ignored");
     assert!(tally.of(0) * 5 > texts && tally.of(0) * 5 < texts * 4, "both sides are reached well");

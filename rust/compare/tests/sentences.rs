@@ -107,6 +107,14 @@ fn retired() {
     }
 }
 
+/// P9 brings no number, and a reason for one; the page says so.
+#[test]
+fn lines_above_the_limit() {
+    assert!(request("P9").ends_with(" Refusals: 23 also for a line above 32,768."), "{}", request("P9"));
+    let when = &rows("Refusals")[&23][1];
+    assert!(when.contains("line") && when.ends_with(" above 32,768"), "docs/REFUSALS.md has 23 for: {when}");
+}
+
 /// `1-6 o in order, 7 o trailing; 8-10 c, ..`: each number with the words behind it.
 #[test]
 fn fields() {

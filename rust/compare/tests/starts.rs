@@ -2,10 +2,10 @@
 //! sdp-types has no such list. Every answer is compared by all its 770 numbers.
 mod plain;
 use compare::account::read;
-use compare::area::{Offset, Repeat, Seen, Span, Time, Zone, SIZE};
+use compare::area::{Offset, Repeat, Seen, Span, Time, Zone, SESSION, SIZE};
 use compare::judge::judge;
 use compare::listing::{self, Listing, Window};
-use compare::made::{self, at, put_two, DAMAGES};
+use compare::made::{self, at, earlier, line_at, put_two, DAMAGES};
 use compare::starts::{counted, rows, solved, tables, walked, Start, MOST};
 use compare::{fill, length, starts, Starts};
 use generate::hours::{self, hours, Kind, KINDS};
@@ -185,7 +185,7 @@ fn read_from_texts() {
         let hours = hours::any(&mut random);
         let (text, seen) = (hours.text(), listing::seen(&hours));
         let area = area_of(&text).unwrap_or_else(|| panic!("{}", text.escape_ascii()));
-        assert!(area == plain::encode(&seen), "{}", text.escape_ascii());
+        assert!(earlier(&area) == plain::encode(&seen), "{}", text.escape_ascii());
         let windows = listing::windows(&mut random, &seen);
         listing.same(&text, &area, &windows);
         let mut area = sdp::Area::new();
@@ -261,8 +261,12 @@ fn made_and_damaged_areas() {
         if round % 2 == 0 {
             // times and zones that are near each other, and noise past their counts
             let hours = plain::encode(&listing::seen(&hours::any(&mut random)));
-            let (first, behind) = (at("times", 0, "start") - 2, at("attributes", 0, "owner") - 2);
-            area[first..behind].copy_from_slice(&hours[first..behind]);
+            for (first, behind) in [
+                (at("times", 0, "start") - 2, at("attributes", 0, "owner") - 2),
+                (line_at("times", 0), line_at("attributes", 0)),
+            ] {
+                area[first..behind].copy_from_slice(&hours[first..behind]);
+            }
             made::damage(&mut random, "cell not judged", &text, &mut area);
         }
         for kind in [&["none"], &DAMAGES[..]].concat() {
@@ -443,17 +447,17 @@ fn the_order_of_refusals() {
     let mut text = b"v=0".to_vec();
     for len in [3, LONGEST, LONGEST + 1, 2 * LONGEST] {
         text.resize(len, b'\n');
-        for bad in [false, true] {
+        for bad in [None, Some((at("uri", 0, "mark"), 2)), Some((line_at("times", 0), 32_769))] {
             for falls in [false, true] {
                 let mut seen = one_time(5, 0, &[(1, &[])], &[(9, 0), (9, 0)]);
                 seen.zones[1].adjustment -= u64::from(falls);
                 let mut area = plain::encode(&seen);
-                put_two(&mut area, at("uri", 0, "mark"), 2 * usize::from(bad));
+                bad.into_iter().for_each(|(at, value)| put_two(&mut area, at, value));
                 // beyond the size stands what would be bad anywhere
                 area.resize(SIZE + 50, 0xff);
-                for size in [0, 1, 31, SIZE / 2, SIZE - 1, SIZE, SIZE + 1, SIZE + 50] {
+                for size in [0, 1, 31, SIZE / 2, SESSION, SIZE - 1, SIZE, SIZE + 1, SIZE + 50] {
                     for to in [0, 9, 5 + 256, 5 + 257, LAST] {
-                        let number = match (size < SIZE, len > LONGEST, bad, falls, to > 5 + 256) {
+                        let number = match (size < SIZE, len > LONGEST, bad.is_some(), falls, to > 5 + 256) {
                             (true, ..) => 2,
                             (_, true, ..) => 1,
                             (_, _, true, ..) => 23,

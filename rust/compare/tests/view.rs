@@ -1,7 +1,8 @@
 //! The view of the crate `sdp` beside sdp-types: made into a session of that crate, it is the one that the crate reads.
+use compare::area::{Column, COLUMNS};
 use compare::bench::refused;
 use compare::made::keyed;
-use compare::{account, Answer, Told};
+use compare::{account, lined, Answer, Told};
 use generate::random::{count, from_env};
 use generate::sessions::{self, LONGEST, TABLES};
 use generate::{shrink, Random};
@@ -69,7 +70,7 @@ fn session(view: sdp::Session) -> sdp_types::Session {
                     .map(|repeat| sdp_types::Repeat {
                         repeat_interval: repeat.repeat_interval,
                         active_duration: repeat.active_duration,
-                        offsets: repeat.offsets().collect(),
+                        offsets: repeat.offsets().map(u64::from).collect(),
                     })
                     .collect(),
             })
@@ -99,6 +100,45 @@ fn session(view: sdp::Session) -> sdp_types::Session {
             })
             .collect(),
     }
+}
+
+/// The lines of the view's records, column by column, each with as many zeros behind them as the column has room for.
+fn lines_of(view: sdp::Session) -> Vec<(&'static str, Vec<usize>)> {
+    let all = |lines: &mut dyn Iterator<Item = u64>| lines.map(|line| line as usize).collect::<Vec<_>>();
+    let one = |line: u64| vec![line as usize];
+    let times = || view.times();
+    let repeats = || times().flat_map(|time| time.repeats());
+    let medias = || view.medias();
+    let of_columns = [
+        one(view.origin().line()),
+        one(view.line_of_session_name()),
+        one(view.line_of_session_description()),
+        one(view.line_of_uri()),
+        one(view.connection().map_or(0, |connection| connection.line())),
+        one(view.key().map_or(0, |key| key.line())),
+        all(&mut view.emails().map(|email| email.line())),
+        all(&mut view.phones().map(|phone| phone.line())),
+        all(&mut medias().flat_map(|media| media.connections()).map(|connection| connection.line())),
+        all(&mut view.bandwidths().chain(medias().flat_map(|media| media.bandwidths())).map(|row| row.line())),
+        all(&mut times().map(|time| time.line())),
+        all(&mut repeats().map(|repeat| repeat.line())),
+        all(&mut repeats().flat_map(|repeat| repeat.offsets()).map(|offset| offset.line())),
+        all(&mut view.time_zones().map(|zone| zone.line())),
+        all(&mut view.attributes().chain(medias().flat_map(|media| media.attributes())).map(|row| row.line())),
+        all(&mut medias().map(|media| media.line())),
+        all(&mut medias().map(|media| media.line_of_media_title())),
+        all(&mut medias().map(|media| media.key.map_or(0, |key| key.line()))),
+    ];
+    let padded = |(column, mut lines): (&'static Column, Vec<usize>)| {
+        lines.resize(column.cells, 0);
+        (column.name, lines)
+    };
+    COLUMNS.iter().zip(of_columns).map(padded).collect()
+}
+
+/// The same, by the text alone.
+fn found(text: &[u8]) -> Vec<(&'static str, Vec<usize>)> {
+    lined::found(text).into_iter().map(|(column, lines)| (column.name, lines)).collect()
 }
 
 /// Of 8, that the error and its sentence name the byte by its place, and by its number in the line; of others, that none is
@@ -135,6 +175,9 @@ fn agree(text: &[u8], area: &mut Area) -> Result<Option<sdp_types::Session>, Str
             let ours = session(view);
             if ours != due {
                 return Err(format!("ours {ours:?}\nthe crate {due:?}"));
+            }
+            if lines_of(view) != found(text) {
+                return Err(format!("ours {:?}\nfound {:?}", lines_of(view), found(text)));
             }
             let counts = view.counts().ok_or("what was read has counts")?;
             account::check(text, Told { answer: Answer::default(), counts })?;
@@ -224,9 +267,15 @@ fn kept_areas() {
             continue;
         }
         let written = today.to_vec();
-        let kept = Area::from_bytes(keyed(&text, area.as_bytes()).try_into().expect("as long as before"));
+        let bytes: [u8; Area::SIZE] = keyed(&text, area.as_bytes()).try_into().expect("as long as before");
+        let kept = Area::from_earlier(bytes[..Area::EARLIER].try_into().expect("the session"));
         let view = sdp::kept(&text, &kept).unwrap_or_else(|error| panic!("{error}: {}", text.escape_ascii()));
         assert_eq!(session(view), due, "{}", text.escape_ascii());
+        assert!(lines_of(view).iter().all(|(_, lines)| lines.iter().all(|line| *line == 0)));
+        // with the lines of today it is equal, and has them
+        let with_lines = Area::from_bytes(bytes);
+        let today = sdp::kept(&text, &with_lines).unwrap();
+        assert!(today == view && lines_of(today) == found(&text), "{}", text.escape_ascii());
         assert_eq!((view.to_vec(), view.counts()), (written, None));
         keys += of_text;
         compared += 1;

@@ -2,10 +2,10 @@
 mod plain;
 use compare::area::{
     decode, Attribute, Bandwidth, Connection, Key, Media, MediaConnection, Offset, Origin, Repeat, Seen, Span, Time,
-    Zone, PARTS, SIZE,
+    Zone, PARTS, SESSION, SIZE,
 };
-use compare::judge::{cells, faults, judge, two, Fault, Kind, FAULTS};
-use compare::made::{self, at, put_eight, put_two, DAMAGES};
+use compare::judge::{self, cells, faults, judge, two, Fault, Kind, FAULTS};
+use compare::made::{self, at, line_at, put_eight, put_two, DAMAGES};
 use compare::whole::Whole;
 use compare::writing::{is_key, at_once_from, ours, Fill, Length, Outcome};
 use compare::{account, fill, length, read, theirs, Answer, Told};
@@ -290,12 +290,15 @@ fn areas_of_noise() {
 }
 
 /// A session with something in every part, twice where it is a table, and a text for it with other bytes behind. Its keys
-/// are those of an area that was kept.
+/// are those of an area that was kept, with lines.
 fn rich() -> (Vec<u8>, Vec<u8>) {
     let text = b"v=0\no=u 1 2 IN IP4 h\ns=n\ni=d\nu=u\ne=e\ne=f\np=p\np=q\nc=IN IP4 h\nb=AS:1\nb=X:2\nt=1 2\n\
         r=1 2 3 4\nt=3 4\nr=5 6 7\nz=1 -2 3 4\nk=m:t\na=x\na=y:z\nm=a 1/2 p f\ni=t\nc=A B C\nb=CT:5\nk=q:r\na=w:\n\
         m=b 2/3 p f\ni=g\nc=D E F\nb=Y:6\nk=m:t\na=v:s\n";
-    let area = made::keyed(text, &area_of(text).unwrap());
+    let mut area = made::keyed(text, &area_of(text).unwrap());
+    for (column, cell, line) in [("key", 0, 18), ("media keys", 0, 25), ("media keys", 1, 31)] {
+        put_two(&mut area, line_at(column, cell), line);
+    }
     let seen = decode(&area).unwrap();
     assert!(seen.key.is_some() && seen.medias.iter().all(|media| media.key.is_some()));
     (text.to_vec(), area)
@@ -330,6 +333,12 @@ fn every_cell_in_turn() {
                 }
             }
             Kind::Number if cell.width == 8 => (0..4).for_each(|word| add(cell.at + 2 * word, 0xffff)),
+            Kind::Line => {
+                assert!(two(&area, cell.at) > 0, "{} row {}: {}", cell.part.name, cell.row, cell.name);
+                for value in [0, 1, 255, 256, 32_767, 32_768, 32_769, 32_770, 0x80ff, 0x8100, 0xff00, 0xffff] {
+                    add(cell.at, value);
+                }
+            }
             Kind::Mark | Kind::Owner | Kind::Count | Kind::Number => {
                 for value in [0, 1, 2, 3, 128, 255, 256, 257, 258, 512, 0x8001, 0xff00, 0xffff] {
                     add(cell.at, value);
@@ -374,6 +383,51 @@ fn every_cell_in_turn() {
     println!("    judged cells: {seen:?}");
     // an owner of 0 doesn't fall in the first row only, and is bad in three tables
     assert!(FAULTS.iter().all(|fault| classes.alone(*fault) >= 3));
+}
+
+/// Document 02, P9: "23 also for a line above 32,768". Every line of a session that has everything, and every other cell of
+/// the columns: those past a count, and those of what is made absent, may hold anything.
+#[test]
+fn every_line_in_turn() {
+    let (text, area) = rich();
+    let due = whole(&text, &area);
+    let (mut judged, mut others) = (0, 0);
+    for cell in cells(&area).iter().filter(|cell| cell.kind == Kind::Line) {
+        let mut changed = area.clone();
+        for line in [0, 1, 32_767, 32_768, 32_769, 0xffff] {
+            put_two(&mut changed, cell.at, line);
+            let outcome = ours().same(&text, &changed);
+            let (part, row) = (cell.part.name, cell.row);
+            if cell.judged && line > 32_768 {
+                assert_eq!(outcome, Outcome::Bad([Fault::Line].into()), "{part} {row} {}: {line}", cell.name);
+            } else {
+                assert_eq!(outcome, Outcome::Written(due.clone().into()), "{part} {row} {}: {line}", cell.name);
+            }
+        }
+        *if cell.judged { &mut judged } else { &mut others } += 1;
+    }
+    println!("write: {judged} lines in turn, {others} cells of lines that aren't judged");
+    // the six fields, the ten tables, titles and keys
+    assert_eq!((judged, others), (6 + (2 + 2 + 2 + 4 + 2 + 2 + 3 + 2 + 4 + 2) + 2 + 2, 1_190 - 35));
+    // each field, and each media's title and key, made absent by its mark
+    let mut absent = 0;
+    for mark in cells(&area).iter().filter(|cell| cell.judged && cell.kind == Kind::Mark) {
+        let of_mark = |cell: &&judge::Cell| {
+            let name = mark.name.strip_suffix("mark").unwrap();
+            cell.kind == Kind::Line && cell.name == format!("{name}line") && (cell.part.name, cell.row) == (mark.part.name, mark.row)
+        };
+        let all = cells(&area);
+        let Some(line) = all.iter().find(of_mark) else { continue };
+        let mut changed = area.clone();
+        put_two(&mut changed, line.at, 0xffff);
+        assert_eq!(ours().same(&text, &changed), Outcome::Bad([Fault::Line].into()));
+        put_two(&mut changed, mark.at, 0);
+        let without = whole(&text, &changed);
+        put_two(&mut changed, line.at, 0);
+        assert_eq!(without, whole(&text, &changed), "{} {}", mark.part.name, mark.name);
+        absent += 1;
+    }
+    assert_eq!(absent, 5 + 2 * 2, "origin, description, uri, connection, key; titles and keys of two medias");
 }
 
 /// Every table with its count at the most and one over, the rows being good and the text long enough.
@@ -703,6 +757,7 @@ fn the_longest_output() {
             Kind::Owner => put_two(&mut area, cell.at, 1 + 31 * usize::from(cell.row + 1 == cell.part.rows)),
             Kind::Text => put_two(&mut area, cell.at + 2, LONGEST),
             Kind::Number => area[cell.at..cell.at + cell.width].fill(0xff),
+            Kind::Line => put_two(&mut area, cell.at, 32_768),
             Kind::Count => {}
         }
     }
@@ -728,8 +783,9 @@ fn the_longest_output() {
 #[test]
 fn the_order_of_refusals() {
     let (text, good) = rich();
-    let mut bad = good.clone();
+    let (mut bad, mut bad_line) = (good.clone(), good.clone());
     put_two(&mut bad, at("uri", 0, "mark"), 2);
+    put_two(&mut bad_line, line_at("name", 0), 32_769);
     let mut long = text.clone();
     long.resize(LONGEST + 1, b'\n');
     let mut limit = text.clone();
@@ -737,8 +793,8 @@ fn the_order_of_refusals() {
     let needed = whole(&text, &good).len();
     let mut tried = 0;
     for text in [&text, &limit, &long] {
-        for area in [&good, &bad] {
-            for size in [0, 1, 31, SIZE / 2, SIZE - 1, SIZE, SIZE + 1, SIZE + 50] {
+        for area in [&good, &bad, &bad_line] {
+            for size in [0, 1, 31, SIZE / 2, SESSION, SIZE - 1, SIZE, SIZE + 1, SIZE + 50] {
                 // beyond the size stands what would be bad anywhere
                 let mut lent = area.clone();
                 lent.resize(SIZE + 50, 0xff);
@@ -747,7 +803,7 @@ fn the_order_of_refusals() {
                     only(2, 0)
                 } else if text.len() > LONGEST {
                     only(1, 0)
-                } else if area == &bad {
+                } else if area != &good {
                     only(23, 0)
                 } else {
                     only(0, needed)
@@ -770,7 +826,7 @@ fn the_order_of_refusals() {
         }
     }
     println!("write: {tried} calls for the order of refusals");
-    assert_eq!(tried, 3 * 2 * 8 * 6);
+    assert_eq!(tried, 3 * 3 * 9 * 6);
 }
 
 /// Outputs of these lengths: too short is 22 and leaves the output as it was.

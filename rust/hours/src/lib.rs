@@ -17,6 +17,18 @@ pub struct Hour {
     pub interval: Option<u64>,
     /// What the z line added, in seconds.
     pub shift: i64,
+    pub lines: Lines,
+}
+
+/// The lines of the text that a start comes from, as the records carry them.
+#[derive(Debug, Clone, Copy, PartialEq, Eq)]
+pub struct Lines {
+    /// Of the t line.
+    pub time: u64,
+    /// Of the r line.
+    pub repeat: Option<u64>,
+    /// Of the z line, where it shifted the start.
+    pub zone: Option<u64>,
 }
 
 impl Hour {
@@ -44,10 +56,20 @@ pub fn hours(text: &[u8], window: Range<u64>) -> Result<Hours, sdp::Error> {
         // equal starts stand together, and each takes the next of their shifts
         let before = list.iter().rev().take_while(|hour| hour.start == start).count();
         let shift = shift::shifts(&session, start).get(before).copied();
+        let shift = shift.expect("a start comes of an offset of its repeat");
+        let time = session.time(start.time).expect("a start comes of a time");
+        let repeat = start.repeat.and_then(|number| session.repeat(number));
+        // all zones carry the line of the z line
+        let zone = session.time_zones().find(|zone| shift != 0 && zone.offset == shift);
         list.push(Hour {
             start,
-            interval: start.repeat.and_then(|number| session.repeat(number)).map(|repeat| repeat.repeat_interval),
-            shift: shift.expect("a start comes of an offset of its repeat"),
+            interval: repeat.map(|repeat| repeat.repeat_interval),
+            shift,
+            lines: Lines {
+                time: time.line(),
+                repeat: repeat.map(|repeat| repeat.line()),
+                zone: zone.map(|zone| zone.line()),
+            },
         });
     }
     let first = session.times().map(|time| time.start_time).filter(|start| *start > 0).min();

@@ -11,14 +11,16 @@ const ME: Program = Program("hours");
 const HELP: &str = "\
 usage: hours [--from DATE] [--to DATE | --days N] [FILE [OTHER]]
 Lists when a session really starts, by its t, r and z lines: weekday, date and time in UTC; the time and the repeat that
-each start comes from, which are the t lines and the r lines of the text, counted from 1; and the shift that the z line
-made. Without FILE, or with -, the text comes from standard input.
+each start comes from, which are the t lines and the r lines of the text, counted from 1; the shift that the z line
+made; and the numbers of these lines in the text, such as 't 10, r 11, z 12'. Without FILE, or with -, the text comes
+from standard input.
   --from DATE  the window's first moment; without it, now
   --to DATE    the window's end, which is not in it
   --days N     the window's length instead; without both, 30 days
 A DATE is one such as 2026-12-01, 2026-12-01T20:00 or '2026-12-01 20:00', in UTC. It may have seconds too.
 With OTHER the starts of two texts stand side by side, in the order of the left ones. A start is the same in both where
-time, repeat and hour before the shift are. Between them stands a mark:
+time, repeat and hour before the shift are. Below are the lines of each time and repeat in both texts. Between the two
+stands a mark:
   =  it is at the same time in both
   ~  it is at another time on the right, and how much later or earlier is told
   -  it is in the window only on the left

@@ -1,9 +1,10 @@
 //! The page: the starts of one text, or those of two side by side; or why a text is refused.
 use crate::dates::{is_dated, shown, span, DAY};
-use crate::{Hour, Hours};
+use crate::{Hour, Hours, Lines};
 use beside::cells::{cells, pieces};
 use beside::page::{rows, WIDTH};
 use sdp::Error;
+use std::collections::BTreeMap;
 use std::ops::Range;
 
 /// More than 256 starts.
@@ -58,12 +59,19 @@ fn title(cells: &[&str]) -> Vec<String> {
     cells.iter().map(|cell| cell.to_string()).collect()
 }
 
-/// The lines of the text that a start comes from.
+/// The time and the repeat that a start comes from.
 fn source(hour: &Hour) -> String {
     match hour.start.repeat {
         None => format!("time {}", hour.start.time),
         Some(repeat) => format!("time {}, repeat {repeat}", hour.start.time),
     }
+}
+
+/// Their lines in the text, each behind its letter, and that of the z line where it shifted the start.
+fn lines(lines: Lines) -> String {
+    let repeat = lines.repeat.map_or(String::new(), |line| format!(", r {line}"));
+    let zone = lines.zone.map_or(String::new(), |line| format!(", z {line}"));
+    format!("t {}{repeat}{zone}", lines.time)
 }
 
 /// With its sign; nothing for none.
@@ -78,17 +86,17 @@ fn list(hours: &[Hour]) -> String {
     if hours.is_empty() {
         return String::new();
     }
-    let mut lines = vec![title(&["start (UTC)", "comes from", "z line"])];
-    lines.extend(hours.iter().map(|hour| {
+    let mut rows = vec![title(&["start (UTC)", "comes from", "z line", "lines"])];
+    rows.extend(hours.iter().map(|hour| {
         let interval = match hour.interval {
             None => String::new(),
             Some(0) => " (once)".into(),
             Some(DAY) => " (every day)".into(),
             Some(interval) => format!(" (every {})", span(interval)),
         };
-        vec![shown(hour.start.at), source(hour) + &interval, shift(hour)]
+        vec![shown(hour.start.at), source(hour) + &interval, shift(hour), lines(hour.lines)]
     }));
-    table(&lines).join("\n") + "\n"
+    fitting(rows).join("\n") + "\n"
 }
 
 /// What a row of two lists holds: the same start of the session in both, or one that is in one window only.
@@ -151,7 +159,30 @@ fn both(left: &Hours, right: &Hours) -> String {
         let count = pairs.iter().filter(|pair| mark(pair) == sign).count();
         format!("{sign} {count} {words}")
     });
-    fitting(lines).join("\n") + "\n\n" + &marked.join("   ") + "\n"
+    fitting(lines).join("\n") + "\n\n" + &sources(left, right) + "\n" + &marked.join("   ") + "\n"
+}
+
+/// Below two lists: the lines of each time and repeat that a row names, and of the z line, in both texts. In the rows they would
+/// have no room.
+fn sources(left: &Hours, right: &Hours) -> String {
+    let mut of_sources: BTreeMap<_, (String, [String; 2])> = BTreeMap::new();
+    let mut zones = [String::new(), String::new()];
+    for (side, hours) in [left, right].into_iter().enumerate() {
+        for hour in &hours.list {
+            let row = of_sources.entry((hour.start.time, hour.start.repeat)).or_insert((source(hour), Default::default()));
+            row.1[side] = lines(Lines { zone: None, ..hour.lines });
+            if let Some(line) = hour.lines.zone {
+                zones[side] = format!("z {line}");
+            }
+        }
+    }
+    let mut rows = vec![title(&["comes from", "left lines", "right lines"])];
+    rows.extend(of_sources.into_values().map(|(source, [left, right])| vec![source, left, right]));
+    if zones.iter().any(|line| !line.is_empty()) {
+        let [left, right] = zones;
+        rows.push(vec!["z line".into(), left, right]);
+    }
+    table(&rows).join("\n") + "\n"
 }
 
 /// A table, with its last two columns in rows of their own where it would be too wide.

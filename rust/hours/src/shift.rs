@@ -9,7 +9,7 @@ pub fn shifts(session: &Session<'_>, start: Start) -> Vec<i64> {
         return vec![0]; // a time without repeats starts once, and isn't shifted
     };
     let zones: Vec<TimeZone> = session.time_zones().collect();
-    let mut offsets: Vec<u64> = repeat.offsets().collect();
+    let mut offsets: Vec<u64> = repeat.offsets().map(u64::from).collect();
     if offsets.is_empty() {
         offsets.push(0);
     }

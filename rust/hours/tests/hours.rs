@@ -10,7 +10,7 @@ use hours::dates::{is_dated, of_clock, seconds, shown, span, DAY};
 use hours::page::{pairs, Told};
 use hours::shift::shifts;
 use hours::words::{asked, Asked, Source};
-use hours::{hours, Hour};
+use hours::{hours, Hour, Lines};
 use sdp::{Error, SessionBuf, Start};
 use std::cmp::Ordering;
 use std::collections::BTreeSet;
@@ -183,7 +183,7 @@ fn one_by_one(text: &str, window: &Range<u64>) -> Vec<Row> {
         }
         for repeat in row.repeats() {
             number += 1;
-            let offsets = repeat.offsets().chain(repeat.offsets().is_empty().then_some(0));
+            let offsets = repeat.offsets().map(u64::from).chain(repeat.offsets().is_empty().then_some(0));
             for offset in offsets {
                 let most = if repeat.repeat_interval == 0 { 0 } else { 200 };
                 let starts = (0..=most).map(|k| row.start_time + k * repeat.repeat_interval + offset);
@@ -233,6 +233,77 @@ fn shifts_of_small_sessions() {
     println!("hours: {rows} starts, {shifted} shifted, {equal} equal to the one before; {refused} texts with too many");
     let few = count(20_000) as usize;
     assert!(rows > few * 4 && shifted > few * 2 && equal > few / 2);
+}
+
+// ---- lines
+
+/// The lines of a text that begin with a letter, counted from 1.
+fn lines_with(text: &str, letter: char) -> Vec<u64> {
+    let lines = (1..).zip(text.split('\n')).filter(|(_, line)| line.starts_with(letter));
+    lines.map(|(number, _)| number).collect()
+}
+
+/// With lines put in that have no use, of both endings.
+fn with_idle_lines(random: &mut Random, text: &str) -> String {
+    let idle = |random: &mut Random| {
+        let many = random.below(3);
+        (0..many).map(|_| random.pick(&["\n", "\r\n", "x=t=1 1\n", "k=clear:x\r\n"])).collect::<String>()
+    };
+    text.split_inclusive('\n').map(|line| line.to_string() + &idle(random)).collect()
+}
+
+/// Each start has the lines of its time, of its repeat, and of the z line where that shifted it; the page names them in its row.
+#[test]
+fn lines_of_small_sessions() {
+    let mut random = Random::of_test("lines");
+    let (mut rows, mut repeated, mut shifted) = (0, 0, 0);
+    for _ in 0..count(5_000) {
+        let plain = small(&mut random);
+        let text = with_idle_lines(&mut random, &plain);
+        let window = 0..random.between(10, 60) as u64;
+        let (times, repeats, zones) = (lines_with(&text, 't'), lines_with(&text, 'r'), lines_with(&text, 'z'));
+        let Ok(found) = hours(text.as_bytes(), window.clone()) else { continue };
+        let page = hours::page::page(&[told("", text.as_bytes(), &window)], &window);
+        for (hour, row) in found.list.iter().zip(page.lines().skip(1)) {
+            let (time, repeat) = (times[hour.start.time - 1], hour.start.repeat.map(|number| repeats[number - 1]));
+            let zone = zones.first().copied().filter(|_| hour.shift != 0);
+            assert_eq!(hour.lines, Lines { time, repeat, zone }, "{text}");
+            let named: Vec<String> = [("t", Some(time)), ("r", repeat), ("z", zone)]
+                .iter()
+                .filter_map(|(letter, line)| line.map(|line| format!("{letter} {line}")))
+                .collect();
+            assert!(row.ends_with(&format!("  {}", named.join(", "))), "{row}\n{named:?}\n{text}");
+            rows += 1;
+            repeated += u64::from(repeat.is_some());
+            shifted += u64::from(zone.is_some());
+        }
+    }
+    println!("hours: lines of {rows} starts, {repeated} repeated, {shifted} shifted");
+    assert!(rows > count(5_000) && repeated * 2 > rows && shifted * 5 > rows);
+}
+
+/// Two texts: below the rows each time and repeat has its lines on both sides, which may differ, and so has the z line.
+#[test]
+fn lines_of_two_texts() {
+    let left = "v=0\nt=1000 0\nr=100 10\nz=1100 -5\nt=1097 0\n";
+    let right = "v=0\r\n\r\nt=1000 0\r\nx=\r\nr=100 10\r\nt=1097 0\r\nt=1098 0\r\n";
+    let window = 1_000..1_200;
+    let page = |left: &str, right: &str| {
+        let texts = [told("a", left.as_bytes(), &window), told("b", right.as_bytes(), &window)];
+        let page = hours::page::page(&texts, &window);
+        let (_, below) = page.split_once("\n\ncomes from  ").unwrap_or_else(|| panic!("{page}"));
+        below.split("\n\n").next().unwrap().lines().skip(1).map(String::from).collect::<Vec<_>>()
+    };
+    let due = [
+        "time 1, repeat 1  t 2, r 3    t 3, r 5",
+        "time 2            t 5         t 6",
+        "time 3                        t 7",
+        "z line            z 4",
+    ];
+    assert_eq!(page(left, right), due);
+    assert_eq!(page(right, left)[2..], ["time 3            t 7", "z line                        z 4"]);
+    // nothing is shifted: no z line is named
+    assert_eq!(page(right, right).len(), 3);
 }
 
 // ---- words

@@ -9,13 +9,15 @@
 //! | `session.session_name`, `session.uri`, .. | `session.session_name()`, `session.uri()`, .. |
 //! | `session.key`, `media.key` | [`Session::key`], [`Media::key`]: `None` of what is read, since k lines are ignored |
 //! | `time.start_time`, `media.port`, `zone.offset`, .. | the same |
-//! | `String` | `&str` that stands in the text |
+//! | `String` | `&str` that stands in the text; of emails and phones a [`Contact`], which is used as one |
+//! | `repeat.offsets`: `u64` | [`Repeat::offsets`]: [`Offset`], which has the `u64` |
 //! | `NetType`, `AddrType` | `&str`, as it was written: `in` stays `in` |
 //! | `session.origin` where no o line was | [`Session::origin`]: the same; [`Session::origin_line`] gives `None` |
 //! | `session.write(&mut output)?` | `session.write_to(&mut output)?`; or [`Session::to_vec`], `to_string()` |
 //! | nothing | [`Session::write`] into a slice, of the length that [`Session::written_len`] says or of [`ROOM`] bytes |
 //! | `ParserError` | [`Error`]: a number, a line, a field, the byte that is not UTF-8, and a sentence |
 //! | nothing | [`kept`]: the session of an area that was kept |
+//! | nothing | [`Media::line`], [`Attribute::line`], ..: the line of the text that a record was read from ([Lines](#lines)) |
 //! | nothing | [`Session::counts`]: how many lines of the text were empty, ignored and kept |
 //! | nothing | [`Session::starts`]: the instants at which the session starts within a window |
 //!
@@ -60,6 +62,27 @@
 //! # Ok::<(), sdp::Error>(())
 //! ```
 //!
+//! # Lines
+//!
+//! Every record carries the line of the text that it was read from: ask its `line()`. Offsets of a repeat carry that of their
+//! r line, time zones that of the z line. Of the fields that are plain strings the session or the media knows it:
+//! [`Session::line_of_session_name`], [`Session::line_of_session_description`], [`Session::line_of_uri`] and
+//! [`Media::line_of_media_title`]. Lines count from 1, as in an [`Error`]; 0 is no line.
+//!
+//! ```
+//! let text = b"v=0\r\n\r\ns=Desk 4\r\nm=audio 5004 RTP/AVP 96\r\nx=new\r\na=recvonly\r\n";
+//! let mut area = sdp::Area::new();
+//! let session = sdp::read(text, &mut area)?;
+//! let media = session.medias().next().unwrap();
+//! assert_eq!((session.line_of_session_name(), media.line()), (3, 4));
+//! assert_eq!(media.attributes().map(|attribute| attribute.line()).collect::<Vec<_>>(), [6]);
+//! assert_eq!(session.origin().line(), 0); // there is no o line
+//! # Ok::<(), sdp::Error>(())
+//! ```
+//!
+//! They tell of the text and not of the session, so equality leaves them out, and `{:?}` too: a session that is written and
+//! read back is equal, and its records stand in other lines.
+//!
 //! # When it starts
 //!
 //! [`Session::starts`] lists the instants at which a session starts, repeats and zones worked in. A concert every day at
@@ -87,7 +110,8 @@ pub use area::Area;
 pub use error::Error;
 pub use ffi::Counts;
 pub use session::{
-    Attribute, Bandwidth, Connection, Key, Media, Origin, Repeat, Rows, Session, SessionBuf, Time, TimeZone,
+    Attribute, Bandwidth, Connection, Contact, Key, Media, Offset, Origin, Repeat, Rows, Session, SessionBuf, Time,
+    TimeZone,
 };
 pub use starts::{Start, Starts, StartsIter};
 
@@ -162,8 +186,9 @@ pub fn read<'a>(text: &'a [u8], area: &'a mut Area) -> Result<Session<'a>, Error
 /// The session of an area that was kept, with the text that was read into it: by this release or an earlier one, in Rust
 /// ([`Area::as_bytes`]) or in C. The bytes are judged first, so they may be any.
 ///
-/// An area of a release that still read k lines has their keys ([`Session::key`], [`Media::key`]). They are not written.
-/// An area has no counts of lines, so the session has none ([`Session::counts`]): the text is not read here.
+/// An area of a release before records carried their lines has fewer bytes: [`Area::from_earlier`] takes these, and every
+/// line is 0. An area of a release that still read k lines has their keys ([`Session::key`], [`Media::key`]). They are not
+/// written. An area has no counts of lines, so the session has none ([`Session::counts`]): the text is not read here.
 ///
 /// ```
 /// let text = b"v=0\ns=one\n";
@@ -172,7 +197,8 @@ pub fn read<'a>(text: &'a [u8], area: &'a mut Area) -> Result<Session<'a>, Error
 /// let bytes = *area.as_bytes(); // put away, and later:
 /// let area = sdp::Area::from_bytes(bytes);
 /// let session = sdp::kept(text, &area)?;
-/// assert_eq!((session.session_name(), session.counts()), ("one", None));
+/// assert_eq!((session.session_name(), session.line_of_session_name()), ("one", 2));
+/// assert_eq!(session.counts(), None);
 /// assert_eq!(sdp::kept(b"v=0", &area).unwrap_err().number(), 23); // it is another text's
 /// # Ok::<(), sdp::Error>(())
 /// ```

@@ -3,11 +3,13 @@ use crate::{ffi, Area, Counts, Error, Starts};
 use std::ops::Range;
 use std::{fmt, io};
 
-/// Where a table stands, and the bytes of a row. Two bytes before the first row have the count.
+/// Where a table stands, the bytes of a row, and where the column of its rows' lines stands. Two bytes before the first row
+/// have the count.
 #[derive(Clone, Copy)]
 struct Table {
     at: usize,
     width: usize,
+    lines: usize,
 }
 
 const ORIGIN: usize = 0;
@@ -16,16 +18,26 @@ const DESCRIPTION: usize = 36;
 const URI: usize = 42;
 const CONNECTION: usize = 48;
 const KEY: usize = 62;
-const EMAILS: Table = Table { at: 74, width: 4 };
-const PHONES: Table = Table { at: 140, width: 4 };
-const CONNECTIONS: Table = Table { at: 206, width: 14 };
-const BANDWIDTHS: Table = Table { at: 1_104, width: 14 };
-const TIMES: Table = Table { at: 2_002, width: 16 };
-const REPEATS: Table = Table { at: 2_516, width: 18 };
-const OFFSETS: Table = Table { at: 3_670, width: 10 };
-const ZONES: Table = Table { at: 6_232, width: 16 };
-const ATTRIBUTES: Table = Table { at: 7_258, width: 12 };
-const MEDIAS: Table = Table { at: 13_404, width: 36 };
+const EMAILS: Table = Table { at: 74, width: 4, lines: 14_570 };
+const PHONES: Table = Table { at: 140, width: 4, lines: 14_602 };
+const CONNECTIONS: Table = Table { at: 206, width: 14, lines: 14_634 };
+const BANDWIDTHS: Table = Table { at: 1_104, width: 14, lines: 14_762 };
+const TIMES: Table = Table { at: 2_002, width: 16, lines: 14_890 };
+const REPEATS: Table = Table { at: 2_516, width: 18, lines: 14_954 };
+const OFFSETS: Table = Table { at: 3_670, width: 10, lines: 15_082 };
+const ZONES: Table = Table { at: 6_232, width: 16, lines: 15_594 };
+const ATTRIBUTES: Table = Table { at: 7_258, width: 12, lines: 15_722 };
+const MEDIAS: Table = Table { at: 13_404, width: 36, lines: 16_746 };
+
+// the lines of the fields, and the columns of those that each media may have
+const ORIGIN_LINE: usize = 14_558;
+const NAME_LINE: usize = 14_560;
+const DESCRIPTION_LINE: usize = 14_562;
+const URI_LINE: usize = 14_564;
+const CONNECTION_LINE: usize = 14_566;
+const KEY_LINE: usize = 14_568;
+const TITLE_LINES: usize = 16_810;
+const KEY_LINES: usize = 16_874;
 
 /// The owner that is the session itself.
 const SESSION: usize = 0;
@@ -68,8 +80,9 @@ impl<'a> Cells<'a> {
         self.marked(at, |cells| cells.string(0))
     }
 
-    fn origin(self) -> Origin<'a> {
+    fn origin(self, line: u64) -> Origin<'a> {
         Origin {
+            line,
             username: self.marked_string(0),
             sess_id: self.string(6),
             sess_version: self.eight(10),
@@ -79,18 +92,31 @@ impl<'a> Cells<'a> {
         }
     }
 
-    fn connection(self) -> Connection<'a> {
-        Connection { nettype: self.string(0), addrtype: self.string(4), connection_address: self.string(8) }
+    fn connection(self, line: u64) -> Connection<'a> {
+        Connection { line, nettype: self.string(0), addrtype: self.string(4), connection_address: self.string(8) }
     }
 
-    fn key(self) -> Key<'a> {
-        Key { method: self.string(0), encryption_key: self.marked_string(4) }
+    fn key(self, line: u64) -> Key<'a> {
+        Key { line, method: self.string(0), encryption_key: self.marked_string(4) }
     }
 }
 
+/// The line that each record carries.
+macro_rules! line {
+    () => {
+        /// The line of the text that it was read from, counted from 1 as a refusal counts it ([`Error::line`]). 0 where that
+        /// isn't known: of what was built by hand, and of an area that an earlier release left. Equality leaves it out, and
+        /// `{:?}` too.
+        pub fn line(&self) -> u64 {
+            self.line
+        }
+    };
+}
+
 /// Originator of the session: the o line.
-#[derive(Debug, Clone, Copy, PartialEq, Eq)]
+#[derive(Clone, Copy)]
 pub struct Origin<'a> {
+    line: u64,
     /// User's login on the originating host; `None` for `-`.
     pub username: Option<&'a str>,
     /// Session id. RFC 8866 wants digits; this is not checked, as in the crate.
@@ -105,19 +131,71 @@ pub struct Origin<'a> {
     pub unicast_address: &'a str,
 }
 
+impl<'a> Origin<'a> {
+    /// An originator built by hand, without a username and without a line.
+    pub const fn new(
+        sess_id: &'a str,
+        sess_version: u64,
+        nettype: &'a str,
+        addrtype: &'a str,
+        unicast_address: &'a str,
+    ) -> Self {
+        Origin { line: 0, username: None, sess_id, sess_version, nettype, addrtype, unicast_address }
+    }
+
+    line!();
+}
+
 /// What a missing o line stands for.
-const PLACEHOLDER: Origin<'static> = Origin {
-    username: None,
-    sess_id: "0",
-    sess_version: 0,
-    nettype: "IN",
-    addrtype: "IP4",
-    unicast_address: "0.0.0.0",
-};
+const PLACEHOLDER: Origin<'static> = Origin::new("0", 0, "IN", "IP4", "0.0.0.0");
+
+/// A contact of the session: the e-mail address of an e line, or the phone number of a p line. It is used as a `&str`.
+#[derive(Clone, Copy)]
+pub struct Contact<'a> {
+    line: u64,
+    /// What stands in the line.
+    pub contact: &'a str,
+}
+
+impl<'a> Contact<'a> {
+    /// A contact built by hand: it has no line.
+    pub const fn new(contact: &'a str) -> Self {
+        Contact { line: 0, contact }
+    }
+
+    line!();
+}
+
+impl std::ops::Deref for Contact<'_> {
+    type Target = str;
+
+    fn deref(&self) -> &str {
+        self.contact
+    }
+}
+
+impl AsRef<str> for Contact<'_> {
+    fn as_ref(&self) -> &str {
+        self.contact
+    }
+}
+
+impl<'a> From<Contact<'a>> for &'a str {
+    fn from(contact: Contact<'a>) -> Self {
+        contact.contact
+    }
+}
+
+impl From<Contact<'_>> for String {
+    fn from(contact: Contact<'_>) -> Self {
+        contact.contact.into()
+    }
+}
 
 /// Connection data of the session or of a media: a c line.
-#[derive(Debug, Clone, Copy, PartialEq, Eq)]
+#[derive(Clone, Copy)]
 pub struct Connection<'a> {
+    line: u64,
     /// Type of network, as it was written.
     pub nettype: &'a str,
     /// Type of the address, as it was written.
@@ -126,13 +204,32 @@ pub struct Connection<'a> {
     pub connection_address: &'a str,
 }
 
+impl<'a> Connection<'a> {
+    /// Connection data built by hand: it has no line.
+    pub const fn new(nettype: &'a str, addrtype: &'a str, connection_address: &'a str) -> Self {
+        Connection { line: 0, nettype, addrtype, connection_address }
+    }
+
+    line!();
+}
+
 /// Bandwidth of the session or of a media: a b line.
-#[derive(Debug, Clone, Copy, PartialEq, Eq)]
+#[derive(Clone, Copy)]
 pub struct Bandwidth<'a> {
+    line: u64,
     /// Bandwidth type, such as `CT` or `AS`.
     pub bwtype: &'a str,
     /// Bandwidth.
     pub bandwidth: u64,
+}
+
+impl<'a> Bandwidth<'a> {
+    /// A bandwidth built by hand: it has no line.
+    pub const fn new(bwtype: &'a str, bandwidth: u64) -> Self {
+        Bandwidth { line: 0, bwtype, bandwidth }
+    }
+
+    line!();
 }
 
 /// When the session is active: a t line with its r lines.
@@ -140,6 +237,7 @@ pub struct Bandwidth<'a> {
 pub struct Time<'a> {
     session: Session<'a>,
     number: usize,
+    line: u64,
     /// Start time, in seconds since 1900.
     pub start_time: u64,
     /// Stop time, in seconds since 1900; 0 for no end.
@@ -151,6 +249,8 @@ impl<'a> Time<'a> {
     pub fn repeats(&self) -> Rows<'a, Repeat<'a>> {
         self.session.owned(REPEATS, self.number, Repeat::row)
     }
+
+    line!();
 }
 
 /// When a time repeats: an r line. All in seconds.
@@ -158,6 +258,7 @@ impl<'a> Time<'a> {
 pub struct Repeat<'a> {
     session: Session<'a>,
     number: usize,
+    line: u64,
     /// From one start to the next.
     pub repeat_interval: u64,
     /// How long it lasts each time.
@@ -166,42 +267,134 @@ pub struct Repeat<'a> {
 
 impl<'a> Repeat<'a> {
     fn row(session: Session<'a>, number: usize) -> Self {
-        let cells = session.row(REPEATS, number).from(OWNED);
-        Repeat { session, number, repeat_interval: cells.eight(0), active_duration: cells.eight(8) }
+        let (cells, line) = (session.row(REPEATS, number).from(OWNED), session.line_of(REPEATS, number));
+        Repeat { session, number, line, repeat_interval: cells.eight(0), active_duration: cells.eight(8) }
     }
 
-    /// The offsets from the start time.
-    pub fn offsets(&self) -> Rows<'a, u64> {
-        self.session.owned(OFFSETS, self.number, |session, number| session.row(OFFSETS, number).from(OWNED).eight(0))
+    /// The offsets from the start time. Those of one r line carry its line.
+    pub fn offsets(&self) -> Rows<'a, Offset> {
+        self.session.owned(OFFSETS, self.number, |session, number| {
+            let cells = session.row(OFFSETS, number).from(OWNED);
+            Offset { line: session.line_of(OFFSETS, number), offset: cells.eight(0) }
+        })
+    }
+
+    line!();
+}
+
+/// An offset of an r line: how long after the start time it begins, too.
+#[derive(Clone, Copy)]
+pub struct Offset {
+    line: u64,
+    /// In seconds.
+    pub offset: u64,
+}
+
+impl Offset {
+    /// An offset built by hand: it has no line.
+    pub const fn new(offset: u64) -> Self {
+        Offset { line: 0, offset }
+    }
+
+    line!();
+}
+
+impl From<Offset> for u64 {
+    fn from(offset: Offset) -> Self {
+        offset.offset
     }
 }
 
+/// `Debug`, `Display` and equality by what it holds: for records of one field, which are used as that.
+macro_rules! by_content {
+    ($type:ty: $field:ident, $content:ty) => {
+        impl fmt::Debug for $type {
+            fn fmt(&self, f: &mut fmt::Formatter<'_>) -> fmt::Result {
+                fmt::Debug::fmt(&self.$field, f)
+            }
+        }
+
+        impl fmt::Display for $type {
+            fn fmt(&self, f: &mut fmt::Formatter<'_>) -> fmt::Result {
+                fmt::Display::fmt(&self.$field, f)
+            }
+        }
+
+        impl PartialEq for $type {
+            fn eq(&self, other: &Self) -> bool {
+                self.$field == other.$field
+            }
+        }
+
+        impl Eq for $type {}
+
+        impl PartialEq<$content> for $type {
+            fn eq(&self, other: &$content) -> bool {
+                self.$field == *other
+            }
+        }
+    };
+}
+
+by_content!(Contact<'_>: contact, &str);
+by_content!(Offset: offset, u64);
+
 /// A pair of the z line: from when on the clock is shifted, and by how much.
-#[derive(Debug, Clone, Copy, PartialEq, Eq)]
+#[derive(Clone, Copy)]
 pub struct TimeZone {
+    line: u64,
     /// When the shift begins, in seconds since 1900.
     pub adjustment_time: u64,
     /// The shift in seconds, with its sign: -3600 is minus one hour.
     pub offset: i64,
 }
 
+impl TimeZone {
+    /// A pair built by hand: it has no line.
+    pub const fn new(adjustment_time: u64, offset: i64) -> Self {
+        TimeZone { line: 0, adjustment_time, offset }
+    }
+
+    line!();
+}
+
 /// Encryption key of the session or of a media, from a k line. RFC 8866 calls these obsolete: a line that is read today
 /// gives no key, and none is written. Only an area that was kept from an earlier release has one.
-#[derive(Debug, Clone, Copy, PartialEq, Eq)]
+#[derive(Clone, Copy)]
 pub struct Key<'a> {
+    line: u64,
     /// Key method.
     pub method: &'a str,
     /// The key itself; `None` where the line has no colon.
     pub encryption_key: Option<&'a str>,
 }
 
+impl<'a> Key<'a> {
+    /// A key built by hand: it has no line.
+    pub const fn new(method: &'a str, encryption_key: Option<&'a str>) -> Self {
+        Key { line: 0, method, encryption_key }
+    }
+
+    line!();
+}
+
 /// Attribute of the session or of a media: an a line.
-#[derive(Debug, Clone, Copy, PartialEq, Eq)]
+#[derive(Clone, Copy)]
 pub struct Attribute<'a> {
+    line: u64,
     /// Attribute name.
     pub attribute: &'a str,
     /// Attribute value: `None` for `a=x`, empty for `a=x:`.
     pub value: Option<&'a str>,
+}
+
+impl<'a> Attribute<'a> {
+    /// An attribute built by hand: it has no line.
+    pub const fn new(attribute: &'a str, value: Option<&'a str>) -> Self {
+        Attribute { line: 0, attribute, value }
+    }
+
+    line!();
 }
 
 /// A media: an m line and the lines behind it.
@@ -209,6 +402,7 @@ pub struct Attribute<'a> {
 pub struct Media<'a> {
     session: Session<'a>,
     number: usize,
+    line: u64,
     /// Media type, such as `audio`.
     pub media: &'a str,
     /// Port that the media is sent to.
@@ -255,9 +449,16 @@ impl<'a> Media<'a> {
     /// The media's c lines.
     pub fn connections(&self) -> Rows<'a, Connection<'a>> {
         self.session.owned(CONNECTIONS, self.number, |session, number| {
-            session.row(CONNECTIONS, number).from(OWNED).connection()
+            session.row(CONNECTIONS, number).from(OWNED).connection(session.line_of(CONNECTIONS, number))
         })
     }
+
+    /// The line that the title was read from: that of the media's i line. 0 where there is none, or where it isn't known.
+    pub fn line_of_media_title(&self) -> u64 {
+        self.media_title.map_or(0, |_| self.session.line_in(TITLE_LINES, self.number))
+    }
+
+    line!();
 
     /// The media's b lines.
     pub fn bandwidths(&self) -> Rows<'a, Bandwidth<'a>> {
@@ -303,6 +504,15 @@ impl<'a> Session<'a> {
         usize::from(self.cells(table.at).two(0))
     }
 
+    /// The line in cell `number` of a column, from 1. That of a field is a column of one.
+    fn line_in(self, column: usize, number: usize) -> u64 {
+        u64::from(self.cells(column + (number - 1) * 2).two(0))
+    }
+
+    fn line_of(self, table: Table, number: usize) -> u64 {
+        self.line_in(table.lines, number)
+    }
+
     fn all<T>(self, table: Table, row: fn(Session<'a>, usize) -> T) -> Rows<'a, T> {
         Rows { session: self, left: 1..self.count(table) + 1, row }
     }
@@ -329,26 +539,27 @@ impl<'a> Session<'a> {
 
     fn bandwidths_of(self, owner: usize) -> Rows<'a, Bandwidth<'a>> {
         self.owned(BANDWIDTHS, owner, |session, number| {
-            let cells = session.row(BANDWIDTHS, number).from(OWNED);
-            Bandwidth { bwtype: cells.string(0), bandwidth: cells.eight(4) }
+            let (cells, line) = (session.row(BANDWIDTHS, number).from(OWNED), session.line_of(BANDWIDTHS, number));
+            Bandwidth { line, bwtype: cells.string(0), bandwidth: cells.eight(4) }
         })
     }
 
     fn attributes_of(self, owner: usize) -> Rows<'a, Attribute<'a>> {
         self.owned(ATTRIBUTES, owner, |session, number| {
-            let cells = session.row(ATTRIBUTES, number).from(OWNED);
-            Attribute { attribute: cells.string(0), value: cells.marked_string(4) }
+            let (cells, line) = (session.row(ATTRIBUTES, number).from(OWNED), session.line_of(ATTRIBUTES, number));
+            Attribute { line, attribute: cells.string(0), value: cells.marked_string(4) }
         })
     }
 
-    /// The originator. Where the text has no o line this is the placeholder `- 0 0 IN IP4 0.0.0.0`, as in the crate.
+    /// The originator. Where the text has no o line this is the placeholder `- 0 0 IN IP4 0.0.0.0`, as in the crate, with the
+    /// line 0.
     pub fn origin(&self) -> Origin<'a> {
         self.origin_line().unwrap_or(PLACEHOLDER)
     }
 
     /// The originator, or `None` where the text has no o line.
     pub fn origin_line(&self) -> Option<Origin<'a>> {
-        self.cells(ORIGIN).marked(0, Cells::origin)
+        self.cells(ORIGIN).marked(0, |cells| cells.origin(self.line_in(ORIGIN_LINE, 1)))
     }
 
     /// Name of the session; empty where the text has no s line.
@@ -356,9 +567,19 @@ impl<'a> Session<'a> {
         self.cells(NAME).string(0)
     }
 
+    /// The line that the name was read from: that of the s line. 0 where the text has none, or where it isn't known.
+    pub fn line_of_session_name(&self) -> u64 {
+        self.line_in(NAME_LINE, 1)
+    }
+
     /// Description of the session: its i line.
     pub fn session_description(&self) -> Option<&'a str> {
         self.cells(DESCRIPTION).marked_string(0)
+    }
+
+    /// The line that the description was read from. 0 where there is none, or where it isn't known.
+    pub fn line_of_session_description(&self) -> u64 {
+        self.session_description().map_or(0, |_| self.line_in(DESCRIPTION_LINE, 1))
     }
 
     /// URI of more information: the u line.
@@ -366,19 +587,28 @@ impl<'a> Session<'a> {
         self.cells(URI).marked_string(0)
     }
 
+    /// The line that the URI was read from. 0 where there is none, or where it isn't known.
+    pub fn line_of_uri(&self) -> u64 {
+        self.uri().map_or(0, |_| self.line_in(URI_LINE, 1))
+    }
+
     /// E-mail contacts: the e lines.
-    pub fn emails(&self) -> Rows<'a, &'a str> {
-        self.all(EMAILS, |session, number| session.row(EMAILS, number).string(0))
+    pub fn emails(&self) -> Rows<'a, Contact<'a>> {
+        self.all(EMAILS, |session, number| session.contact(EMAILS, number))
     }
 
     /// Phone contacts: the p lines.
-    pub fn phones(&self) -> Rows<'a, &'a str> {
-        self.all(PHONES, |session, number| session.row(PHONES, number).string(0))
+    pub fn phones(&self) -> Rows<'a, Contact<'a>> {
+        self.all(PHONES, |session, number| session.contact(PHONES, number))
+    }
+
+    fn contact(self, table: Table, number: usize) -> Contact<'a> {
+        Contact { line: self.line_of(table, number), contact: self.row(table, number).string(0) }
     }
 
     /// Connection data of the session: its c line.
     pub fn connection(&self) -> Option<Connection<'a>> {
-        self.cells(CONNECTION).marked(0, Cells::connection)
+        self.cells(CONNECTION).marked(0, |cells| cells.connection(self.line_in(CONNECTION_LINE, 1)))
     }
 
     /// Bandwidths of the session: its b lines.
@@ -389,8 +619,8 @@ impl<'a> Session<'a> {
     /// When the session is active: the t lines, each with its r lines. There may be none; `0 0` is then written.
     pub fn times(&self) -> Rows<'a, Time<'a>> {
         self.all(TIMES, |session, number| {
-            let cells = session.row(TIMES, number);
-            Time { session, number, start_time: cells.eight(0), stop_time: cells.eight(8) }
+            let (cells, line) = (session.row(TIMES, number), session.line_of(TIMES, number));
+            Time { session, number, line, start_time: cells.eight(0), stop_time: cells.eight(8) }
         })
     }
 
@@ -404,19 +634,19 @@ impl<'a> Session<'a> {
         self.all(REPEATS, Repeat::row).nth(number.checked_sub(1)?)
     }
 
-    /// The pairs of the z line.
+    /// The pairs of the z line. All carry its line.
     pub fn time_zones(&self) -> Rows<'a, TimeZone> {
         self.all(ZONES, |session, number| {
-            let cells = session.row(ZONES, number);
+            let (cells, line) = (session.row(ZONES, number), session.line_of(ZONES, number));
             // the cell has two's complement, so the cast keeps the sign
-            TimeZone { adjustment_time: cells.eight(0), offset: cells.eight(8) as i64 }
+            TimeZone { line, adjustment_time: cells.eight(0), offset: cells.eight(8) as i64 }
         })
     }
 
     /// Encryption key of the session: `None` in every session that is read today, whatever k lines its text has. Only an
     /// area that was kept from an earlier release has one, and it is never written.
     pub fn key(&self) -> Option<Key<'a>> {
-        self.cells(KEY).marked(0, Cells::key)
+        self.cells(KEY).marked(0, |cells| cells.key(self.line_in(KEY_LINE, 1)))
     }
 
     /// Attributes of the session: its a lines.
@@ -431,13 +661,14 @@ impl<'a> Session<'a> {
             Media {
                 session,
                 number,
+                line: session.line_of(MEDIAS, number),
                 media: cells.string(0),
                 port: cells.two(4),
                 num_ports: cells.marked(6, |cells| cells.two(0)),
                 proto: cells.string(10),
                 fmt: cells.string(14),
                 media_title: cells.marked_string(18),
-                key: cells.marked(24, Cells::key),
+                key: cells.marked(24, |cells| cells.key(session.line_in(KEY_LINES, number))),
             }
         })
     }
@@ -629,10 +860,10 @@ impl<T: PartialEq> PartialEq for Rows<'_, T> {
 impl<T: Eq> Eq for Rows<'_, T> {}
 
 /// `Debug` by the parts, in their order, and equality by the same parts: so two sessions are equal when they say the
-/// same, wherever their strings stand and whatever else is in their texts.
+/// same, wherever their strings stand, whatever lines they were read from and whatever else is in their texts.
 macro_rules! by_parts {
-    ($type:ident: $($field:ident)* $(, $part:ident())*) => {
-        impl fmt::Debug for $type<'_> {
+    ($type:ident $(<$life:lifetime>)?: $($field:ident)* $(, $part:ident())*) => {
+        impl fmt::Debug for $type $(<$life>)? {
             fn fmt(&self, f: &mut fmt::Formatter<'_>) -> fmt::Result {
                 f.debug_struct(stringify!($type))
                     $(.field(stringify!($field), &self.$field))*
@@ -641,20 +872,26 @@ macro_rules! by_parts {
             }
         }
 
-        impl PartialEq for $type<'_> {
+        impl PartialEq for $type $(<$life>)? {
             fn eq(&self, other: &Self) -> bool {
                 $(self.$field == other.$field &&)* $(self.$part() == other.$part() &&)* true
             }
         }
 
-        impl Eq for $type<'_> {}
+        impl Eq for $type $(<$life>)? {}
     };
 }
 
-by_parts!(Time: start_time stop_time, repeats());
-by_parts!(Repeat: repeat_interval active_duration, offsets());
-by_parts!(Media: media port num_ports proto fmt media_title key, connections(), bandwidths(), attributes());
-by_parts!(Session: , origin(), session_name(), session_description(), uri(), emails(), phones(), connection(),
+by_parts!(Origin<'_>: username sess_id sess_version nettype addrtype unicast_address);
+by_parts!(Connection<'_>: nettype addrtype connection_address);
+by_parts!(Bandwidth<'_>: bwtype bandwidth);
+by_parts!(Time<'_>: start_time stop_time, repeats());
+by_parts!(Repeat<'_>: repeat_interval active_duration, offsets());
+by_parts!(TimeZone: adjustment_time offset);
+by_parts!(Key<'_>: method encryption_key);
+by_parts!(Attribute<'_>: attribute value);
+by_parts!(Media<'_>: media port num_ports proto fmt media_title key, connections(), bandwidths(), attributes());
+by_parts!(Session<'_>: , origin(), session_name(), session_description(), uri(), emails(), phones(), connection(),
     bandwidths(), times(), time_zones(), key(), attributes(), medias());
 
 /// A session that owns its text and its area, to be kept. It is on the heap.

@@ -32,28 +32,29 @@ fn parts(name: &str, output: Output) -> (Option<i32>, String, String) {
     (output.status.code(), output.stdout.escape_ascii().to_string(), errors.lines().map(unnamed).collect())
 }
 
-const FESTIVAL: &str = "name: Summer festival, main stage
-time: 3960000000 to 3962592000
-  every 86400 s for 14400 s, from 0
-  every 604800 s for 10800 s, from 82800 601200
-time: 3963000000 to 3963086400
-time: 3964000000 to 0
-  every 604800 s for 5400 s, from 0 90000 172800 60
-zone: -3600 s from 3960500000 on
-zone: 0 s from 3962000000 on
-zone: 5400 s from 3963500000 on
-starts: 3960000000 by time 1, repeat 1
-starts: 3960082800 by time 1, repeat 2
-starts: 3960086400 by time 1, repeat 1
-starts: 3960172800 by time 1, repeat 1
-starts: 3960259200 by time 1, repeat 1
-starts: 3960345600 by time 1, repeat 1
-starts: 3960432000 by time 1, repeat 1
-starts: 3960514800 by time 1, repeat 1
-starts: 3960597600 by time 1, repeat 2
-starts: 3960601200 by time 1, repeat 1
-media: audio to port 49230
-  rtpmap:96 L16/48000/2
+const FESTIVAL: &str = "name: Summer festival, main stage (line 3)
+time: 3960000000 to 3962592000 (line 10)
+  every 86400 s for 14400 s, from 0 (line 11)
+  every 604800 s for 10800 s, from 82800 601200 (line 12)
+time: 3963000000 to 3963086400 (line 13)
+time: 3964000000 to 0 (line 14)
+  every 604800 s for 5400 s, from 0 90000 172800 60 (line 15)
+zone: -3600 s from 3960500000 on (line 16)
+zone: 0 s from 3962000000 on (line 16)
+zone: 5400 s from 3963500000 on (line 16)
+starts: 3960000000 by time 1 (line 10), repeat 1 (line 11)
+starts: 3960082800 by time 1 (line 10), repeat 2 (line 12)
+starts: 3960086400 by time 1 (line 10), repeat 1 (line 11)
+starts: 3960172800 by time 1 (line 10), repeat 1 (line 11)
+starts: 3960259200 by time 1 (line 10), repeat 1 (line 11)
+starts: 3960345600 by time 1 (line 10), repeat 1 (line 11)
+starts: 3960432000 by time 1 (line 10), repeat 1 (line 11)
+starts: 3960514800 by time 1 (line 10), repeat 1 (line 11)
+starts: 3960597600 by time 1 (line 10), repeat 2 (line 12)
+starts: 3960601200 by time 1 (line 10), repeat 1 (line 11)
+media: audio to port 49230 (line 21)
+  title: Stereo (line 22)
+  rtpmap:96 L16/48000/2 (line 24)
 lines: 23 kept, 1 ignored, 0 empty
 ";
 
@@ -128,7 +129,7 @@ fn inputs_and_statuses() {
         for (lines, told) in [
             ("t=7 0\nz=9 0 8 0\n", "starts: the adjustment times of the z line fall (refusal 28)\n"),
             ("t=7 0\nr=1 1\n", "starts: there are more than 256 starts in the window (refusal 29)\n"),
-            (&format!("t={} 0\n", u64::MAX - 1)[..], "starts: 18446744073709551614 by time 1\n"),
+            (&format!("t={} 0\n", u64::MAX - 1)[..], "starts: 18446744073709551614 by time 1 (line 2)\n"),
         ] {
             let (status, output, errors) = run(&[], format!("v=0\n{lines}").as_bytes());
             assert_eq!((status, &errors[..]), (Some(0), ""), "{lines}");

@@ -245,6 +245,16 @@ fn the_constants() {
         }
         assert_eq!(end.to_string(), if row[3] == "-" { &row[2] } else { &row[4] }.clone(), "{name}");
     }
+    // the lines: a cell for each field and a column for each table, one behind the other from the session's end to the area's
+    let mut end = take("SDP_EARLIER_AREA_SIZE");
+    assert_eq!(end, Area::EARLIER);
+    for row in table("docs/AREA.md", "Lines") {
+        let name = constant(&row[0]) + if row[2] == "1" { "_LINE" } else { "_LINES" };
+        assert_eq!((take(&name), row[1].clone()), (end, end.to_string()), "{name}");
+        assert_eq!(row[4], format!("`{name}`"));
+        end += 2 * row[2].parse::<usize>().expect("a number of cells");
+    }
+    assert_eq!(end, Area::SIZE);
     // the refusals, each by its name
     assert_eq!(take("SDP_DONE"), 0);
     for row in table("docs/REFUSALS.md", "Refusals") {

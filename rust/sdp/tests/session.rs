@@ -1,8 +1,8 @@
 //! The view, the errors and the writing, on texts whose answers were typed by hand.
 mod page;
 use sdp::{
-    ffi, Area, Attribute, Bandwidth, Connection, Counts, Error, Key, Origin, Session, SessionBuf, Start, Starts, TimeZone,
-    LONGEST, MOST_STARTS, ROOM,
+    ffi, Area, Attribute, Bandwidth, Connection, Contact, Counts, Error, Key, Offset, Origin, Session, SessionBuf, Start,
+    Starts, TimeZone, LONGEST, MOST_STARTS, ROOM,
 };
 use std::io::{self, ErrorKind, Write};
 
@@ -26,26 +26,19 @@ fn refused(text: &[u8]) -> Error {
 fn everything_is_there() {
     let mut area = Area::new();
     let session = sdp::read(RICH, &mut area).unwrap();
-    let origin = Origin {
-        username: Some("jdoe"),
-        sess_id: "42",
-        sess_version: 7,
-        nettype: "in", // as it was written
-        addrtype: "IP4",
-        unicast_address: "host.example",
-    };
+    let mut origin = Origin::new("42", 7, "in", "IP4", "host.example"); // in: as it was written
+    origin.username = Some("jdoe");
     assert_eq!((session.origin(), session.origin_line()), (origin, Some(origin)));
     assert_eq!(session.session_name(), "Desk 4");
     assert_eq!(session.session_description(), Some("The desk"));
     assert_eq!(session.uri(), Some("http://desk.example"));
     assert_eq!(session.emails().collect::<Vec<_>>(), ["a@b", "c@d"]);
     assert_eq!(session.phones().collect::<Vec<_>>(), ["+1 2"]);
-    let connection = |nettype, addrtype, connection_address| Connection { nettype, addrtype, connection_address };
+    let (connection, bandwidth) = (Connection::new, Bandwidth::new);
     assert_eq!(session.connection(), Some(connection("IN", "ip4", "224.0.0.1/15")));
-    let bandwidth = |bwtype, bandwidth| Bandwidth { bwtype, bandwidth };
     assert_eq!(session.bandwidths().collect::<Vec<_>>(), [bandwidth("CT", 384), bandwidth("X-y", 5)]);
     assert_eq!(session.key(), None);
-    let attribute = |attribute, value| Attribute { attribute, value };
+    let attribute = Attribute::new;
     let attributes = [attribute("recvonly", None), attribute("note", Some("")), attribute("Tool", Some("desk:4"))];
     assert_eq!(session.attributes().collect::<Vec<_>>(), attributes);
 
@@ -54,7 +47,7 @@ fn everything_is_there() {
     let repeats: Vec<_> = session
         .times()
         .flat_map(|time| time.repeats())
-        .map(|repeat| (repeat.repeat_interval, repeat.active_duration, repeat.offsets().collect::<Vec<_>>()))
+        .map(|repeat| (repeat.repeat_interval, repeat.active_duration, repeat.offsets().map(u64::from).collect::<Vec<_>>()))
         .collect();
     assert_eq!(repeats, [(604_800, 3_600, vec![0, 90_000]), (1, 2, vec![]), (60, 30, vec![60])]);
 
@@ -130,20 +123,21 @@ fn k_lines_have_no_use() {
     assert_eq!(numbers(refused(b"k=x\nv=0\n")), (6, 0, 0));
 }
 
-/// The area that the release before left of `texts/kinds/NAME.sdp`, and the text.
-fn of_the_release_before(name: &str) -> (Vec<u8>, Area) {
+/// The area that an earlier release left of `texts/kinds/NAME.sdp`, and the text.
+fn of_an_earlier_release(name: &str) -> (Vec<u8>, Area) {
     let texts = std::path::Path::new(env!("CARGO_MANIFEST_DIR")).join("../../texts");
     let file = |path: String| std::fs::read(texts.join(&path)).unwrap_or_else(|error| panic!("{path}: {error}"));
-    let bytes = file(format!("kept/{name}.area")).try_into().expect("an area has 14,558 bytes");
-    (file(format!("kinds/{name}.sdp")), Area::from_bytes(bytes))
+    let bytes = file(format!("kept/{name}.area"));
+    let bytes = <&[u8; Area::EARLIER]>::try_from(&bytes[..]).expect("an area had 14,558 bytes");
+    (file(format!("kinds/{name}.sdp")), Area::from_earlier(bytes))
 }
 
 /// Its keys are seen, and not written.
 #[test]
 fn a_kept_area() {
-    let (text, area) = of_the_release_before("keys");
+    let (text, area) = of_an_earlier_release("keys");
     let session = sdp::kept(&text, &area).unwrap();
-    let key = |method, encryption_key| Some(Key { method, encryption_key });
+    let key = |method, encryption_key| Some(Key::new(method, encryption_key));
     assert_eq!(session.key(), key("uri", Some("https://keys.example.com/session/3?a=b:c")));
     let of_medias: Vec<_> = session.medias().map(|media| media.key).collect();
     let due = [
@@ -197,7 +191,7 @@ fn an_area_made_by_hand() {
 #[test]
 fn the_sign_of_a_zone() {
     let kept = read(b"v=0\nz=1 -1h 2 1h 3 -9223372036854775808 4 9223372036854775807 5 -0 18446744073709551615 -1\n");
-    let zone = |adjustment_time, offset| TimeZone { adjustment_time, offset };
+    let zone = TimeZone::new;
     let zones = [zone(1, -3_600), zone(2, 3_600), zone(3, i64::MIN), zone(4, i64::MAX), zone(5, 0), zone(u64::MAX, -1)];
     assert_eq!(kept.session().time_zones().collect::<Vec<_>>(), zones);
     let written = kept.session().to_string();
@@ -463,6 +457,197 @@ fn counts() {
     assert_eq!((told.answer.number, told.counts), (2, Counts::default()));
 }
 
+/// A text whose lines are numbered here by hand: with empty and ignored lines above, between and below, of both endings, and
+/// with a repeat and a title in each place that they can have.
+const NUMBERED: &[(u64, &str)] = &[
+    (1, "\n"),
+    (2, "\r\n"),
+    (3, "v=0\r\n"),
+    (4, "x=ignored\n"),
+    (5, "o=- 1 2 IN IP4 host.example\n"),
+    (6, "\r\n"),
+    (7, "s=Desk 4\r\n"),
+    (8, "k=clear:secret\n"),
+    (9, "i=The desk\r\n"),
+    (10, "v=7\n"),
+    (11, "u=http://desk.example\n"),
+    (12, "e=a@b\n"),
+    (13, "p=+1 2\r\n"),
+    (14, "e=c@d\n"),
+    (15, "c=IN IP4 224.0.0.1\n"),
+    (16, "b=CT:384\n"),
+    (17, "t=1 2\n"),
+    (18, "\n"),
+    (19, "r=7d 1h 0 25h 26h\r\n"),
+    (20, "z=60 -1h 61 0 62 30m\n"),
+    (21, "r=1 2\n"),
+    (22, "t=3 0\n"),
+    (23, "a=recvonly\n"),
+    (24, "t=4 5\n"),
+    (25, "r=60 30 1m\n"),
+    (26, "a=note:\n"),
+    (27, "m=audio 5004/2 RTP/AVP 96\r\n"),
+    (28, "s=no name here\n"),
+    (29, "b=AS:1\n"),
+    (30, "i=Stage\n"),
+    (31, "c=IN IP4 a\n"),
+    (32, "k=prompt\n"),
+    (33, "c=IN IP4 b\n"),
+    (34, "a=rtpmap:96 L16\n"),
+    (35, "m=video 0 p \n"),
+    (36, "m=text 1 x y\n"),
+    (37, "\r\n"),
+    (38, "a=x\n"),
+    (39, "i=Words"),
+];
+
+/// Document 02, P9: each record, and each field, has the line that it was read from.
+#[test]
+fn lines() {
+    assert!(NUMBERED.iter().map(|(number, _)| *number).eq(1..=39));
+    let text: String = NUMBERED.iter().map(|(_, line)| *line).collect();
+    let mut area = Area::new();
+    let session = sdp::read(text.as_bytes(), &mut area).unwrap();
+    assert_eq!(session.origin().line(), 5);
+    assert_eq!(session.origin_line().map(|origin| origin.line()), Some(5));
+    assert_eq!(session.line_of_session_name(), 7);
+    assert_eq!(session.line_of_session_description(), 9);
+    assert_eq!(session.line_of_uri(), 11);
+    assert_eq!(session.connection().map(|connection| connection.line()), Some(15));
+    assert_eq!(session.key(), None);
+    let all = |lines: &mut dyn Iterator<Item = u64>| lines.collect::<Vec<u64>>();
+    assert_eq!(all(&mut session.emails().map(|email| email.line())), [12, 14]);
+    assert_eq!(all(&mut session.phones().map(|phone| phone.line())), [13]);
+    assert_eq!(all(&mut session.bandwidths().map(|bandwidth| bandwidth.line())), [16]);
+    assert_eq!(all(&mut session.times().map(|time| time.line())), [17, 22, 24]);
+    let repeats = || session.times().flat_map(|time| time.repeats());
+    assert_eq!(all(&mut repeats().map(|repeat| repeat.line())), [19, 21, 25]);
+    assert_eq!(all(&mut repeats().flat_map(|repeat| repeat.offsets()).map(|offset| offset.line())), [19, 19, 19, 25]);
+    assert_eq!(all(&mut session.time_zones().map(|zone| zone.line())), [20, 20, 20]);
+    assert_eq!(all(&mut session.attributes().map(|attribute| attribute.line())), [23, 26]);
+    let medias = || session.medias();
+    assert_eq!(all(&mut medias().map(|media| media.line())), [27, 35, 36]);
+    assert_eq!(all(&mut medias().map(|media| media.line_of_media_title())), [30, 0, 39]);
+    assert_eq!(all(&mut medias().flat_map(|media| media.connections()).map(|connection| connection.line())), [31, 33]);
+    assert_eq!(all(&mut medias().flat_map(|media| media.bandwidths()).map(|bandwidth| bandwidth.line())), [29]);
+    assert_eq!(all(&mut medias().flat_map(|media| media.attributes()).map(|attribute| attribute.line())), [34, 38]);
+    // by its number too, as a start names it
+    assert_eq!((session.time(2).unwrap().line(), session.repeat(3).unwrap().line()), (22, 25));
+
+    // the same session is written in other lines: it is equal, and prints alike
+    let written = SessionBuf::parse(session.to_vec()).unwrap();
+    assert_eq!(written.session(), session);
+    assert_eq!(format!("{written:?}"), format!("{session:?}"));
+    assert_eq!((written.session().origin().line(), written.session().line_of_session_name()), (2, 3));
+    assert_eq!(written.session().medias().next().unwrap().line(), 20);
+    assert_eq!(written.session().medias().next().unwrap(), session.medias().next().unwrap());
+}
+
+/// The last line that there can be, of a record: behind as many empty lines as the longest text has room for.
+#[test]
+fn the_last_line() {
+    let mut text = vec![b'\n'; LONGEST];
+    text[..4].copy_from_slice(b"v=0\n");
+    text[LONGEST - 2..].copy_from_slice(b"s=");
+    let kept = read(&text);
+    assert_eq!((kept.session().session_name(), kept.session().line_of_session_name()), ("", LONGEST as u64 - 4));
+}
+
+/// What no line gave, and what was built by hand.
+#[test]
+fn no_line() {
+    let kept = read(b"v=0");
+    let session = kept.session();
+    assert_eq!((session.origin().line(), session.line_of_session_name()), (0, 0));
+    assert_eq!((session.line_of_session_description(), session.line_of_uri()), (0, 0));
+    let title = read(b"v=0\nm=a 1 p f\n").session().medias().next().unwrap().line_of_media_title();
+    assert_eq!(title, 0);
+    let by_hand = [
+        Origin::new("0", 0, "IN", "IP4", "0.0.0.0").line(),
+        Contact::new("a@b").line(),
+        Connection::new("IN", "IP4", "a").line(),
+        Bandwidth::new("CT", 1).line(),
+        Offset::new(90).line(),
+        TimeZone::new(60, -3_600).line(),
+        Key::new("prompt", None).line(),
+        Attribute::new("recvonly", None).line(),
+    ];
+    assert_eq!(by_hand, [0; 8]);
+    // a record built by hand is equal to one that was read
+    let kept = read(b"v=0\nt=1 0\nr=1 1 90\nz=60 -1h\n");
+    assert_eq!(kept.session().time_zones().next(), Some(TimeZone::new(60, -3_600)));
+    assert_eq!(kept.session().repeat(1).unwrap().offsets().next(), Some(Offset::new(90)));
+}
+
+/// An area that no reader made: lines are what its cells say, but for what is absent, and above 32,768 it is no session.
+#[test]
+fn lines_by_hand() {
+    let put = |cells: &[(usize, u16)]| {
+        let mut bytes = *Area::new().as_bytes();
+        cells.iter().for_each(|(at, value)| bytes[*at..*at + 2].copy_from_slice(&value.to_le_bytes()));
+        Area::from_bytes(bytes)
+    };
+    // noise for description, uri, connection, key and origin, which are absent; the name's line counts
+    let absent = put(&[(14_558, 65_535), (14_560, 32_768), (14_562, 65_535), (14_564, 65_535), (14_566, 9), (14_568, 9)]);
+    let session = sdp::kept(b"", &absent).unwrap();
+    assert_eq!((session.origin().line(), session.line_of_session_name()), (0, 32_768));
+    assert_eq!((session.line_of_session_description(), session.line_of_uri()), (0, 0));
+    assert_eq!((session.connection(), session.key()), (None, None));
+    assert_eq!(sdp::kept(b"", &put(&[(14_560, 32_769)])).unwrap_err().number(), 23);
+    // two medias: the first with a title and a key, the second with noise in these cells
+    let medias = [(13_404, 2), (13_406 + 18, 1), (13_406 + 24, 1), (16_746, 7), (16_748, 8)];
+    let lines = [(16_810, 11), (16_812, 65_535), (16_874, 12), (16_876, 65_535)];
+    let area = put(&[&medias[..], &lines].concat());
+    let session = sdp::kept(b"", &area).unwrap();
+    let found: Vec<_> = session
+        .medias()
+        .map(|media| (media.line(), media.line_of_media_title(), media.key.map(|key| key.line())))
+        .collect();
+    assert_eq!(found, [(7, 11, Some(12)), (8, 0, None)]);
+    for at in [16_746, 16_748, 16_810, 16_874] {
+        let area = put(&[&medias[..], &lines, &[(at, 32_769)]].concat());
+        assert_eq!(sdp::kept(b"", &area).unwrap_err().number(), 23, "{at}");
+    }
+    assert!(sdp::kept(b"", &put(&[&medias[..], &[(16_750, 65_535)]].concat())).is_ok(), "past the count");
+    // a time, a repeat with two offsets and two zones: each row has a cell of its own
+    let times = [(2_002, 1), (2_516, 1), (2_518, 1), (3_670, 2), (3_672, 1), (3_682, 1), (6_232, 2)];
+    let lines = [(14_890, 4), (14_954, 5), (15_082, 6), (15_084, 7), (15_594, 8), (15_596, 9)];
+    let area = put(&[&times[..], &lines].concat());
+    let session = sdp::kept(b"", &area).unwrap();
+    let repeat = session.repeat(1).unwrap();
+    assert_eq!((session.time(1).unwrap().line(), repeat.line()), (4, 5));
+    assert_eq!(repeat.offsets().map(|offset| offset.line()).collect::<Vec<_>>(), [6, 7]);
+    assert_eq!(session.time_zones().map(|zone| zone.line()).collect::<Vec<_>>(), [8, 9]);
+}
+
+/// An area of an earlier release, carried over: the same session, written as before, and no line is known.
+#[test]
+fn an_earlier_area() {
+    for name in ["empty-values", "festival", "keys", "out-of-order", "spaces"] {
+        let (text, area) = of_an_earlier_release(name);
+        let session = sdp::kept(&text, &area).unwrap_or_else(|error| panic!("{name}: {error}"));
+        let today = read(&text);
+        let today = today.session();
+        assert_eq!(session.to_vec(), today.to_vec(), "{name}");
+        assert_eq!(session.written_len(), today.written_len(), "{name}");
+        assert_eq!(session.starts(0..1), today.starts(0..1), "{name}");
+        assert_eq!((session.session_name(), session.medias().len()), (today.session_name(), today.medias().len()));
+        assert_eq!((session.line_of_session_name(), session.origin().line()), (0, 0), "{name}");
+        assert!(session.attributes().all(|attribute| attribute.line() == 0), "{name}");
+        assert!(session.medias().all(|media| (media.line(), media.line_of_media_title()) == (0, 0)), "{name}");
+        assert!(today.line_of_session_name() > 1 && today.medias().all(|media| media.line() > 1), "{name}");
+    }
+    // every byte is carried over, and zeros follow
+    let bytes: [u8; Area::EARLIER] = std::array::from_fn(|at| (at * 7) as u8 | 1);
+    let area = Area::from_earlier(&bytes);
+    assert!(area.as_bytes()[..Area::EARLIER] == bytes && area.as_bytes()[Area::EARLIER..].iter().all(|byte| *byte == 0));
+    // as it is, it is too short
+    let mut bytes = [0; Area::EARLIER];
+    assert_eq!(ffi::length(b"", &bytes).number, 2);
+    assert_eq!(ffi::read(b"v=0", &mut bytes).answer.number, 2);
+    assert!(sdp::kept(b"", &Area::from_earlier(&bytes)).is_ok());
+}
+
 #[test]
 fn an_area_is_used_again() {
     let mut area = Area::new();
@@ -614,7 +799,7 @@ fn the_readme_s_lines() -> Result<(), Error> {
     let text = b"v=0\nt=100 0\nz=60 -1h\n".to_vec();
     let (from, to) = (0, 1_000);
     // README.md:
-    let mut area = sdp::Area::new();                    // 14,558 bytes, no heap; used again for the next text
+    let mut area = sdp::Area::new();                    // 16,938 bytes, no heap; used again for the next text
     let session = sdp::read(&text, &mut area)?;         // an error prints a sentence with its line
     for zone in session.time_zones() {
         println!("{} s from {} on", zone.offset, zone.adjustment_time); // minus one hour is -3600

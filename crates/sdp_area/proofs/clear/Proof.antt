@@ -8,15 +8,15 @@ use lib.ListN.{length, drop, set, length-set}
 use denote.Ref.{now}
 use borrow.Author.Fill.{fill-more}
 use Rattle.sdp_cells.specs.Bytes.{zeros}
-use Rattle.sdp_area.specs.Area.{size}
+use Rattle.sdp_area.specs.Columns.{areaSize}
 use Rattle.sdp_area.proofs.clear.Statement.{statement}
 use Rattle.sdp_area.proofs.clear.Tie as tie
 
 abbrev Inv-loop : tie.InvT-loop
-Inv-loop area₀ i₀ area i = (i ≤ size) × (area ≡ zeros i ++ drop i area₀) × (length area ≡ length area₀)
+Inv-loop area₀ i₀ area i = (i ≤ areaSize) × (area ≡ zeros i ++ drop i area₀) × (length area ≡ length area₀)
 
 abbrev μ-loop : tie.MeasureT-loop
-μ-loop area₀ i₀ area i = size - i
+μ-loop area₀ i₀ area i = areaSize - i
 
 loop-holds : tie.Need-loop-holds Inv-loop μ-loop
 unfolding zeros
@@ -34,7 +34,7 @@ loop-again c =
 
 returns : tie.Need-returns Inv-loop μ-loop
 returns c =
-    let done : c .before .loop .i ≡ size = omega arith in
+    let done : c .before .loop .i ≡ areaSize = omega arith in
     c .before .loop .inv .1 ∙ ap (λ (k : ℕ). zeros k ++ drop k (now (c .before .before .args .area))) done
 
 pub clear-spec : {M : Type 1} → statement M

@@ -37,7 +37,7 @@ use denote.Triple.Table.{entered, cited}
 use denote.Triple.Walked.{says, needs, Stays, stay-none, gave-ref, gave-slice, stay-none-slice, walkOf, goes-none, goes-gave-ref, goes-gave-slice, goes-none-slice, Walks, ends-at, walked, walk-meets}
 use denote.Exit.{yes}
 use Rattle.sdp_numbers.specs.Refusals.{longestText}
-use Rattle.sdp_area.specs.Area.{size}
+use Rattle.sdp_area.specs.Columns.{areaSize}
 use Rattle.sdp_cutter.specs.Cutter.{moveAt, standing, due}
 use Rattle.sdp_cutter.specs.declared.Cutter.{Cutter}
 use Rattle.sdp_cutter.specs.declared.Moved.{Moved}
@@ -116,7 +116,7 @@ module _ {M : Type 1} (𝓤 : URA M) (H : Heap 𝓤) (A : Atoms 𝓤) (W : Given
 
   -- what is asked, and what is answered, of what was found
   abbrev Asked : Type 0
-  Asked = (size ≤ length ys) × ((length (now s) ≤ longestText) × Few m)
+  Asked = (areaSize ≤ length ys) × ((length (now s) ≤ longestText) × Few m)
 
   abbrev Said : Next → Turn → List ℕ → Type 0
   Said y r zs = Turns (λ z. lineOf (now s) z y) m r ys zs × Passes y m r
@@ -134,7 +134,7 @@ module _ {M : Type 1} (𝓤 : URA M) (H : Heap 𝓤) (A : Atoms 𝓤) (W : Given
   abbrev to-callee : Next → Val → TurnOf 𝓤 H A mem run .Ghost
   to-callee y w = (((κ′, (κ″, tt)), (q′, (q″, tt)), tt, (s, (x, (m, (y, tt)))), (v ∷ [], (u ∷ [], (K′.lowered m ∷ [], (w ∷ [], tt))))), tt)
 
-  goes-callee : (y : Next) (w : Val) → (size ≤ length ys) × ((length (now s) ≤ longestText) × (Few m × Inside (now s) y))
+  goes-callee : (y : Next) (w : Val) → (areaSize ≤ length ys) × ((length (now s) ≤ longestText) × (Few m × Inside (now s) y))
       → ent 𝓤 (⋆ 𝓤 H A (((‵ (flft κ′ q′) ⊛ ‵ (flft κ″ q″) ⊛ ‵ ftrue) ⊛ ‵ Own) ∷ ‵ Area ∷ ‵ (X.the-row .own y (w ∷ [])) ∷ [])) (TurnOf 𝓤 H A mem run .pre (to-callee y w))
   goes-callee y w asked =
       qed W (((‵ (flft κ′ q′) ⊛ ‵ (flft κ″ q″) ⊛ ‵ ftrue) ⊛ ‵ Own) ∷ ‵ Area ∷ ‵ (X.the-row .own y (w ∷ [])) ∷ []) ∵ says ! asked $ split ! $ frame ! $
@@ -196,7 +196,7 @@ module _ {M : Type 1} (𝓤 : URA M) (H : Heap 𝓤) (A : Atoms 𝓤) (W : Given
   one-line-walks C Λ fm known-next known = walked 𝓤 H A self.ended stayed (self.clauses 𝓤 H A mem run) (WpFn 𝓤 H C Λ code.function)
       (λ κs. (ptr-vals, (slice-vals, (slice-vals, (LL.vals K.the-type K′.the-laws, tt)))))
       (λ κs. (mut-tells (named 0) (κs .0) T.the-row, (shr-slice-tells (named 1) (κs .1 .0) u8, (mut-slice-tells (named 2) (κs .1 .1 .0) u8, (LL.tells K.the-type K′.the-laws, tt)))))
-      (λ κs qs bounds a g are. needs 𝓤 ((size ≤ length (a .1 .1 .0 .now)) × ((length (a .1 .0 .now) ≤ longestText) × Few (a .1 .1 .1 .0))) _
+      (λ κs qs bounds a g are. needs 𝓤 ((areaSize ≤ length (a .1 .1 .0 .now)) × ((length (a .1 .0 .now) ≤ longestText) × Few (a .1 .1 .1 .0))) _
       (walk 𝓤 H A W mem run (κs .0) (κs .1 .0) (κs .1 .1 .0) (qs .0) (qs .1 .0) (qs .1 .1 .0) (a .0 .ptr .0) (a .0 .ptr .1) (a .0 .name) (a .0 .now) (a .1 .0) (a .1 .1 .0 .ptr .0) (a .1 .1 .0 .ptr .1) (a .1 .1 .0 .name) (a .1 .1 .0 .now) (a .1 .1 .1 .0)
       (subst (Is K.the-row (a .1 .1 .1 .0)) (K′.lowers .val-is (a .1 .1 .1 .0) _ (are .1 .1 .1 .0)) (are .1 .1 .1 .0)) C Λ fm known-next known (are .1 .0) (are .1 .1 .0 .0 .1)))
 

@@ -1,6 +1,6 @@
 -- `sdp_read::read` meets its contract. Assumes nothing.
 use lib.ListN.{drop}
-use Rattle.sdp_area.specs.Area.{size}
+use Rattle.sdp_area.specs.Columns.{areaSize}
 use Rattle.sdp_read.proofs.ReadLaws.{cleared-empty, says-short, says-long, says-accepted, says-unread, says-stopped}
 use borrow.Author.Needs.{needs}
 use Rattle.sdp_read.proofs.read.Statement.{statement}
@@ -26,7 +26,7 @@ returns-3 c =
     let i = l .before .before in
     let a = i .before .before .before .before .args in
     rw (c .plain3 .ensures) (says-accepted (a .text .now) (a .area .now) (i .before .if1 .left) (i .if2 .left) _ _
-    (rw (x .counts .given .1) at (k .read-text .ensures (drop size (a .area .now)) (cleared-empty (a .area .now) _ (l .clear .ensures)))))
+    (rw (x .counts .given .1) at (k .read-text .ensures (drop areaSize (a .area .now)) (cleared-empty (a .area .now) _ (l .clear .ensures)))))
 
 returns-4 : tie.Need-returns-4
 returns-4 c =
@@ -36,7 +36,7 @@ returns-4 c =
     let i = l .before .before in
     let a = i .before .before .before .before .args in
     rw (c .refused3 .ensures) (says-unread (a .text .now) (a .area .now) (i .before .if1 .left) (i .if2 .left) _ _
-    (rw (x .x .given .1) at (k .read-text .ensures (drop size (a .area .now)) (cleared-empty (a .area .now) _ (l .clear .ensures)))))
+    (rw (x .x .given .1) at (k .read-text .ensures (drop areaSize (a .area .now)) (cleared-empty (a .area .now) _ (l .clear .ensures)))))
 
 returns-5 : tie.Need-returns-5
 returns-5 c =
@@ -47,7 +47,7 @@ returns-5 c =
     let i = l .before .before in
     let a = i .before .before .before .before .args in
     rw (c .refused4 .ensures) (says-stopped (a .text .now) (a .area .now) (i .before .if1 .left) (i .if2 .left) _ _ _
-    (rw (x .x2 .given .1) at (k .read-text .ensures (drop size (a .area .now)) (cleared-empty (a .area .now) _ (l .clear .ensures)))) (e .clear2 .ensures))
+    (rw (x .x2 .given .1) at (k .read-text .ensures (drop areaSize (a .area .now)) (cleared-empty (a .area .now) _ (l .clear .ensures)))) (e .clear2 .ensures))
 
 pub read-spec : {M : Type 1} → statement M
 read-spec =

@@ -134,8 +134,9 @@ fn run(out: &mut impl Write, texts: &Texts) -> io::Result<ExitCode> {
         counts.accepted, counts.longest, counts.read_back, counts.too_long
     )?;
     let lines = counts.kept + counts.ignored + counts.empty;
-    let Counts { kept, ignored, empty, .. } = counts;
+    let Counts { kept, ignored, empty, lined, .. } = counts;
     writeln!(out, "{lines} lines counted as the oracle has them: {kept} kept, {ignored} ignored, {empty} empty")?;
+    writeln!(out, "{lined} records and fields with their line, as the text has them")?;
     writeln!(out, "{} lists of starts, {} starts in them, as the oracle has them", lists.windows, lists.starts)?;
     let took = duration(start.elapsed().as_secs_f64());
     writeln!(out, "{} texts of {} MB compared in {took}, no difference", tally.all(), bytes / 1_000_000)?;

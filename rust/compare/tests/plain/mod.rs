@@ -5,12 +5,14 @@ pub mod starts;
 pub mod writer;
 use compare::area::{
     Attribute, Bandwidth, Connection, Key, Media, MediaConnection, Offset, Origin, Part, Repeat, Seen, Span, Time, Zone,
-    PARTS, SIZE,
+    COLUMNS, PARTS, SESSION, SIZE,
 };
+use compare::judge::two;
+use compare::made::{line_at, put_two};
 use compare::{Answer, Counts, Told};
 
 /// What each slip does wrong. The comparison must find every one.
-pub const SLIPS: [&str; 88] = [
+pub const SLIPS: [&str; 113] = [
     "a text of 32,769 bytes is read",
     "a text of 32,768 bytes is refused",
     "a text that is too long clears the area",
@@ -99,6 +101,31 @@ pub const SLIPS: [&str; 88] = [
     "a last line without LF is in no count",
     "a refusal has counts",
     "a text that is too long has counts",
+    "lines count from 0",
+    "a record has the line behind it",
+    "empty lines are in no line",
+    "empty lines above the version are in no line",
+    "ignored lines are in no line",
+    "k lines are in no line",
+    "the version is in no line",
+    "all rows have the line of the latest",
+    "the lines of offsets are missing",
+    "only the first offset has a line",
+    "offsets have the line of their time",
+    "offsets have the number of their repeat",
+    "the lines of zones are missing",
+    "only the first zone has a line",
+    "the lines of medias' bandwidths are missing",
+    "a media's connection has the session's cell",
+    "a title has the line of its media",
+    "titles have the cells of their own number",
+    "a title's line is that of the session's description",
+    "a missing name has the version's line",
+    "a missing origin has a line",
+    "a k line leaves a line",
+    "a media's k line leaves a line",
+    "unused lines are left as found",
+    "a refused text's lines stay",
 ];
 
 pub struct Plain {
@@ -155,6 +182,7 @@ impl Plain {
             titled: false,
             keys: 0,
             counts: none,
+            lines: vec![0; SIZE],
         };
         let mut answer = reader.all().err().unwrap_or_default();
         if answer.number == 8 {
@@ -162,8 +190,14 @@ impl Plain {
             answer.len = u64::from(self.slips("8 has a length"));
         }
         let mut bytes = encode(&reader.seen);
+        bytes[SESSION..].copy_from_slice(&reader.lines[SESSION..]);
         if answer.number != 0 && !self.slips("a refused session stays in the area") {
-            bytes.fill(0);
+            let end = if self.slips("a refused text's lines stay") { SESSION } else { SIZE };
+            bytes[..end].fill(0);
+        }
+        if answer.number == 0 && self.slips("unused lines are left as found") {
+            let left = (SESSION..SIZE).step_by(2).filter(|cell| reader.lines[*cell..cell + 2] == [0, 0]);
+            left.for_each(|cell| bytes[cell..cell + 2].copy_from_slice(&area[cell..cell + 2]));
         }
         if answer.number == 0 && self.slips("unused rows are left as found") {
             for part in PARTS.iter().filter(|part| part.rows > 0) {
@@ -194,6 +228,8 @@ struct Reader<'a> {
     /// k lines since the latest m line.
     keys: usize,
     counts: Counts,
+    /// An area of which only the lines count.
+    lines: Vec<u8>,
 }
 
 impl<'a> Reader<'a> {
@@ -257,6 +293,9 @@ impl<'a> Reader<'a> {
                 }
                 self.version(line, value)?;
                 version = true;
+                if self.slips("a missing name has the version's line") {
+                    self.put_line("name", 0, line as usize);
+                }
                 self.counts.kept += u64::from(!self.slips("the version line is in no count"));
             } else {
                 if letter == b'v' && self.slips("a second version line is judged") {
@@ -265,8 +304,10 @@ impl<'a> Reader<'a> {
                 if unknown && self.slips("ignored lines must be UTF-8") && std::str::from_utf8(whole).is_err() {
                     return Err(refusal(8, line, 0));
                 }
+                let before = self.seen.counts();
                 self.line(line, letter, value)?;
                 self.full(line)?;
+                self.note(line as usize, letter, before);
                 line -= u64::from(is_k && self.slips("k lines are not counted"));
                 if !(last && self.slips("a last line without LF is in no count")) {
                     self.count(letter, value);
@@ -304,6 +345,79 @@ impl<'a> Reader<'a> {
             }
         }
         Ok(())
+    }
+
+    fn put_line(&mut self, column: &str, cell: usize, line: usize) {
+        put_two(&mut self.lines, line_at(column, cell), line);
+    }
+
+    /// The line of what a line gave. Before it the tables had these counts.
+    fn note(&mut self, line: usize, letter: u8, before: [usize; 10]) {
+        let number = self.numbered(line);
+        let after = self.seen.counts();
+        for (table, column) in COLUMNS[6..16].iter().enumerate() {
+            let first = match self.slips("all rows have the line of the latest") && before[table] < after[table] {
+                true => 0,
+                false => before[table],
+            };
+            for row in first..after[table] {
+                let latest_time = two(&self.lines, line_at("times", after[4].max(1) - 1));
+                let line = match (column.name, self.plain.slip) {
+                    ("offsets", "the lines of offsets are missing") => 0,
+                    ("offsets", "only the first offset has a line") if row > before[table] => 0,
+                    ("offsets", "offsets have the line of their time") => latest_time,
+                    ("offsets", "offsets have the number of their repeat") => after[5],
+                    ("zones", "the lines of zones are missing") => 0,
+                    ("zones", "only the first zone has a line") if row > 0 => 0,
+                    ("bandwidths", "the lines of medias' bandwidths are missing") if after[9] > 0 => 0,
+                    _ => number,
+                };
+                self.put_line(column.name, row, line);
+            }
+        }
+        let medias = before[9];
+        match (medias > 0, letter) {
+            (false, b'o') => self.put_line("origin", 0, number),
+            (false, b's') => self.put_line("name", 0, number),
+            (false, b'i') => self.put_line("description", 0, number),
+            (false, b'u') => self.put_line("uri", 0, number),
+            (false, b'c') => self.put_line("connection", 0, number),
+            (true, b'c') if self.slips("a media's connection has the session's cell") => self.put_line("connection", 0, number),
+            (true, b'i') => {
+                let own = self.seen.medias.iter().filter(|media| media.title.is_some()).count();
+                let cell = if self.slips("titles have the cells of their own number") { own } else { medias } - 1;
+                let of_media = two(&self.lines, line_at("medias", medias - 1));
+                let (column, line) = match self.plain.slip {
+                    "a title has the line of its media" => ("media titles", of_media),
+                    "a title's line is that of the session's description" => ("description", number),
+                    _ => ("media titles", number),
+                };
+                self.put_line(column, if column == "description" { 0 } else { cell }, line);
+            }
+            (false, b'k') if self.slips("a k line leaves a line") => self.put_line("key", 0, number),
+            (true, b'k') if self.slips("a media's k line leaves a line") => self.put_line("media keys", medias - 1, number),
+            _ => {}
+        }
+        if self.slips("a missing origin has a line") && self.seen.origin.is_none() {
+            self.put_line("origin", 0, number);
+        }
+    }
+
+    /// The number of a line; slips count it in other ways.
+    fn numbered(&self, line: usize) -> usize {
+        let Counts { empty, ignored, .. } = self.counts;
+        let above = self.text.split(|byte| *byte == b'\n').take_while(|line| matches!(line, [] | [b'\r'])).count();
+        let keys = self.text.split(|byte| *byte == b'\n').take(line).filter(|line| line.starts_with(b"k=")).count();
+        match self.plain.slip {
+            "lines count from 0" => line - 1,
+            "a record has the line behind it" => line + 1,
+            "empty lines are in no line" => line - empty as usize,
+            "empty lines above the version are in no line" => line - above,
+            "ignored lines are in no line" => line - ignored as usize,
+            "k lines are in no line" => line - keys,
+            "the version is in no line" => line - 1 - above,
+            _ => line,
+        }
     }
 
     fn count_empty(&mut self, bytes: std::ops::Range<usize>, version: bool) {

@@ -1,11 +1,11 @@
 //! A plain writer in Rust, after documents 01 and 02, with one slip in it if wanted. Nothing is compared with this writer.
-use compare::area::SIZE;
+use compare::area::{COLUMNS, SIZE};
 use compare::judge::part;
-use compare::made::at;
+use compare::made::{at, line_at};
 use compare::Answer;
 
 /// What each slip does wrong. The comparison must find every one.
-pub const SLIPS: [&str; 81] = [
+pub const SLIPS: [&str; 98] = [
     "every session is refused",
     "nothing is refused for its output",
     "an exact output is too short",
@@ -69,6 +69,23 @@ pub const SLIPS: [&str; 81] = [
     "the session's key is not judged",
     "a media's key is not judged",
     "a key's text is not judged",
+    "lines are not judged",
+    "a line may be 32,769",
+    "a line of 32,768 is refused",
+    "only the upper byte of a line is judged",
+    "a line beyond the text is refused",
+    "lines of absent fields are judged",
+    "lines past the count are judged",
+    "the line of a table's last row is not judged",
+    "the name's line is not judged",
+    "the line of an empty name is not judged",
+    "the key's line is not judged",
+    "the lines of offsets are not judged",
+    "the lines of zones are not judged",
+    "the lines of titles are not judged",
+    "the lines of medias' keys are not judged",
+    "a title's line is judged by the media's key",
+    "the lines of the session's fields are not judged",
     "a length is one more",
     "a length is one less",
     "a length is always enough",
@@ -240,7 +257,61 @@ impl<'a> Pen<'a> {
     // ---- judging
 
     fn good(&self) -> bool {
-        self.counts() && self.owners() && self.singles() && self.tables()
+        self.counts() && self.owners() && self.singles() && self.tables() && self.lines()
+    }
+
+    fn line(&self, at: usize) -> bool {
+        let line = self.two(at);
+        match self.plain.slip {
+            "lines are not judged" => true,
+            "a line may be 32,769" => line <= 32_769,
+            "a line of 32,768 is refused" => line < 32_768,
+            "only the upper byte of a line is judged" => line / 256 <= 128,
+            "a line beyond the text is refused" => line <= self.text.len(),
+            _ => line <= 32_768,
+        }
+    }
+
+    /// Of counted rows, of present fields, and of the name.
+    fn lines(&self) -> bool {
+        let absent = self.slips("lines of absent fields are judged");
+        let marked = |mark: usize| self.present(mark) || absent;
+        COLUMNS.iter().all(|column| {
+            let unjudged = match column.name {
+                "name" if self.slips("the name's line is not judged") => true,
+                "name" => self.slips("the line of an empty name is not judged") && self.two(part("name").at + 2) == 0,
+                "key" => self.slips("the key's line is not judged"),
+                "offsets" => self.slips("the lines of offsets are not judged"),
+                "zones" => self.slips("the lines of zones are not judged"),
+                "media titles" => self.slips("the lines of titles are not judged"),
+                "media keys" => self.slips("the lines of medias' keys are not judged"),
+                _ => false,
+            };
+            if unjudged || column.cells == 1 && self.slips("the lines of the session's fields are not judged") {
+                return true;
+            }
+            let of_media = |row: usize| part("medias").at + 2 + row * part("medias").width;
+            let title = if self.slips("a title's line is judged by the media's key") { 24 } else { 18 };
+            let table = column.name.strip_prefix("media ").filter(|rest| *rest != "connections").map_or(column.name, |_| "medias");
+            let rows = match column.cells {
+                1 => 1,
+                cells => {
+                    let more = usize::from(self.slips("lines past the count are judged"));
+                    let less = usize::from(self.slips("the line of a table's last row is not judged"));
+                    (self.rows(table) + more).min(cells).saturating_sub(less)
+                }
+            };
+            (0..rows).all(|row| {
+                let there = match column.name {
+                    "name" => true,
+                    "media titles" => marked(of_media(row) + title),
+                    "media keys" => marked(of_media(row) + 24),
+                    name if column.cells == 1 => marked(part(name).at),
+                    _ => true,
+                };
+                !there || self.line(line_at(column.name, row))
+            })
+        })
     }
 
     fn counts(&self) -> bool {
@@ -373,7 +444,7 @@ impl<'a> Pen<'a> {
         self.put(if self.slips("LF alone ends a line") { "\n" } else { "\r\n" });
     }
 
-    fn line(&mut self, letter: &str, at: usize) {
+    fn string_line(&mut self, letter: &str, at: usize) {
         self.put(letter);
         self.free(at);
         self.end();
@@ -558,7 +629,7 @@ impl<'a> Pen<'a> {
         self.free(row + 14);
         self.end();
         if self.present(row + 18) {
-            self.line("i=", row + 20);
+            self.string_line("i=", row + 20);
         }
         let swapped = self.slips("a media's bandwidths before its connections");
         if swapped {
@@ -588,7 +659,7 @@ impl<'a> Pen<'a> {
         self.end();
         for (name, letter) in [("description", "i="), ("uri", "u=")] {
             if self.present(part(name).at) {
-                self.line(letter, part(name).at + 2);
+                self.string_line(letter, part(name).at + 2);
             }
         }
         let mut people = [("emails", "e=", "email"), ("phones", "p=", "phone")];
@@ -597,7 +668,7 @@ impl<'a> Pen<'a> {
         }
         for (name, letter, field) in people {
             for row in 0..self.rows(name) {
-                self.line(letter, at(name, row, field));
+                self.string_line(letter, at(name, row, field));
             }
         }
         if self.present(part("connection").at) {

@@ -39,6 +39,8 @@ static int empty(void) {
     if (sdp_letter_order(NULL, 0).number != 0 || sdp_letter_order(NULL, 0).yes != 0) return 10;
     if (sdp_starts(NULL, 0, NULL, 0, 0, UINT64_MAX).number != SDP_AREA_TOO_SHORT) return 11;
     if (sdp_starts(NULL, 0, area, sizeof area, 0, UINT64_MAX).number != SDP_DONE) return 12;
+    /* one that was kept before records had lines is too short by itself */
+    if (sdp_length(NULL, 0, area, SDP_EARLIER_AREA_SIZE).number != SDP_AREA_TOO_SHORT) return 13;
     return 0;
 }
 

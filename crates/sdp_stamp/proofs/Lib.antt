@@ -1,0 +1,3 @@
+pub mod CellLaws
+pub mod PutLaws
+pub mod StampLaws

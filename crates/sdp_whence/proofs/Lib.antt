@@ -1,0 +1,4 @@
+pub mod PointLaws
+pub mod GrowLaws
+pub mod ThereLaws
+pub mod WhenceLaws
