@@ -1,7 +1,7 @@
 // Document 01, module 8: reads a text from standard input and prints its written form, or how it is refused.
 ghost use Prim.Native.Nat.{_≤_};
 ghost use lib.ListN.{length};
-ghost use Rattle.sdp_area.specs.Area.{size};
+ghost use Rattle.sdp_area.specs.Columns.{areaSize};
 ghost use Rattle.sdp_bound.specs.Bound.{roomOfAny};
 ghost use Rattle.canon.specs.Canon.{Holds, refusedLine, printed};
 use libc::EINTR;
@@ -123,7 +123,7 @@ fn refusal(out: &mut [u8], a: Answer) -> usize
 // Puts what is to be printed for a text into out, and answers its length. In an area of full size every text that is read
 // has a length, there is so much room for it, and it is written into just that many bytes.
 fn canon(text: &[u8], area: &mut [u8], out: &mut [u8]) -> usize
-    requires { ⌜ (size ≤ length (now area)) × (roomOfAny ≤ length (now out)) ⌝ }
+    requires { ⌜ (areaSize ≤ length (now area)) × (roomOfAny ≤ length (now out)) ⌝ }
     ensures { λ r. ⌜ Holds (printed (now (text .entry)) (now (area .entry))) (now (out .exit)) r ⌝ }
 {
     let told = read(text, area);
