@@ -8,25 +8,32 @@ use Rattle.sdp_cells.specs.Tables.{pairs}
 use Rattle.sdp_area.specs.Session.{Session}
 use Rattle.sdp_area.specs.Area.{encode, size}
 
--- ---- the cell where each column begins
+-- ---- the cell where each column begins; that of a field has one cell
+-- the first
 abbrev pub originCell : ℕ
 originCell = 0
 
+-- 1 cell on
 abbrev pub nameCell : ℕ
 nameCell = 1
 
+-- 1 cell on
 abbrev pub descriptionCell : ℕ
 descriptionCell = 2
 
+-- 1 cell on
 abbrev pub uriCell : ℕ
 uriCell = 3
 
+-- 1 cell on
 abbrev pub connectionCell : ℕ
 connectionCell = 4
 
+-- 1 cell on
 abbrev pub keyCell : ℕ
 keyCell = 5
 
+-- 1 cell on
 abbrev pub emailsCell : ℕ
 emailsCell = 6
 
@@ -83,7 +90,7 @@ cells = 1190
 abbrev pub cellAt : ℕ → ℕ
 cellAt i = size + i * 2
 
--- "one record area of a fixed size": a session, and the lines of what it has
+-- "one record area of a fixed size": a session, and the lines of what it has, up to `cellAt cells`
 abbrev pub areaSize : ℕ
 areaSize = 16938
 

@@ -63,7 +63,7 @@ stamps = over (over (over noStamps keyCell (2 ∷ [])) mediasCell (4 ∷ [])) ke
 
 -- 16,938 bytes with the lines, of which none is above the limit
 judged : (length (areaOf kept stamps []) ≡ areaSize) × (fineLines (areaOf kept stamps []) ≡ true)
-unfolding Fine.fineLines Fine.fineFields Fine.smallColumns Fine.largeColumns Fine.mediaColumns Fine.fineMarks Fine.fineField Fine.fineLine Judge.everyAt Bytes.num Bytes.le Bytes.over Bytes.zeros Tables.flat Tables.tab Tables.fit Area.encode Area.cat Area.opt Area.span Area.nameBytes Area.keyBytes Area.mediaRow
+unfolding Fine.fineLines Fine.fineFields Fine.fineColumns Fine.mediaColumns Fine.fineMarks Fine.fineField Fine.fineLine Judge.everyAt Bytes.num Bytes.le Bytes.over Bytes.zeros Tables.flat Tables.tab Tables.fit Area.encode Area.cat Area.opt Area.span Area.nameBytes Area.keyBytes Area.mediaRow
 judged = (refl, refl)
 
 pub sample : KeptFrom text (areaOf kept stamps [])

@@ -18,7 +18,7 @@ use Rattle.sdp_stamp_valid.specs.Fine.{fineLines}
 use Rattle.sdp_stamp_valid.proofs.FineLaws.{lines-low}
 use Rattle.sdp_unfit.specs.Unfit as unfits
 use Rattle.sdp_unfit.proofs.UnfitLaws.{formed-counted}
-use Rattle.sdp_fills.specs.Earlier.{earlier, extended, EarlierGood}
+use Rattle.sdp_fills.specs.Earlier.{extended, EarlierGood}
 
 -- two of the zeros, with k before them and r behind
 zero-at : (a x : List ℕ) (k r n : ℕ) → length a + k ≡ n → num 2 (a ++ (zeros (k + (2 + r)) ++ x)) n ≡ 0
@@ -54,7 +54,7 @@ module _ (a x : List ℕ) (h : length a ≡ size) where
 
 -- document 02, P4: "Areas kept from earlier are judged as before"
 pub earlier-good : (t a : List ℕ) → EarlierGood t a
-unfolding unfits.unfit earlier
+unfolding unfits.unfit
 earlier-good t a h x =
     rw (le-ltb (length (extended a x)) areaSize (long a x h), le-ltb (length a) size (omega arith))
     (ap (λ (b : Bool). cond (ltb longestText (length t)) 1 (cond b 0 23)) (judged a x h t))

@@ -15,7 +15,7 @@ use Rattle.sdp_stamp_valid.specs.Fine.{fineLines}
 use Rattle.sdp_unfit.specs.Unfit as unfits
 use Rattle.sdp_unfit.specs.Unfit.{unfit}
 use Rattle.sdp_row.specs.Written
-use Rattle.sdp_write.specs.Write.{answer, textOf, lengthText}
+use Rattle.sdp_write.specs.Write.{textOf, lengthText}
 use Rattle.sdp_write.proofs.WriteLaws.{no-length, its-length, not-written, out-short, all-written}
 use Rattle.sdp_fills.specs.Fills.{Needs, LengthThenFill}
 

@@ -1,25 +1,18 @@
 -- Document 02, P4: "Areas kept from earlier are judged as before". One from before P9 has a session's bytes and no lines. With zeros where the
 -- lines now stand, the line "for hand-built ones" (P9), it is an area of today, and the same is said of it.
 use mathlib.Core.Path.{_≡_}
-use mathlib.Core.Bool.{cond}
 use mathlib.Core.List.{List, _++_}
 use Prim.Native.Nat.{ℕ, _-_}
 use lib.ListN.{length}
-use lib.Dec.{ltb}
-use Rattle.sdp_numbers.specs.Refusals as refusals
-use Rattle.sdp_numbers.specs.Refusals.{longestText}
 use Rattle.sdp_cells.specs.Bytes.{zeros}
 use Rattle.sdp_area.specs.Area.{size}
 use Rattle.sdp_area.specs.Columns.{areaSize}
 use Rattle.sdp_valid.specs.Judge.{wellFormed}
-use Rattle.sdp_unfit.specs.Unfit.{unfit}
+use Rattle.sdp_unfit.specs.Unfit.{inOrder, unfit}
 
 -- what was said of an area before there were lines: `unfit` of then
-unfoldable pub earlier : List ℕ → List ℕ → ℕ
-earlier t a =
-    cond (ltb (length a) size) refusals.areaTooShort
-    (cond (ltb longestText (length t)) refusals.textTooLong
-    (cond (wellFormed a t) 0 refusals.badSession))
+abbrev pub earlier : List ℕ → List ℕ → ℕ
+earlier t a = inOrder size (wellFormed a t) t a
 
 -- an area from then, with zeros for the lines, and x behind it
 abbrev pub extended : List ℕ → List ℕ → List ℕ

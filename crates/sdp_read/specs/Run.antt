@@ -93,7 +93,7 @@ pub record Outcome : Type 0 where
   pub area : List ℕ
 
 -- "Any other reading refusal: area all zero. Area bytes beyond the stated size always stay as found." Document 02, P11: "An accepted reading
--- also returns three counts"; "A refusal returns zeros."
+-- also returns three counts"; "A refusal returns zeros." P9: each record "carries the line it was read from".
 abbrev pub outcomeOf : List ℕ → List ℕ → Verdict Span → Outcome
 outcomeOf s a (accepted x) = record { answer = answer 0 0 0; counts = countsOf s; area = areaOf x (stampsOf s) (drop areaSize a) }
 outcomeOf s a (refused x) = record { answer = x; counts = noCounts; area = zeros areaSize ++ drop areaSize a }

@@ -1,18 +1,17 @@
 -- A line put into the cell of the latest row, or of the rows from one on, by the code's tests.
 -- Assumes nothing.
 use mathlib.Core.Path.{_≡_, sym, ap, _∙_}
-use mathlib.Core.Bool.{and-false}
 use mathlib.Core.List.{List, [], _∷_}
 use Prim.Native.Nat.{ℕ, _+_, _*_, _-_, _≤_, _<_}
 use native.Mathlib.Omega.{arith}
-use borrow.Author.Tests.{lt-ltb, le-ltb, le-leb, lt-leb}
+use borrow.Author.Tests.{le-leb, lt-leb}
 use lib.ListN.{length, replicate, length-replicate, replicate-append-replicate}
 use Rattle.sdp_cells.specs.Bytes.{le, num, over}
-use Rattle.sdp_cells.specs.Tables.{pairs}
+use Rattle.sdp_cells.specs.Tables.{flat, pairs}
 use Rattle.sdp_area.specs.Columns.{areaSize}
 use Rattle.sdp_roles.specs.declared.Role.{Role}
 use Rattle.sdp_roles.specs.declared.Role.the-variants as role
-use Rattle.sdp_cells.proofs.ByteLaws.{over-next}
+use Rattle.sdp_cells.proofs.ByteLaws.{over-none, over-next}
 use Rattle.sdp_cells.proofs.TableLaws.{flat-append}
 use Rattle.sdp_cells.proofs.StoreLaws.{length-pairs}
 use Rattle.sdp_stamp.specs.Put
@@ -21,18 +20,6 @@ use Rattle.sdp_stamp.specs.declared.Column.{Column}
 use Rattle.sdp_stamp.specs.declared.Column.the-variants.{Field, Rows, Repeat, Zone, Nothing}
 
 module _ (a : List ℕ) (base most p n c : ℕ) (count : num 2 a base ≡ c) where
-  pub latest-none : c ≡ 0 → a ≡ putLatest base most p n a
-  unfolding Put.putLatest
-  latest-none h = rw (count, le-ltb 0 c (omega arith))
-
-  pub latest-past : most < c → a ≡ putLatest base most p n a
-  unfolding Put.putLatest
-  latest-past h = rw (count, lt-leb c most h, and-false)
-
-  pub latest-put : 0 < c → c ≤ most → putLatest base most p n a ≡ over a (p + (c - 1) * 2) (pairs (n ∷ []))
-  unfolding Put.putLatest
-  latest-put h l = rw (count, lt-ltb 0 c h, le-leb c most l)
-
   pub since-past : (i : ℕ) → most < c → a ≡ putSince base most p i n a
   unfolding Put.putSince
   since-past i h = rw (count, lt-leb c most h)
@@ -40,6 +27,21 @@ module _ (a : List ℕ) (base most p n c : ℕ) (count : num 2 a base ≡ c) whe
   pub since-put : (i : ℕ) → c ≤ most → putSince base most p i n a ≡ over a (p + i * 2) (pairs (replicate (c - i) n))
   unfolding Put.putSince
   since-put i l = rw (count, le-leb c most l)
+
+  -- the latest row
+  pub latest-none : c ≡ 0 → a ≡ putLatest base most p n a
+  unfolding flat
+  latest-none h =
+      let z : c - (num 2 a base - 1) ≡ 0 = omega (arith, count) in
+      over-none a (p + (num 2 a base - 1) * 2)
+      ∙ sym (since-put (num 2 a base - 1) (omega arith) ∙ ap (λ (k : ℕ). over a (p + (num 2 a base - 1) * 2) (pairs (replicate k n))) z)
+
+  pub latest-put : 0 < c → c ≤ most → putLatest base most p n a ≡ over a (p + (c - 1) * 2) (pairs (n ∷ []))
+  latest-put h l =
+      let z : c - (c - 1) ≡ 1 = omega arith in
+      ap (λ (k : ℕ). putSince base most p (k - 1) n a) count
+      ∙ since-put (c - 1) l
+      ∙ ap (λ (k : ℕ). over a (p + (c - 1) * 2) (pairs (replicate k n))) z
 
 -- one row more behind k rows
 pub since-more : (a₀ a b : List ℕ) (q p k n : ℕ) → p ≡ q + k * 2 → p + 2 ≤ length a₀ → a ≡ over a₀ q (pairs (replicate k n)) → b ≡ over a p (pairs (n ∷ []))

@@ -36,20 +36,10 @@ use Rattle.sdp_stamp.specs.Stamp
 use Rattle.sdp_stamp.specs.Stamp.{stampRows, begins, one, rowsIn, titleRows, stamped}
 use Rattle.sdp_stamp.specs.Put.{putLatest, putSince, columnOf, putColumn}
 use Rattle.sdp_stamp.proofs.CellLaws.{cells-over, rows-none, rows-one, rows-length, stamped-one, stamped-two, stamped-title, stamped-none}
-use Rattle.sdp_stamp.proofs.PutLaws.{latest-none, latest-put, since-put}
+use Rattle.sdp_stamp.proofs.PutLaws.{latest-none, since-put}
 
 -- ---- in the bytes
 module _ (s : Session Span) (l t : List ℕ) (all : length l ≡ cells) (n : ℕ) where
-  -- the latest of i + 1 rows
-  row-filled : (base most c i : ℕ) → num 2 (areaOf s l t) base ≡ i + 1 → i + 1 ≤ most → c + most ≤ cells
-      → putLatest base most (cellAt c) n (areaOf s l t) ≡ areaOf s (stampRows n c i (i + 1) l) t
-  row-filled base most c i count fits inside =
-      let here : cellAt c + (i + 1 - 1) * 2 ≡ cellAt (c + i) = omega arith in
-      latest-put (areaOf s l t) base most (cellAt c) n (i + 1) count (omega arith) fits
-      ∙ ap (λ (p : ℕ). over (areaOf s l t) p (pairs (n ∷ []))) here
-      ∙ cells-over s l t (c + i) (n ∷ []) (omega (arith, all))
-      ∙ ap (λ (m : List ℕ). areaOf s m t) (sym (rows-one n c i l))
-
   -- the rows from i on, j in all
   rows-filled : (base most c i j : ℕ) → num 2 (areaOf s l t) base ≡ j → i ≤ j → j ≤ most → c + most ≤ cells
       → putSince base most (cellAt c) i n (areaOf s l t) ≡ areaOf s (stampRows n c i j l) t
@@ -59,6 +49,14 @@ module _ (s : Session Span) (l t : List ℕ) (all : length l ≡ cells) (n : ℕ
       since-put (areaOf s l t) base most (cellAt c) n j count i fits
       ∙ ap (λ (p : ℕ). over (areaOf s l t) p (pairs (replicate (j - i) n))) here
       ∙ cells-over s l t (c + i) (replicate (j - i) n) (omega (arith, all, length-replicate (j - i) n))
+
+  -- the latest of i + 1 rows
+  row-filled : (base most c i : ℕ) → num 2 (areaOf s l t) base ≡ i + 1 → i + 1 ≤ most → c + most ≤ cells
+      → putLatest base most (cellAt c) n (areaOf s l t) ≡ areaOf s (stampRows n c i (i + 1) l) t
+  row-filled base most c i count fits inside =
+      let before : num 2 (areaOf s l t) base - 1 ≡ i = omega (arith, count) in
+      ap (λ (k : ℕ). putSince base most (cellAt c) k n (areaOf s l t)) before
+      ∙ rows-filled base most c i (i + 1) count (omega arith) fits inside
 
 -- the latest media has the title that it got
 pub title-there : (x : Span) (m : Media Span) (ms : List (Media Span)) → lastTitled (setLast (titled x) (m ∷ ms)) ≡ true

@@ -1,9 +1,9 @@
 -- What stamping a line does to the bytes of an area, whatever they are.
-use mathlib.Core.Bool.{_&&_, cond}
+use mathlib.Core.Bool.{cond}
 use mathlib.Core.List.{List, [], _∷_}
 use Prim.Native.Nat.{ℕ, _+_, _*_, _-_}
 use lib.ListN.{replicate}
-use lib.Dec.{ltb, leb}
+use lib.Dec.{leb}
 use Rattle.sdp_numbers.specs.Tables.{mostEmails, mostPhones, mostMediaConnections, mostBandwidths, mostTimes}
 use Rattle.sdp_numbers.specs.Tables.{mostRepeats, mostOffsets, mostZones, mostAttributes, mostMedias}
 use Rattle.sdp_cells.specs.Bytes.{num, over}
@@ -16,14 +16,13 @@ use Rattle.sdp_roles.specs.declared.Role.the-variants as role
 use Rattle.sdp_stamp.specs.declared.Column.{Column}
 use Rattle.sdp_stamp.specs.declared.Column.the-variants.{Field, Rows, Repeat, Zone, Nothing}
 
--- n for the latest row of the table at base, whose column begins at the place p; nothing where there is none
-unfoldable pub putLatest : ℕ → ℕ → ℕ → ℕ → List ℕ → List ℕ
-putLatest base most p n a =
-    cond (ltb 0 (num 2 a base) && leb (num 2 a base) most) (over a (p + (num 2 a base - 1) * 2) (pairs (n ∷ []))) a
-
--- n for its rows from i on
+-- n for the rows from i on of the table at base, whose column begins at the place p; nothing where its count is above the most
 unfoldable pub putSince : ℕ → ℕ → ℕ → ℕ → ℕ → List ℕ → List ℕ
 putSince base most p i n a = cond (leb (num 2 a base) most) (over a (p + i * 2) (pairs (replicate (num 2 a base - i) n))) a
+
+-- n for its latest row, where it has one
+abbrev pub putLatest : ℕ → ℕ → ℕ → ℕ → List ℕ → List ℕ
+putLatest base most p n a = putSince base most p (num 2 a base - 1) n a
 
 -- where the line of a role is put
 abbrev pub columnOf : Role → Column

@@ -16,7 +16,7 @@ use Rattle.sdp_valid.specs.Judge.{everyAt}
 use Rattle.sdp_valid.specs.Counted.{Counted}
 use Rattle.sdp_valid.proofs.JudgeLaws.{left-one, left-none}
 use Rattle.sdp_valid.proofs.CountedLaws.{small-within, large-within}
-use Rattle.sdp_stamp_valid.specs.Fine.{fineLine, fineField, fineMarks, fineFields, smallColumns, largeColumns, mediaColumns, fineLines}
+use Rattle.sdp_stamp_valid.specs.Fine.{fineLine, fineField, fineMarks, fineFields, fineColumns, mediaColumns, fineLines}
 
 -- ---- a field, by its mark
 module _ (a : List ℕ) (m p : ℕ) where
@@ -84,23 +84,20 @@ module _ (a : List ℕ) (low : (i : ℕ) → i < cells → num 2 a (cellAt i) �
 
   -- where no count is above its table, what is looked at of a column lies in the cells
   module _ (c : Counted a) where
-    small-low : smallColumns a ≡ true
-    unfolding smallColumns
-    small-low =
-        let n = small-within a c in
+    columns-low : fineColumns a ≡ true
+    unfolding fineColumns
+    columns-low =
+        let m = small-within a c in
+        let n = large-within a c in
         ap₂ _&&_ (every-low (num 2 a emailsAt) emailsCell (omega arith))
         (ap₂ _&&_ (every-low (num 2 a phonesAt) phonesCell (omega arith))
         (ap₂ _&&_ (every-low (num 2 a connectionsAt) connectionsCell (omega arith))
-        (ap₂ _&&_ (every-low (num 2 a bandwidthsAt) bandwidthsCell (omega arith)) (every-low (num 2 a timesAt) timesCell (omega arith)))))
-
-    large-low : largeColumns a ≡ true
-    unfolding largeColumns
-    large-low =
-        let n = large-within a c in
-        ap₂ _&&_ (every-low (num 2 a repeatsAt) repeatsCell (omega arith))
+        (ap₂ _&&_ (every-low (num 2 a bandwidthsAt) bandwidthsCell (omega arith))
+        (ap₂ _&&_ (every-low (num 2 a timesAt) timesCell (omega arith))
+        (ap₂ _&&_ (every-low (num 2 a repeatsAt) repeatsCell (omega arith))
         (ap₂ _&&_ (every-low (num 2 a offsetsAt) offsetsCell (omega arith))
         (ap₂ _&&_ (every-low (num 2 a zonesAt) zonesCell (omega arith))
-        (ap₂ _&&_ (every-low (num 2 a attributesAt) attributesCell (omega arith)) (every-low (num 2 a mediasAt) mediasCell (omega arith)))))
+        (ap₂ _&&_ (every-low (num 2 a attributesAt) attributesCell (omega arith)) (every-low (num 2 a mediasAt) mediasCell (omega arith))))))))))
 
     medias-low : mediaColumns a ≡ true
     unfolding mediaColumns
@@ -110,4 +107,4 @@ module _ (a : List ℕ) (low : (i : ℕ) → i < cells → num 2 a (cellAt i) �
 
     pub lines-low : fineLines a ≡ true
     unfolding fineLines
-    lines-low = ap₂ _&&_ fields-low (ap₂ _&&_ small-low (ap₂ _&&_ large-low medias-low))
+    lines-low = ap₂ _&&_ fields-low (ap₂ _&&_ columns-low medias-low)

@@ -39,21 +39,18 @@ module _ (a : List ℕ) where
       && (fineField uriAt (cellAt uriCell)
       && (fineField connectionAt (cellAt connectionCell) && fineField keyAt (cellAt keyCell)))))
 
-  -- the first five tables
-  unfoldable pub smallColumns : Bool
-  smallColumns =
+  -- the ten tables
+  unfoldable pub fineColumns : Bool
+  fineColumns =
       fineColumn emailsAt (cellAt emailsCell)
       && (fineColumn phonesAt (cellAt phonesCell)
       && (fineColumn connectionsAt (cellAt connectionsCell)
-      && (fineColumn bandwidthsAt (cellAt bandwidthsCell) && fineColumn timesAt (cellAt timesCell))))
-
-  -- and the other five
-  unfoldable pub largeColumns : Bool
-  largeColumns =
-      fineColumn repeatsAt (cellAt repeatsCell)
+      && (fineColumn bandwidthsAt (cellAt bandwidthsCell)
+      && (fineColumn timesAt (cellAt timesCell)
+      && (fineColumn repeatsAt (cellAt repeatsCell)
       && (fineColumn offsetsAt (cellAt offsetsCell)
       && (fineColumn zonesAt (cellAt zonesCell)
-      && (fineColumn attributesAt (cellAt attributesCell) && fineColumn mediasAt (cellAt mediasCell))))
+      && (fineColumn attributesAt (cellAt attributesCell) && fineColumn mediasAt (cellAt mediasCell)))))))))
 
   -- the titles and the keys of the medias, whose marks stand at 18 and at 24 of a row
   unfoldable pub mediaColumns : Bool
@@ -63,4 +60,4 @@ module _ (a : List ℕ) where
 
   -- all lines are: else 23
   unfoldable pub fineLines : Bool
-  fineLines = fineFields && (smallColumns && (largeColumns && mediaColumns))
+  fineLines = fineFields && (fineColumns && mediaColumns)

@@ -6,7 +6,7 @@ ghost use Rattle.sdp_cells.specs.Bytes.{num};
 ghost use Rattle.sdp_area.specs.Area.{mediasAt};
 ghost use Rattle.sdp_area.specs.Columns.{areaSize};
 ghost use Rattle.sdp_valid.specs.Counted.{Counted};
-ghost use Rattle.sdp_stamp_valid.specs.Fine.{fineLine, fineField, fineColumn, fineMarks, fineFields, smallColumns, largeColumns, mediaColumns, fineLines};
+ghost use Rattle.sdp_stamp_valid.specs.Fine.{fineLine, fineField, fineColumn, fineMarks, fineFields, fineColumns, mediaColumns, fineLines};
 use sdp_area::ATTRIBUTE_LINES;
 use sdp_area::ATTRIBUTES;
 use sdp_area::BANDWIDTH_LINES;
@@ -112,26 +112,20 @@ fn fine_fields(area: &[u8]) -> bool
                         & fine_field(area, KEY, KEY_LINE)))))
 }
 
-fn small_columns(area: &[u8]) -> bool
+fn fine_columns(area: &[u8]) -> bool
     requires { ⌜ Counted (now area) × (areaSize ≤ length (now area)) ⌝ }
-    ensures { λ r. ⌜ r ≡ smallColumns (now (area .entry)) ⌝ }
+    ensures { λ r. ⌜ r ≡ fineColumns (now (area .entry)) ⌝ }
 {
     fine_column(area, EMAILS, EMAIL_LINES)
         & (fine_column(area, PHONES, PHONE_LINES)
             & (fine_column(area, CONNECTIONS, CONNECTION_LINES)
                 & (fine_column(area, BANDWIDTHS, BANDWIDTH_LINES)
-                    & fine_column(area, TIMES, TIME_LINES))))
-}
-
-fn large_columns(area: &[u8]) -> bool
-    requires { ⌜ Counted (now area) × (areaSize ≤ length (now area)) ⌝ }
-    ensures { λ r. ⌜ r ≡ largeColumns (now (area .entry)) ⌝ }
-{
-    fine_column(area, REPEATS, REPEAT_LINES)
-        & (fine_column(area, OFFSETS, OFFSET_LINES)
-            & (fine_column(area, ZONES, ZONE_LINES)
-                & (fine_column(area, ATTRIBUTES, ATTRIBUTE_LINES)
-                    & fine_column(area, MEDIAS, MEDIA_LINES))))
+                    & (fine_column(area, TIMES, TIME_LINES)
+                        & (fine_column(area, REPEATS, REPEAT_LINES)
+                            & (fine_column(area, OFFSETS, OFFSET_LINES)
+                                & (fine_column(area, ZONES, ZONE_LINES)
+                                    & (fine_column(area, ATTRIBUTES, ATTRIBUTE_LINES)
+                                        & fine_column(area, MEDIAS, MEDIA_LINES)))))))))
 }
 
 // Titles and keys: their marks stand at 18 and at 24 of a media's row.
@@ -147,5 +141,5 @@ pub fn lines_fine(area: &[u8]) -> bool
     requires { ⌜ Counted (now area) × (areaSize ≤ length (now area)) ⌝ }
     ensures { λ r. ⌜ r ≡ fineLines (now (area .entry)) ⌝ }
 {
-    fine_fields(area) & (small_columns(area) & (large_columns(area) & media_columns(area)))
+    fine_fields(area) & (fine_columns(area) & media_columns(area))
 }

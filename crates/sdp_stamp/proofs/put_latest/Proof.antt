@@ -2,7 +2,7 @@
 use mathlib.Core.Path.{sym, _∙_}
 use native.Mathlib.Omega.{arith}
 use borrow.Author.Needs.{needs}
-use Rattle.sdp_stamp.proofs.PutLaws.{latest-none, latest-past, latest-put}
+use Rattle.sdp_stamp.proofs.PutLaws.{since-past, latest-none, latest-put}
 use Rattle.sdp_stamp.proofs.put_latest.Statement.{statement}
 use Rattle.sdp_stamp.proofs.put_latest.Tie as tie
 
@@ -16,7 +16,7 @@ returns-2 : tie.Need-returns-2
 returns-2 c =
     let k = c .before .before in
     let a = k .before .before .before .args in
-    latest-past (a .area .now) (a .base) (a .most) (a .at) (a .line) _ (sym (k .get2 .ensures .0)) (c .if2 .taken)
+    since-past (a .area .now) (a .base) (a .most) (a .at) (a .line) _ (sym (k .get2 .ensures .0)) _ (c .if2 .taken)
 
 returns-3 : tie.Need-returns-3
 returns-3 c =

@@ -8,16 +8,12 @@ use Rattle.sdp_stamp_valid.proofs.lines_fine.Tie as tie
 
 returns : tie.Need-returns
 unfolding fineLines
-returns c = ap₂ _&&_ (c .before .before .before .fine-fields .ensures)
-    (ap₂ _&&_ (c .before .before .small-columns .ensures)
-    (ap₂ _&&_ (c .before .large-columns .ensures)
-    (c .media-columns .ensures)))
+returns c = ap₂ _&&_ (c .before .before .fine-fields .ensures) (ap₂ _&&_ (c .before .fine-columns .ensures) (c .media-columns .ensures))
 
 pub lines-fine-spec : {M : Type 1} → statement M
 lines-fine-spec =
     tie.close
     (tie.spec
-    (λ c κs. search needs)
     (λ c κs. search needs)
     (λ c κs. search needs)
     (λ c κs. search needs)
