@@ -102,6 +102,9 @@ def respelt(text, path, new, fields):
         word = m[0]
         if word not in new or word in skip:
             continue
+        if not is_antt and re.fullmatch("[a-z0-9_]+", word):
+            # in sources, edits and pages this is a function of the source, and no lemma
+            continue
         before = text[max(0, m.start() - 80) : m.start()]
         if before.endswith("."):
             head = re.search(r"([^\s(){};,@\"«»\[\]\\:◌]*)\.$", before)

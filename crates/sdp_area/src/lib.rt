@@ -85,7 +85,7 @@ pub const TITLE_LINES: usize = 16810;
 pub const KEY_LINES: usize = 16874;
 
 // A string that may be absent.
-#[derive(Drop)]
+#[derive(Clone, Copy)]
 pub struct MaybeSpan {
     pub there: bool,
     pub span: Span,
@@ -99,7 +99,7 @@ pub struct MaybePorts {
 }
 
 // The strings that stand behind a mark: the i line of the session, the u line, and the i line of the latest media.
-#[derive(Drop)]
+#[derive(Clone, Copy)]
 pub enum Text {
     Description,
     Uri,
@@ -107,7 +107,7 @@ pub enum Text {
 }
 
 // The tables whose rows are strings: e lines and p lines.
-#[derive(Drop)]
+#[derive(Clone, Copy)]
 pub enum Contact {
     Email,
     Phone,

@@ -8,7 +8,7 @@ use sdp_judge::{
     Amount, Choice, Counted, Fault, MaybePiece, Taken, Text, Wrong, choice_of, number_of, text_of,
     word_number, word_text, word_token, wrong_of,
 };
-use sdp_split::{Field, Piece, first_piece_lem, piece_after, rest_after, word_at};
+use sdp_split::{Field, Piece, first_piece, piece_after, rest_after, word_at};
 
 #[derive(Drop)]
 pub struct Origin {
@@ -177,7 +177,7 @@ impl Bandwidth {
     pub fn parse(v: &[u8]) -> BandwidthRead
         ensures { result ≡ bandwidth_answer (bandwidth_of v.now) }
     {
-        let bwtype = match text_of(v, 12, first_piece_lem(v, b':')) {
+        let bwtype = match text_of(v, 12, first_piece(v, b':')) {
             Text::Got { piece, next } => Taken { piece, next },
             Text::Refused(x) => return BandwidthRead::Refused(x),
         };
@@ -224,7 +224,7 @@ impl Attribute {
     pub fn parse(v: &[u8]) -> AttributeRead
         ensures { result ≡ attribute_answer (attribute_of v.now) }
     {
-        let name = match text_of(v, 23, first_piece_lem(v, b':')) {
+        let name = match text_of(v, 23, first_piece(v, b':')) {
             Text::Got { piece, next } => Taken { piece, next },
             Text::Refused(x) => return AttributeRead::Refused(x),
         };

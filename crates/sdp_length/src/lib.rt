@@ -19,7 +19,7 @@ use sdp_cells::{get2, get8};
 use sdp_put::text_len;
 
 // The kinds of rows.
-#[derive(Drop)]
+#[derive(Clone, Copy)]
 enum Kind {
     Plain,
     Connection,

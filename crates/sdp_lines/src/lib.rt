@@ -8,15 +8,15 @@ use sdp_bytes::runs::run_len;
 use sdp_bytes::search::index_of;
 
 // A byte's place in the text, from 0.
-#[derive(Drop)]
+#[derive(Clone, Copy)]
 pub struct Place(pub usize);
 
 // A line's number, from 1.
-#[derive(Drop)]
+#[derive(Clone, Copy)]
 pub struct LineNumber(pub usize);
 
 // A string: where it stands in the text, and how long it is.
-#[derive(Drop)]
+#[derive(Clone, Copy)]
 pub struct Span {
     pub at: Place,
     pub len: usize,
@@ -34,7 +34,7 @@ pub struct Answer {
 }
 
 // Where a line is due, and its number.
-#[derive(Drop)]
+#[derive(Clone, Copy)]
 pub struct Cursor {
     pub at: Place,
     pub line: LineNumber,

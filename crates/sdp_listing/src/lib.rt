@@ -8,7 +8,7 @@ ghost use Rattle.sdp_listing.specs.Columns.{columns, rows_from, place_of, shift_
 use sdp_window::{LAST, Run};
 
 // A start with the numbers of its time and of its repeat.
-#[derive(Drop)]
+#[derive(Clone, Copy)]
 pub struct Entry {
     pub at: u64,
     pub time: u64,
@@ -16,7 +16,7 @@ pub struct Entry {
 }
 
 // Whose starts they are.
-#[derive(Drop)]
+#[derive(Clone, Copy)]
 pub struct Whose {
     pub time: u64,
     pub repeat: u64,

@@ -8,7 +8,7 @@ ghost use Rattle.sdp_media_line.specs.Answers.{port_field, port_answer, media_an
 use sdp_bytes::search::index_of;
 use sdp_judge::{Fault, Taken, Text, Wrong, not_utf8, text_of, wrong_of};
 use sdp_number::{Number, number16};
-use sdp_split::{Field, Piece, first_piece_lem, piece_after, rest_after};
+use sdp_split::{Field, Piece, first_piece, piece_after, rest_after};
 use sdp_utf8::is_utf8;
 
 // A number that may be absent.
@@ -135,7 +135,7 @@ impl Media {
     pub fn parse_m_line(v: &[u8]) -> MediaRead
         ensures { result ≡ media_answer (media_of v.now) }
     {
-        let name = match text_of(v, 27, first_piece_lem(v, b' ')) {
+        let name = match text_of(v, 27, first_piece(v, b' ')) {
             Text::Got { piece, next } => Taken { piece, next },
             Text::Refused(x) => return MediaRead::Refused(x),
         };

@@ -60,7 +60,7 @@ pub fn word_at(v: &[u8], i: usize) -> Field
 }
 
 // The first field of a value that is split at every separator.
-pub fn first_piece_lem(v: &[u8], sep: u8) -> Field
+pub fn first_piece(v: &[u8], sep: u8) -> Field
     ensures { result ≡ first_piece sep v.now }
 {
     piece_from(v, 0, sep)

@@ -35,7 +35,7 @@ pub struct Starts {
 }
 
 // When a repeat begins and ends, and how often it comes.
-#[derive(Drop)]
+#[derive(Clone, Copy)]
 pub struct Rule {
     pub start: u64,
     pub stop: u64,

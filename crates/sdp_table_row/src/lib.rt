@@ -14,7 +14,7 @@ use sdp_put::{put_byte, put_number, put_offset, put_two};
 use sdp_row::{put_connection, put_spaced_time, put_string, put_string_line};
 
 // The tables whose rows have nothing below them.
-#[derive(Drop)]
+#[derive(Clone, Copy)]
 pub enum Table {
     Emails,
     Phones,

@@ -18,7 +18,7 @@ use sdp_step::{Marks, Taken};
 
 // What a reading carries from line to line beside the area: the marks, whether the version line is behind it, and how many
 // lines were kept, empty and ignored so far. In another order the compiled loop is slower (docs/SPEED.md).
-#[derive(Drop)]
+#[derive(Clone, Copy)]
 pub struct State {
     pub named: bool,
     pub zoned: bool,

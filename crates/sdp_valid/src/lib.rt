@@ -15,7 +15,7 @@ use sdp_cells::get2;
 use sdp_utf8::is_utf8;
 
 // The kinds of rows with strings.
-#[derive(Drop)]
+#[derive(Clone, Copy)]
 pub enum Row {
     Plain,
     Connection,

@@ -17,7 +17,7 @@ pub struct Run {
 }
 
 // start + offset, then on by the interval; with an interval of 0 it is one number.
-#[derive(Drop)]
+#[derive(Clone, Copy)]
 pub struct Series {
     pub start: u64,
     pub offset: u64,
@@ -33,7 +33,7 @@ pub struct Part {
 }
 
 // From included, to excluded.
-#[derive(Drop)]
+#[derive(Clone, Copy)]
 pub struct Window {
     pub from: u64,
     pub to: u64,
