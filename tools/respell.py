@@ -93,6 +93,9 @@ def respelt(text, path, new, fields):
     if is_proof(path):
         skip = set(re.findall(rf"(?m)^(?:pub )?(?:abbrev )?({WORD}) : (?:tie\.|\{{M)", text))
         skip |= set(re.findall(rf"(?m)^abbrev ({WORD}) : tie\.", text))
+    # what a file brings in from a library has the library's spelling
+    for m in re.finditer(r"(?m)^ *(?:pub |ghost )?use (?!Rattle\.(?:sdp|canon|vectors))\S+\.\{([^}]*)\}", text):
+        skip |= set(re.split(r"[,\s]+", m[1]))
     aliases = set(re.findall(rf"(?m)^ *(?:pub )?use \S+ as ({WORD})", text)) - HEADS
     is_antt = path.endswith(".antt")
     out, at = [], 0

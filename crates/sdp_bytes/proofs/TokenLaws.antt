@@ -5,7 +5,7 @@ use native.Mathlib.Decide.{dec_lt}
 use native.Mathlib.Numerals.{add-one}
 use native.Mathlib.Omega.{arith}
 use mathlib.Core.Path.{◌≡◌, refl, sym, subst, ◌∙◌}
-use mathlib.Core.Bool.{Bool, true, false, ◌&&◌, ◌||◌, beq, and-false, or_assoc, or_false, false≢true}
+use mathlib.Core.Bool.{Bool, true, false, ◌&&◌, ◌||◌, beq, and-false, or_assoc, or-false, false≢true}
 use mathlib.Core.List.{List, [], ◌∷◌}
 use borrow.Author.Tests.{ne_eqb, lt-leb, ltb-true}
 use lib.Dec.{ltb, leb, eqb}
@@ -64,7 +64,7 @@ joined t (r ∷ rs) b = joined (t || within r b) rs b
 
 joined_is : (t : Bool) (rs : List Range) (b : ℕ) → joined t rs b ≡ (t || in_some rs b)
 unfolding joined in_some
-joined_is t [] b = sym (or_false t)
+joined_is t [] b = sym (or-false t)
 joined_is t (r ∷ rs) b = joined_is (t || within r b) rs b ∙ or_assoc t (within r b) (in_some rs b)
 
 pub joined_token : (b : ℕ) → joined false token_ranges b ≡ token_char b

@@ -2,7 +2,7 @@
 -- Assumes nothing.
 use Prim.Native.Nat.{ℕ}
 use mathlib.Core.Path.{◌≡◌, refl, sym, ◌∙◌}
-use mathlib.Core.Bool.{Bool, true, false, ◌&&◌, ◌||◌, cond, true≢false, or_false, or_assoc, and_assoc, and-true, and-false, and-or_distrib_right}
+use mathlib.Core.Bool.{Bool, true, false, ◌&&◌, ◌||◌, cond, true≢false, or-false, or_assoc, and_assoc, and-true, and-false, and-or_distrib_right}
 use mathlib.Core.List.{List, [], ◌∷◌}
 use borrow.Author.Tests.{eq-eqb}
 use Rattle.sdp_order.specs.Expression.{Expr, nothing, empty, letter, ◌·◌, ◌or◌, ◌*, ◌⁇, maybe_empty, after, matches}
@@ -41,7 +41,7 @@ then_cons x y l ls = go (maybe_empty x)
   where
     go : (t : Bool) → matches (cond t (after l x · y or after l y) (after l x · y)) ls ≡ matches (after l x · y) ls || t && matches (after l y) ls
     go true = matches-or (after l x · y) (after l y) ls
-    go false = sym (or_false (matches (after l x · y) ls))
+    go false = sym (or-false (matches (after l x · y) ls))
 
 -- what describes the same lists may stand for the other
 pub then_same : (x x' y y' : Expr) → Same x x' → Same y y' → Same (x · y) (x' · y')
@@ -66,7 +66,7 @@ unfolding matches maybe_empty after
 then_empty x [] = and-true (maybe_empty x)
 then_empty x (l ∷ ls) =
     then_cons x empty l ls
-    ∙ rw (matches_nothing ls, and-false (maybe_empty x), or_false (matches (after l x · empty) ls)) (then_empty (after l x) ls)
+    ∙ rw (matches_nothing ls, and-false (maybe_empty x), or-false (matches (after l x · empty) ls)) (then_empty (after l x) ls)
 
 or_then : (x y w : Expr) (ls : List ℕ) → matches ((x or y) · w) ls ≡ matches (x · w) ls || matches (y · w) ls
 unfolding matches maybe_empty after
@@ -130,7 +130,7 @@ unfolding matches
 after_then l x x' y f h ls =
     then_cons x y l ls
     ∙ rw (then_same (after l x) x' y y f (λ k. refl) ls, not_first l y h ls, matches_nothing ls, and-false (maybe_empty x))
-    (or_false (matches (x' · y) ls))
+    (or-false (matches (x' · y) ls))
 
 module _ (l : ℕ) where
   pub after_letter : Same (after l (letter l)) empty
@@ -145,7 +145,7 @@ module _ (l : ℕ) where
   -- what may be absent is there
   pub after-maybe : (x x' : Expr) → Same (after l x) x' → Same (after l (x ⁇)) x'
   unfolding after
-  after-maybe x x' f ls = matches-or (after l x) nothing ls ∙ rw (f ls, matches_nothing ls) (or_false (matches x' ls))
+  after-maybe x x' f ls = matches-or (after l x) nothing ls ∙ rw (f ls, matches_nothing ls) (or-false (matches x' ls))
 
   pub after_many : (x x' : Expr) → Same (after l x) x' → Same (after l (x *)) (x' · x *)
   unfolding after
