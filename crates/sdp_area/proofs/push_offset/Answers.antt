@@ -1,0 +1,15 @@
+-- `sdp_area::push_offset` meets its contract.
+-- Assumes nothing.
+use mathlib.Core.Path.{ap, ◌∙◌}
+use Rattle.sdp_cells.specs.Tables.{grown}
+use Rattle.sdp_area.specs.Area.{offset_row}
+use Rattle.sdp_area.proofs.WordLaws.{◌and◌, word_is, eight_is}
+use Rattle.sdp_area.proofs.push_offset.Goals as goal
+
+pub returns : goal.returns
+unfolding offset_row
+returns c =
+    let b = c.args in
+    let k = c.push_words.ensures in
+    let row = word_is b.owner and eight_is b.offset in
+    record { value = k.0; area_after = k.1 ∙ ap (grown _ _ _) row.is }

@@ -1,0 +1,20 @@
+-- `sdp_area::put_title` meets its contract.
+-- Assumes nothing.
+use native.Mathlib.Omega.{arith}
+use Rattle.sdp_area.specs.Latest.{over_title}
+use Rattle.sdp_area.proofs.LatestLaws.{none_there, too_many, one-there}
+use Rattle.sdp_area.proofs.put_title.Goals as goal
+
+pub returns-then-n-eq0 : goal.returns-then-n-eq0
+unfolding over_title
+returns-then-n-eq0 c = rw (none_there _ _ c.get2-n.ensures.0 c.if-n-eq0.true)
+
+pub returns-then-n-gt32 : goal.returns-then-n-gt32
+unfolding over_title
+returns-then-n-gt32 c = rw (too_many _ _ c.get2-n.ensures.0 c.if-n-gt32.true)
+
+pub returns : goal.returns
+unfolding over_title
+returns c =
+    let n = c.get2-n in
+    rw (one-there _ _ n.ensures.0 (omega arith) (omega arith), ← n.ensures.0) c.put_words.ensures

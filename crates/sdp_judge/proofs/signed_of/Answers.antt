@@ -1,0 +1,5 @@
+-- `sdp_judge::signed_of` meets its contract. Assumes nothing.
+use Rattle.sdp_judge.proofs.signed_of.Goals as goal
+
+pub returns-in-Value : goal.returns-in-Value
+returns-in-Value c = rw c.n-1.given.1 c.signed.ensures

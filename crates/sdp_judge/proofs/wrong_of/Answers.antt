@@ -1,0 +1,11 @@
+-- `sdp_judge::wrong_of` meets its contract. Assumes nothing.
+use Rattle.sdp_judge.proofs.wrong_of.Goals as goal
+
+pub returns-in-Format : goal.returns-in-Format
+returns-in-Format c = rw c.enum_told-1.given.1
+
+pub returns-in-Missing : goal.returns-in-Missing
+returns-in-Missing c = rw c.enum_told-in-Missing-1.given.1
+
+pub returns-in-Trailing : goal.returns-in-Trailing
+returns-in-Trailing c = rw c.enum_told-in-Trailing-1.given.1

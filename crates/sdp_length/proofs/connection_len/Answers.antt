@@ -1,0 +1,9 @@
+-- `sdp_length::connection_len` meets its contract. Assumes nothing.
+use Rattle.sdp_length.proofs.LineLaws.{connection_line_lem}
+use native.Mathlib.Omega.{arith}
+use Rattle.sdp_length.proofs.connection_len.Goals as goal
+
+pub returns : goal.returns
+returns c =
+    c in
+    (omega (arith, connection_line_lem b.args.text.now b.args.area.now b.args.p), omega arith)

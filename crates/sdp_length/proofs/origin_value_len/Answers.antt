@@ -1,0 +1,13 @@
+-- `sdp_length::origin_value_len` meets its contract. Assumes nothing.
+use Rattle.sdp_length.proofs.LineLaws.{origin_value_lem}
+use Rattle.sdp_put.specs.Digits.{digits}
+use lib.ListN.{length}
+use mathlib.Core.Path.{ap, ◌∙◌}
+use Prim.Native.Nat.{ℕ}
+use native.Mathlib.Omega.{arith}
+use Rattle.sdp_length.proofs.origin_value_len.Goals as goal
+
+pub returns : goal.returns
+returns c =
+    c in
+    (omega (arith, origin_value_lem b.args.text.now b.args.area.now b.args.p, c.digits_len.ensures.0 ∙ ap (λ (v : ℕ). length (digits v)) c.get8.ensures), omega arith)

@@ -1,0 +1,13 @@
+-- `sdp_lines::stop_index` meets its contract. The invariant: the whole list's stop is i and the stop of the rest from i.
+-- Assumes nothing.
+use Prim.Native.Nat.{◌-◌}
+use lib.ListN.{length}
+use Rattle.sdp_lines.specs.Quick.{stop_index}
+use Rattle.sdp_bytes.proofs.ScanLaws.{Reached}
+use Rattle.sdp_lines.proofs.stop_index.Given as goal
+
+abbrev pub invariant-loop-i : goal.invariant-loop-i
+invariant-loop-i l = Reached stop_index l.s l.i
+
+abbrev pub decreases-loop-i : goal.decreases-loop-i
+decreases-loop-i l = length l.s - l.i

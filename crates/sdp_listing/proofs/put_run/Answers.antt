@@ -1,0 +1,42 @@
+-- `sdp_listing::put_run` meets its contract. The invariant: what stands there and the rest of the run give the whole. Assumes nothing.
+use native.Mathlib.Omega.{arith}
+use Prim.Native.Nat.{◌-◌}
+use Rattle.sdp_listing.specs.Columns.{columns}
+use Rattle.sdp_listing.proofs.RunLaws.{none_filled, one-filled, all_filled}
+use Rattle.sdp_listing.proofs.put_run.Goals as goal
+
+pub loop-k-init : goal.loop-k-init
+loop-k-init c = none_filled _ _ _ _ _ _ _ c.requires.3
+
+pub put_in-requires : goal.put_in-requires
+put_in-requires c =
+    c in
+    (
+      omega (arith, l.requires.0, l.loop.invariant.rows, l.loop.invariant.ats),
+      omega (arith, l.requires.1, l.loop.invariant.rows, l.loop.invariant.times),
+      omega (arith, l.requires.2, l.loop.invariant.rows, l.loop.invariant.repeats),
+    )
+
+pub overflow_add-m : goal.overflow_add-m
+overflow_add-m c =
+    c in
+    omega (arith, l.loop.invariant.rows, l.requires.0)
+
+pub loop-k-preserved : goal.loop-k-preserved
+loop-k-preserved c =
+    c in
+    let o = p.put_in.new in
+    one-filled _ _ _ _ _ _ _ _ (columns o.0 o.1.0 o.1.1.0) _ _ _ _ p.loop.invariant p.if1.true
+    p.put_in.ensures c.next_of-x.ensures
+
+pub shape_of-at : goal.shape_of-at
+shape_of-at c = c.loop-k.invariant.ats
+
+pub shape_of-time : goal.shape_of-time
+shape_of-time c = c.loop-k.invariant.times
+
+pub shape_of-repeat : goal.shape_of-repeat
+shape_of-repeat c = c.loop-k.invariant.repeats
+
+pub returns : goal.returns
+returns c = all_filled _ _ _ _ _ _ _ _ _ _ _ c.loop-k.invariant c.loop-k-test.false

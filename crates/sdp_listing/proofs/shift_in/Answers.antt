@@ -1,0 +1,23 @@
+-- `sdp_listing::shift_in` meets its contract. The invariant: what is still to be done gives the whole. Assumes nothing.
+use mathlib.Core.Path.{refl, ◌∙◌}
+use native.Mathlib.Omega.{arith}
+use Prim.Native.Nat.{◌-◌}
+use lib.ListN.{length-set}
+use Rattle.sdp_listing.proofs.ShiftLaws.{shift_turn, shift_end}
+use Rattle.sdp_listing.proofs.shift_in.Goals as goal
+
+pub loop-i-init : goal.loop-i-init
+loop-i-init c = (c.requires.0, refl, refl)
+
+pub loop-i-preserved : goal.loop-i-preserved
+loop-i-preserved c =
+    c in
+    let e = shift_turn _ _ _ _ c.loop-i-test.true (omega (arith, l.requires.1)) ∙ l.loop.invariant.2 in
+    (omega arith, simp length-set (omega arith), e)
+
+pub shape_of-a : goal.shape_of-a
+shape_of-a c = simp length-set (omega arith)
+
+pub returns : goal.returns
+returns c =
+    c in shift_end _ _ _ _ c.loop-i-test.false (omega (arith, l.requires.1)) ∙ l.loop.invariant.2

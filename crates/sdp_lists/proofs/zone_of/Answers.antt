@@ -1,0 +1,8 @@
+-- `sdp_lists::zone_of` meets its contract. Assumes nothing.
+use Rattle.sdp_lists.proofs.zone_of.Goals as goal
+
+pub returns-in-Got : goal.returns-in-Got
+returns-in-Got c = rw c.offset-1.given.1
+
+pub returns-in-Refused : goal.returns-in-Refused
+returns-in-Refused c = rw c.offset-in-Refused-1.given.1

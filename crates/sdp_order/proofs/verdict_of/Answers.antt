@@ -1,0 +1,11 @@
+-- `sdp_order::verdict_of` meets its contract. Assumes nothing.
+use Rattle.sdp_order.proofs.verdict_of.Goals as goal
+
+pub returns-in-InOrder : goal.returns-in-InOrder
+returns-in-InOrder c = rw c.enum_told-1.given.1
+
+pub returns-in-OutOfOrder : goal.returns-in-OutOfOrder
+returns-in-OutOfOrder c = rw c.enum_told-in-OutOfOrder-1.given.1
+
+pub returns-in-TooLong : goal.returns-in-TooLong
+returns-in-TooLong c = rw c.enum_told-in-TooLong-1.given.1

@@ -1,0 +1,14 @@
+-- `sdp_put::put_some` meets its contract. Assumes nothing.
+use lib.ListN.{drop}
+use Rattle.sdp_put.proofs.OutLaws.{Same}
+use lib.ListN.{length}
+use mathlib.Core.Path.{◌≡◌}
+use Prim.Native.Nat.{◌-◌}
+use Rattle.sdp_put.proofs.put_some.Given as goal
+
+abbrev pub invariant-loop-i : goal.invariant-loop-i
+invariant-loop-i l =
+    (length l.out ≡ length l.initial.out) × Same l.initial.out l.at l.s l.out l.p (drop l.i l.s)
+
+abbrev pub decreases-loop-i : goal.decreases-loop-i
+decreases-loop-i l = length l.s - l.i

@@ -1,0 +1,42 @@
+-- `sdp_stamp::stamp` meets its contract. Assumes nothing.
+use mathlib.Core.Path.{sym, ap, subst, ◌∙◌}
+use native.Mathlib.Omega.{arith}
+use Rattle.sdp_stamp.specs.Put.{put_since, put_column}
+use Rattle.sdp_stamp.specs.declared.Column.{Column}
+use Rattle.sdp_stamp.proofs.PutLaws.{Fits, column_fits}
+use Rattle.sdp_stamp.proofs.stamp.Goals as goal
+
+pub put_line-requires : goal.put_line-requires
+put_line-requires c =
+    omega (arith, c.requires, subst Fits (sym c.column_of.ensures ∙ c.at-1.given.1) (column_fits c.args.role))
+
+pub put_latest-requires : goal.put_latest-requires
+put_latest-requires c =
+    let f = subst Fits (sym c.column_of.ensures ∙ c.base-1.given.1) (column_fits c.args.role) in
+    (omega (arith, c.requires, f.0), omega (arith, c.requires, f.1))
+
+pub returns-in-Field : goal.returns-in-Field
+returns-in-Field c =
+    let a = c.args in
+    c.put_line.ensures ∙ ap (λ (q : Column). put_column q a.offsets a.line a.area.now) (sym c.at-1.given.1 ∙ c.column_of.ensures)
+
+pub returns-in-Rows : goal.returns-in-Rows
+returns-in-Rows c =
+    let a = c.args in
+    c.put_latest.ensures ∙ ap (λ (q : Column). put_column q a.offsets a.line a.area.now) (sym c.base-1.given.1 ∙ c.column_of.ensures)
+
+pub returns-in-Repeat : goal.returns-in-Repeat
+returns-in-Repeat c =
+    let a = c.args in
+    c.put_since.ensures ∙ ap (put_since _ _ _ _ _) c.put_latest-in-Repeat.ensures
+    ∙ ap (λ (q : Column). put_column q a.offsets a.line a.area.now) (sym c.enum_told-1.given.1 ∙ c.column_of.ensures)
+
+pub returns-in-Zone : goal.returns-in-Zone
+returns-in-Zone c =
+    let a = c.args in
+    c.put_since-in-Zone.ensures ∙ ap (λ (q : Column). put_column q a.offsets a.line a.area.now) (sym c.enum_told-in-Zone-1.given.1 ∙ c.column_of.ensures)
+
+pub returns-in-Nothing : goal.returns-in-Nothing
+returns-in-Nothing c =
+    let a = c.args in
+    ap (λ (q : Column). put_column q a.offsets a.line a.area.now) (sym c.enum_told-in-Nothing-1.given.1 ∙ c.column_of.ensures)

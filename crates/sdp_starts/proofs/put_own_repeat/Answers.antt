@@ -1,0 +1,13 @@
+-- `sdp_starts::put_own_repeat` meets its contract. Assumes nothing.
+use Rattle.sdp_starts.proofs.FillLaws.{fills_none, fills_as}
+use Rattle.sdp_starts.proofs.RowLaws.{mine-not, mine_is}
+use Rattle.sdp_starts.proofs.TimeLaws.{repeat-row}
+use Rattle.sdp_starts.proofs.put_own_repeat.Goals as goal
+
+pub returns-then-num2-i : goal.returns-then-num2-i
+returns-then-num2-i c = fills_as (mine-not _ _ _ c.num2.ensures.0 _ c.if-num2-i.true) fills_none
+
+pub returns : goal.returns
+returns c =
+    c in
+    fills_as (mine_is _ _ _ k.num2.ensures.0 _ _ k.if1.false (repeat-row _ _ _ _ _ _ _ _ k.num8.ensures)) k.put-repeat.ensures

@@ -1,0 +1,31 @@
+-- `sdp_starts::starts_in` meets its contract. Assumes nothing.
+use mathlib.Core.Path.{sym, ◌∙◌}
+use borrow.Author.Tests.{not-true, not-false}
+use Rattle.sdp_starts.proofs.ToldLaws.{refused_as, none_held, zeros_roomy, told-unfit, told_fall, told_many, told_list}
+use Rattle.sdp_starts.proofs.starts_in.Goals as goal
+
+pub returns-then-number-ne0 : goal.returns-then-number-ne0
+returns-then-number-ne0 c =
+    refused_as _ _ _ c.refused.ensures (told-unfit _ _ _ _ _ c.unfit-number.ensures c.if-number-ne0.true)
+
+pub returns-then-not-zones_rise : goal.returns-then-not-zones_rise
+returns-then-not-zones_rise c =
+    c in
+    refused_as _ _ _ c.refused-then-not-zones_rise.ensures
+    (told_fall _ _ _ _ _ z.unfit.ensures z.if1.false (sym z.zones-rise.ensures ∙ not-true _ c.if-not-zones_rise.true))
+
+pub put_times-n-requires : goal.put_times-n-requires
+put_times-n-requires c =
+    c in
+    (zeros_roomy, sym t.zones-rise.ensures ∙ not-false _ t.if2.false)
+
+pub returns-then-n-gt-MOST : goal.returns-then-n-gt-MOST
+returns-then-n-gt-MOST c =
+    c in
+    refused_as _ _ _ c.refused-then-n-gt-MOST.ensures
+    (told_many _ _ _ _ _ p.unfit.ensures p.if1.false (sym p.zones-rise.ensures ∙ not-false _ p.if2.false) _ _ (p.put-times.ensures.holds [] none_held) c.if-n-gt-MOST.true)
+
+pub returns : goal.returns
+returns c =
+    c in
+    told_list _ _ _ _ _ p.unfit.ensures p.if1.false (sym p.zones-rise.ensures ∙ not-false _ p.if2.false) _ _ (p.put-times.ensures.holds [] none_held) c.if-n-gt-MOST.false

@@ -1,0 +1,5 @@
+-- `sdp_strings::maybe_of` meets its contract. Assumes nothing.
+use Rattle.sdp_strings.proofs.maybe_of.Goals as goal
+
+pub returns : goal.returns
+returns c = rw c.Span-of.ensures

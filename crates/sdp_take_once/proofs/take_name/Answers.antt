@@ -1,0 +1,35 @@
+-- `sdp_take_once::take_name` meets its contract. Assumes nothing.
+use mathlib.Core.Path.{refl, sym, ap, ◌∙◌}
+use native.Mathlib.Omega.{arith}
+use Rattle.sdp_judge.proofs.EveryLaws.{whole-within}
+use Rattle.sdp_area.proofs.HeadLaws.{name_set}
+use Rattle.sdp_step.specs.Step.{step_role}
+use Rattle.sdp_step.specs.declared.Marks.{Marks}
+use Rattle.sdp_step.proofs.AnswerLaws.{whole_got, whole-refused}
+use Rattle.sdp_step.proofs.HandleLaws.{once-second, once_wrong, once-kept}
+use Rattle.sdp_step.proofs.OnceLaws.{head_kept}
+use Rattle.sdp_step.proofs.TailLaws.{held, tail_of}
+use mathlib.Core.Bool.{true}
+use Rattle.sdp_take_once.proofs.take_name.Goals as goal
+
+pub returns-then-marks : goal.returns-then-marks
+unfolding step_role
+returns-then-marks c =
+    once-second 13 _ _ _ (held h) t (sym (ap (λ (m : Marks). m.named) h.marks) ∙ c.if-marks.true) (tail_of h)
+
+pub span_of-x-requires : goal.span_of-x-requires
+span_of-x-requires c =
+    omega (arith, whole-within _ _ _ (whole_got _ _ (sym c.whole.ensures ∙ c.p-1.given.1)), c.requires.1)
+
+pub set_name-requires : goal.set_name-requires
+set_name-requires c = omega (arith, c.requires.0)
+
+pub returns-in-Refused : goal.returns-in-Refused
+unfolding step_role
+returns-in-Refused c =
+    (once_wrong 13 _ _ _ (held h) t (sym (ap (λ (m : Marks). m.named) h.marks) ∙ c.if-marks.false) _ (whole-refused _ _ (sym c.whole.ensures ∙ c.w-1.given.1)) (tail_of h))
+
+pub returns-in-Got : goal.returns-in-Got
+unfolding step_role
+returns-in-Got c =
+    once-kept 13 _ _ _ _ _ (sym (ap (λ (m : Marks). m.named) h.marks) ∙ c.if-marks.false) _ _ _ (whole_got _ _ (sym c.whole.ensures ∙ c.p-1.given.1)) refl (head_kept ρ _ _ _ _ t _ h (ap (λ (m : Marks). record { named = true; zoned = m.zoned }) h.marks) (c.set_name.ensures ∙ rw c.Span-of.ensures (name_set ρ.session t h.within _ h.bytes _)))

@@ -1,0 +1,32 @@
+-- `sdp_take_once::take_text` meets its contract. Assumes nothing.
+use mathlib.Core.Path.{sym, ap, ◌∙◌}
+use native.Mathlib.Omega.{arith}
+use mathlib.Core.List.{◌++◌}
+use Rattle.sdp_cells.specs.Bytes.{le}
+use Rattle.sdp_area.specs.Area.{span}
+use Rattle.sdp_area.specs.Which.{over_text}
+use Rattle.sdp_lines.specs.declared.Span.{Span}
+use Rattle.sdp_judge.proofs.EveryLaws.{whole-within}
+use Rattle.sdp_strings.specs.Strings.{span_at}
+use Rattle.sdp_step.proofs.AnswerLaws.{whole_got, whole-refused}
+use Rattle.sdp_take_once.proofs.TextLaws.{text-second, text_wrong, text-kept}
+use Rattle.sdp_take_once.proofs.take_text.Goals as goal
+
+pub returns-then-has_text : goal.returns-then-has_text
+returns-then-has_text c =
+    let b = c.args in
+    rw c.text_number.ensures (text-second ρ b.marks b.area.now t h (span_at b.at b.v.now) b.v.now b.which (sym c.has_text.ensures ∙ c.if-has_text.true))
+
+pub span_of-x-requires : goal.span_of-x-requires
+span_of-x-requires c =
+    omega (arith, whole-within _ _ _ (whole_got _ _ (sym c.whole.ensures ∙ c.p-1.given.1)), c.requires.1)
+
+pub returns-in-Refused : goal.returns-in-Refused
+returns-in-Refused c =
+    let b = c.args in
+    (text_wrong ρ b.marks b.area.now t h (span_at b.at b.v.now) b.v.now b.which (sym c.has_text.ensures ∙ c.if-has_text.false) _ c.text_field.ensures _ (whole-refused _ _ (sym c.whole.ensures ∙ c.w-1.given.1)))
+
+pub returns-in-Got : goal.returns-in-Got
+returns-in-Got c =
+    let b = c.args in
+    text-kept ρ b.marks b.area.now t h (span_at b.at b.v.now) b.v.now b.which (sym c.has_text.ensures ∙ c.if-has_text.false) _ c.text_field.ensures _ _ (whole_got _ _ (sym c.whole.ensures ∙ c.p-1.given.1)) (c.set_text.ensures ∙ ap (λ (y : Span). over_text b.which b.area.now (le 2 1 ++ span y)) c.Span-of.ensures)

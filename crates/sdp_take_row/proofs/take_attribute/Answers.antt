@@ -1,0 +1,34 @@
+-- `sdp_take_row::take_attribute` meets its contract. Assumes nothing.
+use mathlib.Core.Path.{refl, sym, ◌∙◌}
+use native.Mathlib.Omega.{arith}
+use Rattle.sdp_fields.proofs.BoundLaws.{attribute-within}
+use Rattle.sdp_area.specs.With.{with_attributes}
+use Rattle.sdp_area.proofs.GrownLaws.{attributes-grown, medias_count}
+use Rattle.sdp_step.specs.Step.{step_role}
+use Rattle.sdp_step.proofs.AnswerLaws.{attribute_got, attribute-refused}
+use Rattle.sdp_step.proofs.HandleLaws.{row_wrong, row_pushed}
+use Rattle.sdp_step.proofs.TailLaws.{held, tail_of}
+use Rattle.sdp_step.proofs.WithinLaws.{within-attributes}
+use Rattle.sdp_strings.specs.Strings.{span_at}
+use lib.ListN.{length}
+use Rattle.sdp_step.specs.Step.{attribute_in}
+use Rattle.sdp_take_row.proofs.take_attribute.Goals as goal
+
+pub span_of-name-requires : goal.span_of-name-requires
+span_of-name-requires c =
+    omega (arith, (attribute-within _ _ (attribute_got _ _ (sym c.parse.ensures ∙ c.k-1.given.1))).attribute, c.requires.1)
+
+pub maybe_of-value-requires : goal.maybe_of-value-requires
+maybe_of-value-requires c =
+    omega (arith, (attribute-within _ _ (attribute_got _ _ (sym c.parse.ensures ∙ c.k-1.given.1))).value, c.requires.1)
+
+pub returns-in-Refused : goal.returns-in-Refused
+unfolding step_role
+returns-in-Refused c =
+    (row_wrong 9 512 _ _ _ (held h) t _ (attribute-refused _ _ (sym c.parse.ensures ∙ c.w-1.given.1)) (tail_of h))
+
+pub returns-in-Got : goal.returns-in-Got
+unfolding step_role
+returns-in-Got c =
+    attribute_in (span_at c.args.at []) (length ρ.session.tables.medias) c.k-1.given.0.0 in
+    rw c.stored.ensures (row_pushed 9 512 ρ.session.tables.attributes _ _ _ (attribute_got _ _ (sym c.parse.ensures ∙ c.k-1.given.1)) q (with_attributes ρ.session) _ t _ _ ρ h _ (c.push_attribute-p.ensures.value ∙ (attributes-grown ρ.session t h.within _ h.bytes q).0) (c.push_attribute-p.ensures.area_after ∙ rw (c.medias-owner.ensures.0, medias_count ρ.session t h.within _ h.bytes, c.Span-of.ensures, c.maybe_of-value.ensures) (attributes-grown ρ.session t h.within _ h.bytes q).1) (within-attributes ρ.session h.within) refl refl refl)

@@ -1,0 +1,37 @@
+-- `sdp_turn::good_line` meets its contract. Assumes nothing.
+use Rattle.std.proofs.Common.{arith}
+use Rattle.sdp_strings.specs.Strings.{span_at}
+use Rattle.sdp_lines.specs.Strings.{bytes_of}
+use Rattle.sdp_turn.proofs.PartLaws.{part_is, part-fits, byte_fits}
+use Rattle.sdp_turn.proofs.TurnLaws.{good_kept, good_idle, good_refused}
+use Rattle.sdp_blame.proofs.StepLaws.{step_blames, blamed_inside}
+use Rattle.sdp_turn.proofs.good_line.Goals as goal
+
+pub take-requires : goal.take-requires
+take-requires c =
+    (omega (arith, c.requires.0), part-fits c.args.text.now c.args.value c.requires.1.0 c.requires.1.1.1)
+
+pub one_kept-requires : goal.one_kept-requires
+one_kept-requires c = c.requires.1.1.0
+
+pub returns-in-Kept : goal.returns-in-Kept
+returns-in-Kept c =
+    let a = c.args in
+    rw c.one_kept.ensures
+    (good_kept a.text.now a.number.0 a.letter a.value a.state a.area.now _ _ _ _ _ _ c.medias.ensures.0 c.offsets-before.ensures.0 c.role_at-role.ensures c.stamp.ensures
+    (rw (c.marks-1.given.1, c.marks_of.ensures, part_is a.text.now a.value) at c.take.ensures))
+
+pub returns-in-Idle : goal.returns-in-Idle
+returns-in-Idle c =
+    let a = c.args in
+    rw c.one_ignored.ensures
+    (good_idle a.text.now a.number.0 a.letter a.value a.state a.area.now _
+    (rw (c.enum_told-1.given.1, c.marks_of.ensures, part_is a.text.now a.value) at c.take.ensures))
+
+pub returns-in-Refused : goal.returns-in-Refused
+returns-in-Refused c =
+    let a = c.args in
+    let v = bytes_of a.text.now a.value in
+    good_refused a.text.now a.number.0 a.letter a.value a.state a.area.now _ _ _
+    (λ ρ e. c.wrong_at.ensures (λ n. byte_fits a.text.now a.value _ c.requires.1.0 c.requires.1.1.1 (blamed_inside a.letter v _ (step_blames v (span_at a.value.at.0 v) ρ a.letter _ e) n)))
+    (rw (c.w-1.given.1, c.marks_of.ensures, part_is a.text.now a.value) at c.take.ensures)

@@ -1,0 +1,7 @@
+-- `sdp_window::plus_east` meets its contract. Assumes nothing.
+use native.Mathlib.Omega.{arith}
+use Rattle.sdp_window.proofs.SumLaws.{sum_above}
+use Rattle.sdp_window.proofs.plus_east.Goals as goal
+
+pub returns-then-a-b : goal.returns-then-a-b
+returns-then-a-b c = sum_above _ _ (omega arith)
