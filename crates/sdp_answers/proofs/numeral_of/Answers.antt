@@ -4,10 +4,10 @@ use Rattle.sdp_answers.specs.Boundary.{numeral_of}
 use Rattle.sdp_answers.proofs.numeral_of.Goals as goal
 
 pub returns-in-Value : goal.returns-in-Value
-returns-in-Value c = sym (ap numeral_of c.n-1.given.1)
+returns-in-Value c = sym (ap numeral_of c.in-Value.is)
 
 pub returns-in-Encoding : goal.returns-in-Encoding
-returns-in-Encoding c = sym (ap numeral_of c.enum_told-1.given.1)
+returns-in-Encoding c = sym (ap numeral_of c.in-Encoding.is)
 
 pub returns-in-Format : goal.returns-in-Format
-returns-in-Format c = sym (ap numeral_of c.enum_told-in-Format-1.given.1)
+returns-in-Format c = sym (ap numeral_of c.in-Format.is)

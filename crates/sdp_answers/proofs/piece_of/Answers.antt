@@ -4,13 +4,13 @@ use Rattle.sdp_answers.specs.Boundary.{piece_of}
 use Rattle.sdp_answers.proofs.piece_of.Goals as goal
 
 pub returns-in-End : goal.returns-in-End
-returns-in-End c = sym (ap (piece_of c.args.line) c.enum_told-1.given.1)
+returns-in-End c = sym (ap (piece_of c.args.line) c.in-End.is)
 
 pub returns-in-Empty : goal.returns-in-Empty
-returns-in-Empty c = sym (ap (piece_of c.args.line) c.c-1.given.1)
+returns-in-Empty c = sym (ap (piece_of c.args.line) c.in-Empty.is)
 
 pub returns-in-Line : goal.returns-in-Line
-returns-in-Line c = rw c.wide.ensures (sym (ap (piece_of c.args.line) c.c-in-Line-1.given.1))
+returns-in-Line c = rw c.wide.ensures (sym (ap (piece_of c.args.line) c.in-Line.is))
 
 pub returns-in-Refused : goal.returns-in-Refused
-returns-in-Refused c = rw c.fault_number.ensures (sym (ap (piece_of c.args.line) c.c-in-Refused-1.given.1))
+returns-in-Refused c = rw c.fault_number.ensures (sym (ap (piece_of c.args.line) c.in-Refused.is))

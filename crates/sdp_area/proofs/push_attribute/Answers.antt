@@ -13,4 +13,4 @@ returns c =
     let k = c.push_words.ensures in
     let value = maybe_is b.value _ _ _ c.mark.ensures c.place_of.ensures c.len_of.ensures in
     let row = word_is b.owner and span_is b.name and value in
-    record { value = k.0; area_after = k.1 ∙ ap (grown _ _ _) row.is }
+    record { value = k.value; area_after = k.area_after ∙ ap (grown _ _ _) row.is }

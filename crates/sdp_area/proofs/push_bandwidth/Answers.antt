@@ -12,4 +12,4 @@ returns c =
     let b = c.args in
     let k = c.push_words.ensures in
     let row = word_is b.owner and span_is b.bwtype and eight_is b.bandwidth in
-    record { value = k.0; area_after = k.1 ∙ ap (grown _ _ _) row.is }
+    record { value = k.value; area_after = k.area_after ∙ ap (grown _ _ _) row.is }

@@ -14,4 +14,4 @@ returns c =
     let k = c.push_words.ensures in
     let ports = ports_is b.ports _ _ c.mark.ensures c.ports_of.ensures in
     let row = span_is b.media and word_is b.port and ports and span_is b.proto and span_is b.fmt and none_is 3 and none_is 6 in
-    record { value = k.0; area_after = k.1 ∙ ap (grown _ _ _) row.is }
+    record { value = k.value; area_after = k.area_after ∙ ap (grown _ _ _) row.is }

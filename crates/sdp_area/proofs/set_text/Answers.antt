@@ -9,14 +9,14 @@ use Rattle.sdp_area.proofs.set_text.Goals as goal
 pub returns-in-Description : goal.returns-in-Description
 returns-in-Description c =
     let row = word_is 1 and span_is c.args.x in
-    rw c.enum_told-1.given.1 (c.put_words.ensures ∙ ap (over _ _) row.is)
+    rw c.in-Description.is (c.put_words.ensures ∙ ap (over _ _) row.is)
 
 pub returns-in-Uri : goal.returns-in-Uri
 returns-in-Uri c =
     let row = word_is 1 and span_is c.args.x in
-    rw c.enum_told-in-Uri-1.given.1 (c.put_words-in-Uri.ensures ∙ ap (over _ _) row.is)
+    rw c.in-Uri.is (c.put_words-in-Uri.ensures ∙ ap (over _ _) row.is)
 
 pub returns-in-Title : goal.returns-in-Title
 returns-in-Title c =
     let row = word_is 1 and span_is c.args.x in
-    rw c.enum_told-in-Title-1.given.1 (c.put_title.ensures ∙ ap (over_title _) row.is)
+    rw c.in-Title.is (c.put_title.ensures ∙ ap (over_title _) row.is)

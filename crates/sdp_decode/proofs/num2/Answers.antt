@@ -6,18 +6,14 @@ use Prim.Native.Nat.{◌+◌}
 use native.Mathlib.Omega.{arith}
 use Rattle.sdp_decode.proofs.num2.Goals as goal
 
--- one byte is left
-
 pub returns-then-a-at : goal.returns-then-a-at
 returns-then-a-at c = (sym (num-past 2 _ _ c.if-a-at.true), omega arith)
 
 pub overflow_cast-result : goal.overflow_cast-result
-overflow_cast-result c =
-    c in
-    omega (arith, c.shared_slice_known-then-a-at-lt2-1.given b.args.at)
+overflow_cast-result c = omega (arith, c.shared_slice_known-then-a-at-lt2-1.given c.args.at)
 
+-- one byte is left
 pub returns-then-a-at-lt2 : goal.returns-then-a-at-lt2
 unfolding bytes.num
 returns-then-a-at-lt2 c =
-    c in
-    (omega (arith, num-past 1 b.args.a.now (b.args.at + 1) (omega arith)), omega (arith, c.shared_slice_known-then-a-at-lt2-1.given b.args.at))
+    (omega (arith, num-past 1 c.args.a.now (c.args.at + 1) (omega arith)), omega (arith, c.shared_slice_known-then-a-at-lt2-1.given c.args.at))

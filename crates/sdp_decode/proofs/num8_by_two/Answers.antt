@@ -9,6 +9,4 @@ pub returns-then-a-at : goal.returns-then-a-at
 returns-then-a-at c = sym (num-past 8 _ _ c.if-a-at.true)
 
 pub returns : goal.returns
-returns c =
-    c in
-    omega (arith, num_eight b.args.a.now b.args.at)
+returns c = omega (arith, num_eight c.args.a.now c.args.at)

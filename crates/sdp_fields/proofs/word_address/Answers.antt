@@ -7,37 +7,37 @@ use Rattle.sdp_fields.proofs.word_address.Goals as goal
 
 pub returns-in-Refused : goal.returns-in-Refused
 unfolding address_of
-returns-in-Refused c = sym (ap connection_answer (token_next _ _ _ _ c.word_token.ensures c.x-1.given.1))
+returns-in-Refused c = sym (ap connection_answer (token_next _ _ _ _ c.word_token.ensures c.in-Refused.is))
 
 pub returns-in-Refused-word_token : goal.returns-in-Refused-word_token
 unfolding address_of
 returns-in-Refused-word_token c =
     sym (ap connection_answer
-    (token_next _ _ _ _ c.word_token.ensures c.piece-1.given.1
-    ∙ token_next _ _ _ _ c.word_token-2.ensures c.x-in-Refused-word_token-2-1.given.1))
+    (token_next _ _ _ _ c.word_token.ensures c.in-Got.is
+    ∙ token_next _ _ _ _ c.word_token-2.ensures c.in-Got.is))
 
 pub returns-in-Refused-word_text : goal.returns-in-Refused-word_text
 unfolding address_of
 returns-in-Refused-word_text c =
     sym (ap connection_answer
-    (token_next _ _ _ _ c.word_token.ensures c.piece-1.given.1
-    ∙ token_next _ _ _ _ c.word_token-2.ensures c.piece-in-Got-word_token-2-1.given.1
-    ∙ text_next _ _ _ _ c.word_text.ensures c.x-in-Refused-word_text-1.given.1))
+    (token_next _ _ _ _ c.word_token.ensures c.in-Got.is
+    ∙ token_next _ _ _ _ c.word_token-2.ensures c.in-Got.is
+    ∙ text_next _ _ _ _ c.word_text.ensures c.in-Got.is))
 
 pub returns-in-Got-word_at : goal.returns-in-Got-word_at
 unfolding address_of
 returns-in-Got-word_at c =
     rw c.wrong_of.ensures (sym (ap connection_answer
-    (token_next _ _ _ _ c.word_token.ensures c.piece-1.given.1
-    ∙ token_next _ _ _ _ c.word_token-2.ensures c.piece-in-Got-word_token-2-1.given.1
-    ∙ text_next _ _ _ _ c.word_text.ensures c.piece-in-Got-word_text-1.given.1
-    ∙ end_next _ _ _ _ c.word_at.ensures c.enum_told-1.given.1)))
+    (token_next _ _ _ _ c.word_token.ensures c.in-Got.is
+    ∙ token_next _ _ _ _ c.word_token-2.ensures c.in-Got.is
+    ∙ text_next _ _ _ _ c.word_text.ensures c.in-Got.is
+    ∙ end_next _ _ _ _ c.word_at.ensures c.in-Got.is)))
 
 pub returns : goal.returns
 unfolding address_of
 returns c =
     sym (ap connection_answer
-    (token_next _ _ _ _ c.word_token.ensures c.piece-1.given.1
-    ∙ token_next _ _ _ _ c.word_token-2.ensures c.piece-in-Got-word_token-2-1.given.1
-    ∙ text_next _ _ _ _ c.word_text.ensures c.piece-in-Got-word_text-1.given.1
-    ∙ end_next _ _ _ _ c.word_at.ensures c.enum_told-in_default-1.given.1))
+    (token_next _ _ _ _ c.word_token.ensures c.in-Got.is
+    ∙ token_next _ _ _ _ c.word_token-2.ensures c.in-Got.is
+    ∙ text_next _ _ _ _ c.word_text.ensures c.in-Got.is
+    ∙ end_next _ _ _ _ c.word_at.ensures c.in-Got.is))

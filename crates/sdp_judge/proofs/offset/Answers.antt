@@ -5,7 +5,7 @@ use Rattle.sdp_judge.proofs.SignedLaws.{offset_none, offset-plain, offset-minus}
 use Rattle.sdp_judge.proofs.offset.Goals as goal
 
 pub returns-then-s-eq0 : goal.returns-then-s-eq0
-returns-then-s-eq0 c = c.Signed-of.ensures ∙ offset_none _ _ c.typed_time.ensures c.if-s-eq0.true
+returns-then-s-eq0 c = c.signed_of.ensures ∙ offset_none _ _ c.typed_time.ensures c.if-s-eq0.true
 
 pub returns-then-s-eq45 : goal.returns-then-s-eq45
 returns-then-s-eq45 c =

@@ -2,4 +2,4 @@
 use Rattle.sdp_judge.proofs.signed_of.Goals as goal
 
 pub returns-in-Value : goal.returns-in-Value
-returns-in-Value c = rw c.n-1.given.1 c.signed.ensures
+returns-in-Value c = rw c.in-Value.is c.signed.ensures

@@ -2,10 +2,10 @@
 use Rattle.sdp_judge.proofs.wrong_of.Goals as goal
 
 pub returns-in-Format : goal.returns-in-Format
-returns-in-Format c = rw c.enum_told-1.given.1
+returns-in-Format c = rw c.in-Format.is
 
 pub returns-in-Missing : goal.returns-in-Missing
-returns-in-Missing c = rw c.enum_told-in-Missing-1.given.1
+returns-in-Missing c = rw c.in-Missing.is
 
 pub returns-in-Trailing : goal.returns-in-Trailing
-returns-in-Trailing c = rw c.enum_told-in-Trailing-1.given.1
+returns-in-Trailing c = rw c.in-Trailing.is

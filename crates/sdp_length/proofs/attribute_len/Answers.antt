@@ -4,6 +4,4 @@ use native.Mathlib.Omega.{arith}
 use Rattle.sdp_length.proofs.attribute_len.Goals as goal
 
 pub returns : goal.returns
-returns c =
-    c in
-    (omega (arith, attribute-line b.args.text.now b.args.area.now b.args.p), omega arith)
+returns c = (omega (arith, attribute-line c.args.text.now c.args.area.now c.args.p), omega arith)

@@ -9,5 +9,4 @@ use Rattle.sdp_length.proofs.bandwidth_len.Goals as goal
 
 pub returns : goal.returns
 returns c =
-    c in
-    (omega (arith, bandwidth-line b.args.text.now b.args.area.now b.args.p, c.digits_len.ensures.0 ∙ ap (λ (v : ℕ). length (digits v)) c.get8.ensures), omega arith)
+    (omega (arith, bandwidth-line c.args.text.now c.args.area.now c.args.p, c.digits_len.ensures.0 ∙ ap (λ (v : ℕ). length (digits v)) c.get8.ensures), omega arith)

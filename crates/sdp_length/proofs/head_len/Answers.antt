@@ -5,5 +5,4 @@ use Rattle.sdp_length.proofs.head_len.Goals as goal
 
 pub returns : goal.returns
 returns c =
-    c in
-    (omega (arith, head_lines_lem b.args.text.now b.args.area.now, c.line_len.ensures.0 0x73, c.maybe_line_len.ensures.0 0x69, c.maybe_line_len-2.ensures.0 0x75), omega arith)
+    (omega (arith, head_lines_lem c.args.text.now c.args.area.now, c.line_len.ensures.0 0x73, c.maybe_line_len.ensures.0 0x69, c.maybe_line_len-2.ensures.0 0x75), omega arith)

@@ -5,5 +5,4 @@ use Rattle.sdp_length.proofs.line_len.Goals as goal
 
 pub returns : goal.returns
 returns c =
-    c in
-    (λ l. omega (arith, string_line_lem b.args.text.now b.args.area.now l b.args.p), omega arith)
+    (λ l. omega (arith, string_line_lem c.args.text.now c.args.area.now l c.args.p), omega arith)

@@ -10,10 +10,8 @@ use Rattle.sdp_length.proofs.maybe_line_len.Goals as goal
 
 pub returns-then-get2-eq0 : goal.returns-then-get2-eq0
 returns-then-get2-eq0 c =
-    c in
-    (λ l. ap length (absent (string_line (bytes_of b.args.text.now) l) span_of _ _ _ c.get2.ensures.0 c.if-get2-eq0.true), omega arith)
+    (λ l. ap length (absent (string_line (bytes_of c.args.text.now) l) span_of _ _ _ c.get2.ensures.0 c.if-get2-eq0.true), omega arith)
 
 pub returns : goal.returns
 returns c =
-    c in
-    (λ l. c.line_len.ensures.0 l ∙ ap length (present (string_line (bytes_of b.args.text.now) l) span_of _ _ _ c.get2.ensures.0 c.if-get2-eq0.false), c.line_len.ensures.1)
+    (λ l. c.line_len.ensures.0 l ∙ ap length (present (string_line (bytes_of c.args.text.now) l) span_of _ _ _ c.get2.ensures.0 c.if-get2-eq0.false), c.line_len.ensures.1)

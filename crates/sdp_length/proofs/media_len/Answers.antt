@@ -9,5 +9,4 @@ use Rattle.sdp_length.proofs.media_len.Goals as goal
 
 pub returns : goal.returns
 returns c =
-    c in
-    (omega (arith, media-lines b.args.text.now b.args.area.now b.args.p, c.digits_len.ensures.0 ∙ ap (λ (v : ℕ). length (digits v)) c.get2.ensures.0, c.maybe_line_len.ensures.0 0x69), omega arith)
+    (omega (arith, media-lines c.args.text.now c.args.area.now c.args.p, c.digits_len.ensures.0 ∙ ap (λ (v : ℕ). length (digits v)) c.get2.ensures.0, c.maybe_line_len.ensures.0 0x69), omega arith)

@@ -8,5 +8,4 @@ returns-then-get2-eq0 c = (no_origin _ _ _ _ c.get2.ensures.0 c.if-get2-eq0.true
 
 pub returns : goal.returns
 returns c =
-    c in
-    (omega (arith, some_origin_lem b.args.text.now b.args.area.now 0 c.get2.result c.get2.ensures.0 c.if-get2-eq0.false), omega arith)
+    (omega (arith, some_origin_lem c.args.text.now c.args.area.now 0 c.get2.result c.get2.ensures.0 c.if-get2-eq0.false), omega arith)

@@ -9,5 +9,4 @@ use Rattle.sdp_length.proofs.origin_value_len.Goals as goal
 
 pub returns : goal.returns
 returns c =
-    c in
-    (omega (arith, origin_value_lem b.args.text.now b.args.area.now b.args.p, c.digits_len.ensures.0 ∙ ap (λ (v : ℕ). length (digits v)) c.get8.ensures), omega arith)
+    (omega (arith, origin_value_lem c.args.text.now c.args.area.now c.args.p, c.digits_len.ensures.0 ∙ ap (λ (v : ℕ). length (digits v)) c.get8.ensures), omega arith)

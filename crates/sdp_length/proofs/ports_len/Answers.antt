@@ -2,7 +2,7 @@
 use Rattle.sdp_row.proofs.LineLaws.{absent, present}
 use Rattle.sdp_decode.specs.Decode.{num2}
 use Rattle.sdp_put.specs.Digits.{digits}
-use mathlib.Core.List.{◌∷◌, ◌++◌}
+use mathlib.Core.List.{[], ◌∷◌, ◌++◌}
 use lib.ListN.{length}
 use mathlib.Core.Path.{ap, ◌∙◌}
 use Prim.Native.Nat.{ℕ}
@@ -11,10 +11,8 @@ use Rattle.sdp_length.proofs.ports_len.Goals as goal
 
 pub returns-then-get2-eq0 : goal.returns-then-get2-eq0
 returns-then-get2-eq0 c =
-    c in
     (ap length (absent (λ n. (0x2f ∷ []) ++ digits n) num2 _ _ _ c.get2.ensures.0 c.if-get2-eq0.true), omega arith)
 
 pub returns : goal.returns
 returns c =
-    c in
-    (omega (arith, ap length (present (λ n. (0x2f ∷ []) ++ digits n) num2 b.args.area.now b.args.p c.get2.result c.get2.ensures.0 c.if-get2-eq0.false), c.digits_len.ensures.0 ∙ ap (λ (v : ℕ). length (digits v)) c.get2-2.ensures.0), omega arith)
+    (omega (arith, ap length (present (λ n. (0x2f ∷ []) ++ digits n) num2 c.args.area.now c.args.p c.get2.result c.get2.ensures.0 c.if-get2-eq0.false), c.digits_len.ensures.0 ∙ ap (λ (v : ℕ). length (digits v)) c.get2-2.ensures.0), omega arith)

@@ -9,5 +9,4 @@ use Rattle.sdp_length.proofs.repeat_len.Goals as goal
 
 pub returns : goal.returns
 returns c =
-    c in
-    (omega (arith, repeat-line b.args.area.now b.args.p, c.time_len.ensures.0 ∙ ap (λ (v : ℕ). length (time_text v)) c.get8.ensures, c.time_len-2.ensures.0 ∙ ap (λ (v : ℕ). length (time_text v)) c.get8-2.ensures), omega arith)
+    (omega (arith, repeat-line c.args.area.now c.args.p, c.time_len.ensures.0 ∙ ap (λ (v : ℕ). length (time_text v)) c.get8.ensures, c.time_len-2.ensures.0 ∙ ap (λ (v : ℕ). length (time_text v)) c.get8-2.ensures), omega arith)

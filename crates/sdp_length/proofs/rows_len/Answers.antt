@@ -6,35 +6,31 @@ use Prim.Native.Nat.{◌-◌}
 use native.Mathlib.Omega.{arith}
 use Rattle.sdp_length.proofs.rows_len.Goals as goal
 
+pub loop-i-init : goal.loop-i-init
+loop-i-init c =
+    (c.get2-n.ensures.1, omega arith, omega arith, all_inside _ _ _ _ c.get2-n.ensures.0 c.requires.inside, sum_all (row_length c.args.text.now c.args.area.now c.args.kind) _ _ _ _ c.get2-n.ensures.0)
+
+pub row_len-sum-requires : goal.row_len-sum-requires
+row_len-sum-requires c =
+    let l = c.loop-i in
+    omega (arith, c.requires.kind_bound, (row_inside _ _ _ _ _ c.loop-i-test.true l.invariant.3).0)
+
+pub loop-i-preserved : goal.loop-i-preserved
+loop-i-preserved c =
+    (c.loop-i.invariant.0, omega arith, omega (arith, c.loop-i.invariant.2), (row_inside _ _ _ _ _ c.loop-i-test.true c.loop-i.invariant.3).1, sum_turn (row_length c.args.text.now c.args.area.now c.args.kind) _ _ _ _ _ _ c.loop-i.invariant.4 _ c.loop-i-test.true c.row_len-sum.ensures.0)
+
+pub returns : goal.returns
+returns c =
+    (sum_done (row_length c.args.text.now c.args.area.now c.args.kind) _ _ _ _ _ _ c.loop-i.invariant.4 c.loop-i-test.false, omega (arith, c.loop-i.invariant.2))
+
 pub get2-n-requires : goal.get2-n-requires
 get2-n-requires c = omega (arith, c.requires)
 
 pub overflow_add-p : goal.overflow_add-p
 overflow_add-p c = omega (arith, c.requires)
 
-pub loop-i-init : goal.loop-i-init
-loop-i-init c =
-    c in
-    (c.get2-n.ensures.1, omega arith, omega arith, all_inside _ _ _ _ c.get2-n.ensures.0 b.requires.1, sum_all (row_length b.args.text.now b.args.area.now b.args.kind) _ _ _ _ c.get2-n.ensures.0)
-
-pub row_len-sum-requires : goal.row_len-sum-requires
-row_len-sum-requires c =
-    c in
-    let l = c.loop-i in
-    omega (arith, b.requires.0, (row_inside _ _ _ _ _ c.loop-i-test.true l.invariant.3).0)
-
 pub overflow_add-sum : goal.overflow_add-sum
 overflow_add-sum c = omega (arith, c.loop-i.invariant.2)
 
 pub overflow_add-p-in-loop-i : goal.overflow_add-p-in-loop-i
 overflow_add-p-in-loop-i c = omega (arith, (row_inside _ _ _ _ _ c.loop-i-test.true c.loop-i.invariant.3).0)
-
-pub loop-i-preserved : goal.loop-i-preserved
-loop-i-preserved c =
-    c in
-    (l.loop.invariant.0, omega arith, omega (arith, l.loop.invariant.2), (row_inside _ _ _ _ _ c.loop-i-test.true l.loop.invariant.3).1, sum_turn (row_length c.args.text.now c.args.area.now c.args.kind) _ _ _ _ _ _ l.loop.invariant.4 _ c.loop-i-test.true c.row_len-sum.ensures.0)
-
-pub returns : goal.returns
-returns c =
-    c in
-    (sum_done (row_length b.args.text.now b.args.area.now b.args.kind) _ _ _ _ _ _ c.loop-i.invariant.4 c.loop-i-test.false, omega (arith, c.loop-i.invariant.2))

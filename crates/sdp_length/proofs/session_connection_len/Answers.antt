@@ -10,10 +10,8 @@ use Rattle.sdp_length.proofs.session_connection_len.Goals as goal
 
 pub returns-then-get2-eq0 : goal.returns-then-get2-eq0
 returns-then-get2-eq0 c =
-    c in
-    (ap length (absent (connection_line (bytes_of b.args.text.now)) connection_of _ _ _ c.get2.ensures.0 c.if-get2-eq0.true), omega arith)
+    (ap length (absent (connection_line (bytes_of c.args.text.now)) connection_of _ _ _ c.get2.ensures.0 c.if-get2-eq0.true), omega arith)
 
 pub returns : goal.returns
 returns c =
-    c in
-    (c.connection_len.ensures.0 ∙ ap length (present (connection_line (bytes_of b.args.text.now)) connection_of _ _ _ c.get2.ensures.0 c.if-get2-eq0.false), c.connection_len.ensures.1)
+    (c.connection_len.ensures.0 ∙ ap length (present (connection_line (bytes_of c.args.text.now)) connection_of _ _ _ c.get2.ensures.0 c.if-get2-eq0.false), c.connection_len.ensures.1)

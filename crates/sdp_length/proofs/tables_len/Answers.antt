@@ -4,6 +4,10 @@ use Rattle.sdp_valid.proofs.CountedLaws.{emails_inside, phones_inside, connectio
 use native.Mathlib.Omega.{arith}
 use Rattle.sdp_length.proofs.tables_len.Goals as goal
 
+pub returns : goal.returns
+unfolding tables_length
+returns c = (omega arith, omega arith)
+
 pub rows_len-requires : goal.rows_len-requires
 rows_len-requires c = record { kind_bound = omega arith; inside = emails_inside _ c.requires }
 
@@ -21,7 +25,3 @@ rows_len-requires-5 c = record { kind_bound = omega arith; inside = attributes_i
 
 pub rows_len-requires-6 : goal.rows_len-requires-6
 rows_len-requires-6 c = record { kind_bound = omega arith; inside = medias_inside _ c.requires }
-
-pub returns : goal.returns
-unfolding tables_length
-returns c = (omega arith, omega arith)

@@ -9,5 +9,4 @@ use Rattle.sdp_length.proofs.time_line_len.Goals as goal
 
 pub returns : goal.returns
 returns c =
-    c in
-    (omega (arith, time-line b.args.area.now b.args.p, c.digits_len.ensures.0 ∙ ap (λ (v : ℕ). length (digits v)) c.get8.ensures, c.digits_len-2.ensures.0 ∙ ap (λ (v : ℕ). length (digits v)) c.get8-2.ensures), omega arith)
+    (omega (arith, time-line c.args.area.now c.args.p, c.digits_len.ensures.0 ∙ ap (λ (v : ℕ). length (digits v)) c.get8.ensures, c.digits_len-2.ensures.0 ∙ ap (λ (v : ℕ). length (digits v)) c.get8-2.ensures), omega arith)

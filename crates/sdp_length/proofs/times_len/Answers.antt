@@ -4,15 +4,15 @@ use mathlib.Core.Path.{◌∙◌}
 use native.Mathlib.Omega.{arith}
 use Rattle.sdp_length.proofs.times_len.Goals as goal
 
-pub get2-requires : goal.get2-requires
-get2-requires c = omega (arith, c.requires)
-
 pub returns-then-get2-eq0 : goal.returns-then-get2-eq0
 returns-then-get2-eq0 c = (no_times _ _ c.get2.ensures.0 c.if-get2-eq0.true, omega arith)
-
-pub rows_len-requires : goal.rows_len-requires
-rows_len-requires c = record { kind_bound = omega arith; inside = c.requires }
 
 pub returns : goal.returns
 returns c =
     (c.rows_len.ensures.0 ∙ some_times _ _ c.get2.ensures.0 c.if-get2-eq0.false, c.rows_len.ensures.1)
+
+pub get2-requires : goal.get2-requires
+get2-requires c = omega (arith, c.requires)
+
+pub rows_len-requires : goal.rows_len-requires
+rows_len-requires c = record { kind_bound = omega arith; inside = c.requires }

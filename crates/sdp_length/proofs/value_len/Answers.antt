@@ -5,16 +5,14 @@ use Rattle.sdp_decode.specs.Decode.{span_of}
 use Rattle.sdp_put.specs.Strings.{clean}
 use lib.ListN.{length}
 use mathlib.Core.Path.{ap}
-use mathlib.Core.List.{◌∷◌, ◌++◌}
+use mathlib.Core.List.{[], ◌∷◌, ◌++◌}
 use native.Mathlib.Omega.{arith}
 use Rattle.sdp_length.proofs.value_len.Goals as goal
 
 pub returns-then-get2-eq0 : goal.returns-then-get2-eq0
 returns-then-get2-eq0 c =
-    c in
-    (ap length (absent (λ x. (0x3a ∷ []) ++ clean (bytes_of b.args.text.now x)) span_of _ _ _ c.get2.ensures.0 c.if-get2-eq0.true), omega arith)
+    (ap length (absent (λ x. (0x3a ∷ []) ++ clean (bytes_of c.args.text.now x)) span_of _ _ _ c.get2.ensures.0 c.if-get2-eq0.true), omega arith)
 
 pub returns : goal.returns
 returns c =
-    c in
-    (omega (arith, ap length (present (λ x. (0x3a ∷ []) ++ clean (bytes_of b.args.text.now x)) span_of b.args.area.now b.args.p c.get2.result c.get2.ensures.0 c.if-get2-eq0.false)), omega arith)
+    (omega (arith, ap length (present (λ x. (0x3a ∷ []) ++ clean (bytes_of c.args.text.now x)) span_of c.args.area.now c.args.p c.get2.result c.get2.ensures.0 c.if-get2-eq0.false)), omega arith)

@@ -4,6 +4,10 @@ use Rattle.sdp_valid.proofs.CountedLaws.{times_inside, repeats_inside, offsets_i
 use native.Mathlib.Omega.{arith}
 use Rattle.sdp_length.proofs.when_len.Goals as goal
 
+pub returns : goal.returns
+unfolding when_length
+returns c = (omega arith, omega arith)
+
 pub times_len-requires : goal.times_len-requires
 times_len-requires c = times_inside _ c.requires
 
@@ -15,7 +19,3 @@ rows_len-requires-2 c = record { kind_bound = omega arith; inside = offsets_insi
 
 pub zones_len-requires : goal.zones_len-requires
 zones_len-requires c = zones_inside _ c.requires
-
-pub returns : goal.returns
-unfolding when_length
-returns c = (omega arith, omega arith)

@@ -10,5 +10,4 @@ use Rattle.sdp_length.proofs.zone_len.Goals as goal
 
 pub returns : goal.returns
 returns c =
-    c in
-    (omega (arith, zone-text b.args.area.now b.args.p, c.digits_len.ensures.0 ∙ ap (λ (v : ℕ). length (digits v)) c.get8.ensures, c.signed_len.ensures.0 ∙ ap (λ (v : ℕ). length (signed_text v)) c.get8-2.ensures), omega arith)
+    (omega (arith, zone-text c.args.area.now c.args.p, c.digits_len.ensures.0 ∙ ap (λ (v : ℕ). length (digits v)) c.get8.ensures, c.signed_len.ensures.0 ∙ ap (λ (v : ℕ). length (signed_text v)) c.get8-2.ensures), omega arith)

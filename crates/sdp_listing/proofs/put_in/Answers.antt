@@ -4,5 +4,4 @@ use Rattle.sdp_listing.proofs.put_in.Goals as goal
 
 pub returns : goal.returns
 returns c =
-    c in
-    put_in_is _ _ _ _ _ _ _ _ _ r.place_of.ensures.0 r.shift_in.ensures r.shift-in2.ensures r.shift-in3.ensures
+    put_in_is _ _ _ _ _ _ _ _ _ c.place_of-p.ensures.0 c.shift_in.ensures c.shift_in-2.ensures c.shift_in-3.ensures

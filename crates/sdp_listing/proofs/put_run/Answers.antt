@@ -10,24 +10,23 @@ loop-k-init c = none_filled _ _ _ _ _ _ _ c.requires.3
 
 pub put_in-requires : goal.put_in-requires
 put_in-requires c =
-    c in
     (
-      omega (arith, l.requires.0, l.loop.invariant.rows, l.loop.invariant.ats),
-      omega (arith, l.requires.1, l.loop.invariant.rows, l.loop.invariant.times),
-      omega (arith, l.requires.2, l.loop.invariant.rows, l.loop.invariant.repeats),
+      omega (arith, c.requires.0, c.loop-k.invariant.rows, c.loop-k.invariant.ats),
+      omega (arith, c.requires.1, c.loop-k.invariant.rows, c.loop-k.invariant.times),
+      omega (arith, c.requires.2, c.loop-k.invariant.rows, c.loop-k.invariant.repeats),
     )
 
 pub overflow_add-m : goal.overflow_add-m
-overflow_add-m c =
-    c in
-    omega (arith, l.loop.invariant.rows, l.requires.0)
+overflow_add-m c = omega (arith, c.loop-k.invariant.rows, c.requires.0)
 
 pub loop-k-preserved : goal.loop-k-preserved
 loop-k-preserved c =
-    c in
-    let o = p.put_in.new in
-    one-filled _ _ _ _ _ _ _ _ (columns o.0 o.1.0 o.1.1.0) _ _ _ _ p.loop.invariant p.if1.true
-    p.put_in.ensures c.next_of-x.ensures
+    let o = c.put_in.new in
+    one-filled _ _ _ _ _ _ _ _ (columns o.0 o.1.0 o.1.1.0) _ _ _ _ c.loop-k.invariant c.loop-k-test.true
+    c.put_in.ensures c.next_of-x.ensures
+
+pub returns : goal.returns
+returns c = all_filled _ _ _ _ _ _ _ _ _ _ _ c.loop-k.invariant c.loop-k-test.false
 
 pub shape_of-at : goal.shape_of-at
 shape_of-at c = c.loop-k.invariant.ats
@@ -37,6 +36,3 @@ shape_of-time c = c.loop-k.invariant.times
 
 pub shape_of-repeat : goal.shape_of-repeat
 shape_of-repeat c = c.loop-k.invariant.repeats
-
-pub returns : goal.returns
-returns c = all_filled _ _ _ _ _ _ _ _ _ _ _ c.loop-k.invariant c.loop-k-test.false

@@ -6,7 +6,7 @@ use Rattle.sdp_listing.proofs.put_run.Given as goal
 
 abbrev pub invariant-loop-k : goal.invariant-loop-k
 invariant-loop-k l =
-    Filled (columns l.initial.at l.initial.time l.initial.repeat) l.n l.l.whose.l.time l.l.whose.l.repeat l.d l.l.run.count l.l.run.first (columns l.at l.time l.repeat) l.k l.m l.x
+    Filled (columns l.initial.at l.initial.time l.initial.repeat) l.n l.whose.time l.whose.repeat l.d l.run.count l.run.first (columns l.at l.time l.repeat) l.k l.m l.x
 
 abbrev pub decreases-loop-k : goal.decreases-loop-k
-decreases-loop-k l = l.l.run.count - l.k
+decreases-loop-k l = l.run.count - l.k

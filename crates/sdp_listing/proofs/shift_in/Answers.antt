@@ -11,13 +11,11 @@ loop-i-init c = (c.requires.0, refl, refl)
 
 pub loop-i-preserved : goal.loop-i-preserved
 loop-i-preserved c =
-    c in
-    let e = shift_turn _ _ _ _ c.loop-i-test.true (omega (arith, l.requires.1)) ∙ l.loop.invariant.2 in
+    let e = shift_turn _ _ _ _ c.loop-i-test.true (omega (arith, c.requires.1)) ∙ c.loop-i.invariant.2 in
     (omega arith, simp length-set (omega arith), e)
+
+pub returns : goal.returns
+returns c = shift_end _ _ _ _ c.loop-i-test.false (omega (arith, c.requires.1)) ∙ c.loop-i.invariant.2
 
 pub shape_of-a : goal.shape_of-a
 shape_of-a c = simp length-set (omega arith)
-
-pub returns : goal.returns
-returns c =
-    c in shift_end _ _ _ _ c.loop-i-test.false (omega (arith, l.requires.1)) ∙ l.loop.invariant.2

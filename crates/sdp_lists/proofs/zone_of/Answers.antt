@@ -2,7 +2,7 @@
 use Rattle.sdp_lists.proofs.zone_of.Goals as goal
 
 pub returns-in-Got : goal.returns-in-Got
-returns-in-Got c = rw c.offset-1.given.1
+returns-in-Got c = rw c.in-Got.is
 
 pub returns-in-Refused : goal.returns-in-Refused
-returns-in-Refused c = rw c.offset-in-Refused-1.given.1
+returns-in-Refused c = rw c.in-Refused.is

@@ -10,12 +10,12 @@ returns-then-s-i c = rw (le-ltb _ _ c.if-s-i.true)
 
 pub returns-in-Value : goal.returns-in-Value
 returns-in-Value c =
-    sym (ap port_answer (num_is c.args.s.now _ c.args.port _ _ c.if-s-i.false c.number16.ensures c.value-1.given.1))
+    sym (ap port_answer (num_is c.args.s.now _ c.args.port _ _ c.if-s-i.false c.number16.ensures c.in-Value.is))
 
 pub returns-in-Encoding : goal.returns-in-Encoding
 returns-in-Encoding c =
-    rw c.wrong_of.ensures (sym (ap port_answer (num_is c.args.s.now _ c.args.port _ _ c.if-s-i.false c.number16.ensures c.enum_told-1.given.1)))
+    rw c.wrong_of.ensures (sym (ap port_answer (num_is c.args.s.now _ c.args.port _ _ c.if-s-i.false c.number16.ensures c.in-Encoding.is)))
 
 pub returns-in-Format : goal.returns-in-Format
 returns-in-Format c =
-    rw c.wrong_of-in-Format.ensures (sym (ap port_answer (num_is c.args.s.now _ c.args.port _ _ c.if-s-i.false c.number16.ensures c.enum_told-in-Format-1.given.1)))
+    rw c.wrong_of-in-Format.ensures (sym (ap port_answer (num_is c.args.s.now _ c.args.port _ _ c.if-s-i.false c.number16.ensures c.in-Format.is)))

@@ -3,13 +3,13 @@ use Rattle.sdp_media_line.proofs.PortLaws.{port_field_lem}
 use Rattle.sdp_media_line.proofs.port_of.Goals as goal
 
 pub parse-requires : goal.parse-requires
-parse-requires c = (c.requires _ _ c.f-1.given.1).0
+parse-requires c = (c.requires _ _ c.in-Got.is).0
 
 pub returns-in-Nothing : goal.returns-in-Nothing
-returns-in-Nothing c = rw (c.wrong_of.ensures, c.enum_told-1.given.1)
+returns-in-Nothing c = rw (c.wrong_of.ensures, c.in-Nothing.is)
 
 pub returns-in-Got-parse : goal.returns-in-Got-parse
-returns-in-Got-parse c = port_field_lem c.args.v.now _ _ _ c.f-1.given.1 _ _ c.parse.ensures c.port-1.given.1
+returns-in-Got-parse c = port_field_lem c.args.v.now _ _ _ c.in-Got.is _ _ c.parse.ensures c.in-Got.is
 
 pub returns-in-Refused : goal.returns-in-Refused
-returns-in-Refused c = port_field_lem c.args.v.now _ _ _ c.f-1.given.1 _ _ c.parse.ensures c.x-1.given.1
+returns-in-Refused c = port_field_lem c.args.v.now _ _ _ c.in-Got.is _ _ c.parse.ensures c.in-Got.is

@@ -11,12 +11,12 @@ slice_bounds-number16-end c = sym (length-take-le _ _ (rw c.index_of-slash.ensur
 
 pub returns-in-Value : goal.returns-in-Value
 returns-in-Value c =
-    c.num_ports.ensures ∙ sym (ap port_answer (port_is _ _ _ _ c.index_of-slash.ensures c.number16.ensures c.n-1.given.1))
+    c.num_ports.ensures ∙ sym (ap port_answer (port_is _ _ _ _ c.index_of-slash.ensures c.number16.ensures c.in-Value.is))
 
 pub returns-in-Encoding : goal.returns-in-Encoding
 returns-in-Encoding c =
-    rw c.wrong_of.ensures (sym (ap port_answer (port_is _ _ _ _ c.index_of-slash.ensures c.number16.ensures c.enum_told-1.given.1)))
+    rw c.wrong_of.ensures (sym (ap port_answer (port_is _ _ _ _ c.index_of-slash.ensures c.number16.ensures c.in-Encoding.is)))
 
 pub returns-in-Format : goal.returns-in-Format
 returns-in-Format c =
-    rw c.wrong_of-in-Format.ensures (sym (ap port_answer (port_is _ _ _ _ c.index_of-slash.ensures c.number16.ensures c.enum_told-in-Format-1.given.1)))
+    rw c.wrong_of-in-Format.ensures (sym (ap port_answer (port_is _ _ _ _ c.index_of-slash.ensures c.number16.ensures c.in-Format.is)))

@@ -5,8 +5,6 @@ use native.Mathlib.Omega.{arith}
 use Rattle.sdp_number.proofs.NumberLaws.{started, empty, low, high, next, over, done}
 use Rattle.sdp_number.proofs.digits_to.Goals as goal
 
-)
-
 pub returns-then-s-eq0 : goal.returns-then-s-eq0
 returns-then-s-eq0 c = sym (empty _ _ c.if-s-eq0.true)
 
@@ -34,5 +32,6 @@ loop-i-preserved c =
   omega arith,
   rw c.wide-d.ensures (c.loop-i.invariant.2 ∙ next _ _ _ _ c.loop-i-test.true c.if-b-lt48.false c.if-b-gt57.false),
 
+    )
 pub returns : goal.returns
 returns c = sym (c.loop-i.invariant.2 ∙ done _ _ _ _ c.loop-i-test.false (omega arith))

@@ -4,11 +4,10 @@ use Rattle.sdp_number.proofs.NumberLaws.{number_value, number_encoding, number_f
 use Rattle.sdp_number.proofs.number_to.Goals as goal
 
 pub returns-in-Value : goal.returns-in-Value
-returns-in-Value c = number_value _ _ _ (sym c.numeral_to.ensures ∙ c.v-1.given.1)
+returns-in-Value c = number_value _ _ _ (sym c.numeral_to.ensures ∙ c.in-Value.is)
 
 pub returns-in-Encoding : goal.returns-in-Encoding
-returns-in-Encoding c = number_encoding _ _ (sym c.numeral_to.ensures ∙ c.enum_told-1.given.1)
+returns-in-Encoding c = number_encoding _ _ (sym c.numeral_to.ensures ∙ c.in-Encoding.is)
 
 pub returns-in-Format : goal.returns-in-Format
-returns-in-Format c =
-    c.refused.ensures ∙ number_format _ _ (sym c.numeral_to.ensures ∙ c.enum_told-in-Format-1.given.1)
+returns-in-Format c = c.refused.ensures ∙ number_format _ _ (sym c.numeral_to.ensures ∙ c.in-Format.is)

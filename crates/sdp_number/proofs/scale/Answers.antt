@@ -8,7 +8,7 @@ pub overflow_mul-result : goal.overflow_mul-result
 overflow_mul-result c = record { fits = scale_fits _ _ c.requires c.if-k-v.false }
 
 pub returns-then-k-v : goal.returns-then-k-v
-returns-then-k-v c = sym (ap (scaled _) c.n-1.given.1 ∙ scale_bad _ _ c.requires c.if-k-v.true)
+returns-then-k-v c = sym (ap (scaled _) c.in-Value.is ∙ scale_bad _ _ c.requires c.if-k-v.true)
 
 pub returns-else-k-v : goal.returns-else-k-v
-returns-else-k-v c = sym (ap (scaled _) c.n-1.given.1 ∙ scale_value _ _ c.requires c.if-k-v.false)
+returns-else-k-v c = sym (ap (scaled _) c.in-Value.is ∙ scale_value _ _ c.requires c.if-k-v.false)

@@ -6,10 +6,10 @@ use Rattle.sdp_order.proofs.ended.Goals as goal
 
 pub returns-in-End : goal.returns-in-End
 unfolding maybe_empty
-returns-in-End c = sym ((rw c.enum_told-1.given.1 at c.next_line.ensures) empty)
+returns-in-End c = sym ((rw c.in-End.is at c.next_line.ensures) empty)
 
 pub returns-in-Bad : goal.returns-in-Bad
-returns-in-Bad c = sym ((rw c.enum_told-in-Bad-1.given.1 at c.next_line.ensures) empty)
+returns-in-Bad c = sym ((rw c.in-Bad.is at c.next_line.ensures) empty)
 
 pub returns-in-Good : goal.returns-in-Good
-returns-in-Good c = sym (good_more _ _ _ _ (rw c.letter-1.given.1 at c.next_line.ensures))
+returns-in-Good c = sym (good_more _ _ _ _ (rw c.in-Good.is at c.next_line.ensures))

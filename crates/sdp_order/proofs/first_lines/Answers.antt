@@ -8,13 +8,12 @@ use Rattle.sdp_order.proofs.PassLaws.{leads_on, must_come}
 use Rattle.sdp_order.proofs.first_lines.Goals as goal
 
 pub returns-in_default : goal.returns-in_default
-returns-in_default c =
-    must_come _ start 0x76 _ Not (rw (c.new.ensures, c.enum_told-1.given.1) at c.line_with.ensures)
+returns-in_default c = must_come _ start 0x76 _ Not (rw (c.new.ensures, c.in_default.is) at c.line_with.ensures)
 
 pub returns-in_default-line_with : goal.returns-in_default-line_with
 returns-in_default-line_with c =
-    must_come _ start 0x76 _ (Past _) (rw (c.new.ensures, c.o-1.given.1) at c.line_with.ensures) ∙ must_come _ _ 0x6f _ Not (rw c.enum_told-in_default-line_with-1.given.1 at c.line_with-2.ensures)
+    must_come _ start 0x76 _ (Past _) (rw (c.new.ensures, c.in-Past.is) at c.line_with.ensures) ∙ must_come _ _ 0x6f _ Not (rw c.in-Past.is at c.line_with-2.ensures)
 
 pub returns : goal.returns
 returns c =
-    c.args.text.now in leads_on t grammar (parts_from 2 grammar) from_title start c.s-1.given.0.0 c.line_with-3.result (must_come t start 0x76 _ (Past _) (rw (c.new.ensures, c.o-1.given.1) at c.line_with.ensures) ∙ must_come t _ 0x6f _ (Past _) (rw c.s-1.given.1 at c.line_with-2.ensures)) (must_come t c.s-1.given.0.0 0x73 from_title c.line_with-3.result c.line_with-3.ensures)
+    let t = c.args.text.now in leads_on t grammar (parts_from 2 grammar) from_title start c.s-1.given.0.0 c.line_with-3.result (must_come t start 0x76 _ (Past _) (rw (c.new.ensures, c.in-Past.is) at c.line_with.ensures) ∙ must_come t _ 0x6f _ (Past _) (rw c.in-Past.is at c.line_with-2.ensures)) (must_come t c.s-1.given.0.0 0x73 from_title c.line_with-3.result c.line_with-3.ensures)

@@ -7,16 +7,16 @@ pub returns-then-text-gt32768 : goal.returns-then-text-gt32768
 returns-then-text-gt32768 c = too_long _ c.if-text-gt32768.true
 
 pub returns-in_default : goal.returns-in_default
-returns-in_default c = out_of_order _ c.if-text-gt32768.false (rw c.enum_told-1.given.1 at c.first_lines.ensures)
+returns-in_default c = out_of_order _ c.if-text-gt32768.false (rw c.in_default.is at c.first_lines.ensures)
 
 pub returns-in_default-time_lines : goal.returns-in_default-time_lines
 returns-in_default-time_lines c =
-    out_of_order _ c.if-text-gt32768.false ((rw c.i-1.given.1 at c.first_lines.ensures) ∙ c.session_lines-t.ensures ∙ (rw c.enum_told-in_default-time_lines-1.given.1 at c.time_lines.ensures))
+    out_of_order _ c.if-text-gt32768.false ((rw c.in-Past.is at c.first_lines.ensures) ∙ c.session_lines-t.ensures ∙ (rw c.in-Past.is at c.time_lines.ensures))
 
 pub returns-then-ended : goal.returns-then-ended
 returns-then-ended c =
-    in_order_lem _ c.if-text-gt32768.false ((rw c.i-1.given.1 at c.first_lines.ensures) ∙ c.session_lines-t.ensures ∙ (rw c.k-1.given.1 at c.time_lines.ensures) ∙ c.last_lines-m.ensures ∙ c.medias-end.ensures ∙ sym c.ended.ensures ∙ c.if-ended.true)
+    in_order_lem _ c.if-text-gt32768.false ((rw c.in-Past.is at c.first_lines.ensures) ∙ c.session_lines-t.ensures ∙ (rw c.in-Past.is at c.time_lines.ensures) ∙ c.last_lines-m.ensures ∙ c.medias-end.ensures ∙ sym c.ended.ensures ∙ c.if-ended.true)
 
 pub returns : goal.returns
 returns c =
-    out_of_order _ c.if-text-gt32768.false ((rw c.i-1.given.1 at c.first_lines.ensures) ∙ c.session_lines-t.ensures ∙ (rw c.k-1.given.1 at c.time_lines.ensures) ∙ c.last_lines-m.ensures ∙ c.medias-end.ensures ∙ sym c.ended.ensures ∙ c.if-ended.false)
+    out_of_order _ c.if-text-gt32768.false ((rw c.in-Past.is at c.first_lines.ensures) ∙ c.session_lines-t.ensures ∙ (rw c.in-Past.is at c.time_lines.ensures) ∙ c.last_lines-m.ensures ∙ c.medias-end.ensures ∙ sym c.ended.ensures ∙ c.if-ended.false)

@@ -9,7 +9,7 @@ use Rattle.sdp_order.proofs.many.Given as goal
 
 abbrev pub invariant-loop-next : goal.invariant-loop-next
 invariant-loop-next l =
-    (y : Expr) → begins l.l.l y ≡ false → Passes l.l.text (letter l.l.l * · y) (letter l.l.l * · y) l.l.initial.c l.l.c
+    (y : Expr) → begins l.l y ≡ false → Passes l.text (letter l.l * · y) (letter l.l * · y) l.initial.c l.c
 
 abbrev pub decreases-loop-next : goal.decreases-loop-next
-decreases-loop-next l = length l.l.text - l.l.l.c.at.0
+decreases-loop-next l = length l.text - l.c.at.0

@@ -9,4 +9,4 @@ abbrev pub invariant-loop-next : goal.invariant-loop-next
 invariant-loop-next l = run_from l.text l.initial.c from_media ≡ run_from l.text l.c from_media
 
 abbrev pub decreases-loop-next : goal.decreases-loop-next
-decreases-loop-next l = length l.text - l.l.c.at.0
+decreases-loop-next l = length l.text - l.c.at.0

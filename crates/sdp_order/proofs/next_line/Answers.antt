@@ -11,20 +11,20 @@ loop-fault-init c = record { onward = omega arith; same = λ x. refl }
 
 pub returns-in-End : goal.returns-in-End
 returns-in-End c =
-    c.loop-fault in λ x. l.invariant.same x ∙ seen _ l.c _ (sym c.cut.ensures ∙ c.enum_told-1.given.1) x
+    let l = c.loop-fault in λ x. l.invariant.same x ∙ seen _ l.c _ (sym c.cut.ensures ∙ c.in-End.is) x
 
 pub returns-in-Refused : goal.returns-in-Refused
 returns-in-Refused c =
-    c.loop-fault in λ x. l.invariant.same x ∙ seen _ l.c _ (sym c.cut.ensures ∙ c.fault-1.given.1) x
+    let l = c.loop-fault in λ x. l.invariant.same x ∙ seen _ l.c _ (sym c.cut.ensures ∙ c.in-Refused.is) x
 
 pub loop-fault-smaller : goal.loop-fault-smaller
 loop-fault-smaller c =
-    seen _ c.loop-fault.c _ (sym c.cut.ensures ∙ c.next-1.given.1) in omega (arith, h.0.stands, h.0.moved)
+    let h = seen _ c.loop-fault.c _ (sym c.cut.ensures ∙ c.in-Empty.is) in omega (arith, h.0.stands, h.0.moved)
 
 pub loop-fault-preserved : goal.loop-fault-preserved
 loop-fault-preserved c =
-    skips_empty _ _ _ c.loop-fault.invariant _ (seen _ c.loop-fault.c _ (sym c.cut.ensures ∙ c.next-1.given.1))
+    skips_empty _ _ _ c.loop-fault.invariant _ (seen _ c.loop-fault.c _ (sym c.cut.ensures ∙ c.in-Empty.is))
 
 pub returns-in-Line : goal.returns-in-Line
 returns-in-Line c =
-    follows_line _ _ _ c.loop-fault.invariant _ c.letter-1.given.0.1.0 _ (seen _ c.loop-fault.c _ (sym c.cut.ensures ∙ c.letter-1.given.1))
+    follows_line _ _ _ c.loop-fault.invariant _ c.letter-1.given.0.1.0 _ (seen _ c.loop-fault.c _ (sym c.cut.ensures ∙ c.in-Line.is))

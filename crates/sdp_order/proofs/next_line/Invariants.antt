@@ -8,4 +8,4 @@ abbrev pub invariant-loop-fault : goal.invariant-loop-fault
 invariant-loop-fault l = Skips l.text l.initial.c l.c
 
 abbrev pub decreases-loop-fault : goal.decreases-loop-fault
-decreases-loop-fault l = length l.text - l.l.c.at.0
+decreases-loop-fault l = length l.text - l.c.at.0

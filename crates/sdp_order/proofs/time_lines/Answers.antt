@@ -10,15 +10,14 @@ use Rattle.sdp_order.proofs.time_lines.Goals as goal
 
 pub returns-in_default : goal.returns-in_default
 returns-in_default c =
-    run_same _ _ _ _ first_time ∙ must_come _ _ 0x74 _ Not (rw c.enum_told-1.given.1 at c.line_with.ensures)
+    run_same _ _ _ _ first_time ∙ must_come _ _ 0x74 _ Not (rw c.in_default.is at c.line_with.ensures)
 
 pub returns-in-Through : goal.returns-in-Through
 returns-in-Through c =
-    run_same _ _ _ _ first_time ∙ must_come _ _ 0x74 _ (Past _) (rw c.first-1.given.1 at c.line_with.ensures) ∙ c.loop-next.invariant ∙ (rw c.next-1.given.1 at c.repeats.ensures)
+    run_same _ _ _ _ first_time ∙ must_come _ _ 0x74 _ (Past _) (rw c.in-Past.is at c.line_with.ensures) ∙ c.loop-next.invariant ∙ (rw c.in-Past.is at c.repeats.ensures)
 
 pub loop-next-smaller : goal.loop-next-smaller
-loop-next-smaller c =
-    rw c.next-in-AtRepeats-1.given.1 at c.repeats.ensures in omega (arith, h.0.stands, h.0.moved)
+loop-next-smaller c = let h = rw c.in-Past.is at c.repeats.ensures in omega (arith, h.0.stands, h.0.moved)
 
 pub loop-next-preserved : goal.loop-next-preserved
-loop-next-preserved c = c.loop-next.invariant ∙ (rw c.next-in-AtRepeats-1.given.1 at c.repeats.ensures).1
+loop-next-preserved c = c.loop-next.invariant ∙ (rw c.in-Past.is at c.repeats.ensures).1

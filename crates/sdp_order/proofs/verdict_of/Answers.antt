@@ -2,10 +2,10 @@
 use Rattle.sdp_order.proofs.verdict_of.Goals as goal
 
 pub returns-in-InOrder : goal.returns-in-InOrder
-returns-in-InOrder c = rw c.enum_told-1.given.1
+returns-in-InOrder c = rw c.in-InOrder.is
 
 pub returns-in-OutOfOrder : goal.returns-in-OutOfOrder
-returns-in-OutOfOrder c = rw c.enum_told-in-OutOfOrder-1.given.1
+returns-in-OutOfOrder c = rw c.in-OutOfOrder.is
 
 pub returns-in-TooLong : goal.returns-in-TooLong
-returns-in-TooLong c = rw c.enum_told-in-TooLong-1.given.1
+returns-in-TooLong c = rw c.in-TooLong.is

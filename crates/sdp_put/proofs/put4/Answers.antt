@@ -8,6 +8,13 @@ use Rattle.sdp_put.proofs.put4.Goals as goal
 pub returns-then-out-at-lt4 : goal.returns-then-out-at-lt4
 returns-then-out-at-lt4 c = c.put_two-next.ensures then c.put_two.ensures
 
+pub returns : goal.returns
+returns c =
+    let o = c.args.out.now in
+    let i = c.args.at in
+    let l : i + 4 ≤ length o = omega arith in
+    four_in o i _ _ _ _ l
+
 pub bounds-out-at-2 : goal.bounds-out-at-2
 bounds-out-at-2 c = simp length-set (omega arith)
 
@@ -16,10 +23,3 @@ bounds-out-at-3 c = simp length-set (omega arith)
 
 pub bounds-out-at-4 : goal.bounds-out-at-4
 bounds-out-at-4 c = simp length-set (omega arith)
-
-pub returns : goal.returns
-returns c =
-    let o = c.args.out.now in
-    let i = c.args.at in
-    let l : i + 4 ≤ length o = omega arith in
-    four_in o i _ _ _ _ l

@@ -4,6 +4,4 @@ use mathlib.Core.Path.{sym}
 use Rattle.sdp_put.proofs.put_clean.Goals as goal
 
 pub returns-then-quiet : goal.returns-then-quiet
-returns-then-quiet c =
-    c in
-    said (sym (k.quiet.ensures k.if2.true)) k.put_all.ensures
+returns-then-quiet c = said (sym (c.quiet.ensures c.if-quiet.true)) c.put_all.ensures

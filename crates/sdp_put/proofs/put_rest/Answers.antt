@@ -11,8 +11,7 @@ loop-i-init c = (refl, begin refl)
 
 pub loop-i-preserved : goal.loop-i-preserved
 loop-i-preserved c =
-    c in
-    (omega arith, turn k.loop.invariant.1 (clean_more _ _ k.loop-test.true) k.put-kept.ensures)
+    (omega arith, turn c.loop-i.invariant.1 (clean_more _ _ c.loop-i-test.true) c.put_kept-p.ensures)
 
 pub shape_of-out : goal.shape_of-out
 shape_of-out c = c.loop-i.invariant.0

@@ -12,8 +12,7 @@ loop-i-init c = (refl, begin refl)
 
 pub loop-i-preserved : goal.loop-i-preserved
 loop-i-preserved c =
-    c in
-    (omega arith, turn k.loop.invariant.1 (rest_more _ _ k.loop-test.true) k.put_byte.ensures)
+    (omega arith, turn c.loop-i.invariant.1 (rest_more _ _ c.loop-i-test.true) c.put_byte-p.ensures)
 
 pub shape_of-out : goal.shape_of-out
 shape_of-out c = c.loop-i.invariant.0

@@ -9,14 +9,14 @@ use Rattle.sdp_put.proofs.text_len.Goals as goal
 
 pub returns-then-end-place : goal.returns-then-end-place
 returns-then-end-place c =
-    c.end_of_lem.ensures in
+    let e = c.end_of-end.ensures in
     (sym (ap (λ s. length (clean s)) (part_upto _ _ _ _ e.0 e.1.0 e.1.1) ∙ ap length (clean_none _ _ _ c.if-end-place.true)), omega arith)
 
 pub returns-then-quiet : goal.returns-then-quiet
 returns-then-quiet c =
     let t = c.args.text.now in
-    let e = c.end_of_lem.ensures in
-    let n = length-take (c.end_of_lem.result - c.args.place) (drop c.args.place t) in
+    let e = c.end_of-end.ensures in
+    let n = length-take (c.end_of-end.result - c.args.place) (drop c.args.place t) in
     let d = length-drop c.args.place t in
     let w = ap length (ap clean (part_upto t _ c.args.place c.args.len e.0 e.1.0 e.1.1) ∙ c.quiet.ensures c.if-quiet.true) in
     (omega arith, omega arith)
@@ -24,8 +24,8 @@ returns-then-quiet c =
 pub returns : goal.returns
 returns c =
     let t = c.args.text.now in
-    let e = c.end_of_lem.ensures in
-    let n = length-take (c.end_of_lem.result - c.args.place) (drop c.args.place t) in
+    let e = c.end_of-end.ensures in
+    let n = length-take (c.end_of-end.result - c.args.place) (drop c.args.place t) in
     let d = length-drop c.args.place t in
     let w = ap (λ s. length (clean s)) (part_upto t _ c.args.place c.args.len e.0 e.1.0 e.1.1) in
-    (omega arith, omega (arith, length-clean (upto t c.end_of_lem.result c.args.place)))
+    (omega arith, omega (arith, length-clean (upto t c.end_of-end.result c.args.place)))

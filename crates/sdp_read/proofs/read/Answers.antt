@@ -18,7 +18,7 @@ pub returns-in-Accepted : goal.returns-in-Accepted
 returns-in-Accepted c =
     let a = c.args in
     rw c.plain-in-Accepted.ensures (says_accepted a.text.now a.area.now c.if-area-lt-AREA_SIZE.false c.if-text-gt32768.false _ _
-    (rw c.counts-1.given.1 at (c.read_text.ensures (drop area_size a.area.now) (cleared_empty a.area.now _ c.clear.ensures))))
+    (rw c.in-Accepted.is at (c.read_text.ensures (drop area_size a.area.now) (cleared_empty a.area.now _ c.clear.ensures))))
 
 pub returns-in-Unread : goal.returns-in-Unread
 returns-in-Unread c =
@@ -30,4 +30,4 @@ pub returns-in-Stopped : goal.returns-in-Stopped
 returns-in-Stopped c =
     let a = c.args in
     rw c.refused-in-Stopped.ensures (says_stopped a.text.now a.area.now c.if-area-lt-AREA_SIZE.false c.if-text-gt32768.false _ _ _
-    (rw c.x-in-Stopped-1.given.1 at (c.read_text.ensures (drop area_size a.area.now) (cleared_empty a.area.now _ c.clear.ensures))) c.clear-in-Stopped.ensures)
+    (rw c.in-Stopped.is at (c.read_text.ensures (drop area_size a.area.now) (cleared_empty a.area.now _ c.clear.ensures))) c.clear-in-Stopped.ensures)

@@ -22,11 +22,8 @@ row_room-sum-requires c =
     let h = row_inside _ _ _ _ _ c.loop-i-test.true c.loop-i.invariant.2 in
     omega (arith, h.0, c.requires.0)
 
-pub overflow_add-sum : goal.overflow_add-sum
-overflow_add-sum c = omega (arith, c.loop-i.invariant.3)
-
 pub overflow_add-p-in-loop-i : goal.overflow_add-p-in-loop-i
-overflow_add-p-in-loop-i c = row_inside _ _ _ _ _ c.loop-i-test.true c.loop-i.invariant.2 in omega (arith, h.0)
+overflow_add-p-in-loop-i c = let h = row_inside _ _ _ _ _ c.loop-i-test.true c.loop-i.invariant.2 in omega (arith, h.0)
 
 pub loop-i-preserved : goal.loop-i-preserved
 loop-i-preserved c =
@@ -40,5 +37,7 @@ loop-i-preserved c =
 
 pub returns : goal.returns
 returns c =
-    c in
-    (sum_done (row_room b.args.area.now b.args.row) _ _ _ _ _ _ c.loop-i.invariant.4 c.loop-i-test.false, omega (arith, c.loop-i.invariant.3))
+    (sum_done (row_room c.args.area.now c.args.row) _ _ _ _ _ _ c.loop-i.invariant.4 c.loop-i-test.false, omega (arith, c.loop-i.invariant.3))
+
+pub overflow_add-sum : goal.overflow_add-sum
+overflow_add-sum c = omega (arith, c.loop-i.invariant.3)

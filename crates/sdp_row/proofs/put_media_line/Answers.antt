@@ -8,10 +8,10 @@ use Prim.Native.Nat.{ℕ}
 use native.Mathlib.Omega.{arith}
 use Rattle.sdp_row.proofs.put_media_line.Goals as goal
 
-pub overflow_add-p-4 : goal.overflow_add-p-4
-overflow_add-p-4 c = omega (arith, c.well_formed, c.requires)
-
 pub returns : goal.returns
 unfolding media_line
 returns c =
     in_line c.put_two-b.ensures (c.put_string-c.ensures then said (ap (λ (v : ℕ). spaced (digits v)) c.get2.ensures.0) c.put_spaced_number-d.ensures then c.put_ports-e.ensures then c.put_spaced-f.ensures then c.put_spaced-g.ensures) c.put_two.ensures
+
+pub overflow_add-p-4 : goal.overflow_add-p-4
+overflow_add-p-4 c = omega (arith, c.well_formed, c.requires)

@@ -7,10 +7,10 @@ use Prim.Native.Nat.{ℕ}
 use native.Mathlib.Omega.{arith}
 use Rattle.sdp_row.proofs.put_origin_value.Goals as goal
 
-pub overflow_add-p-5 : goal.overflow_add-p-5
-overflow_add-p-5 c = omega (arith, c.well_formed, c.requires)
-
 pub returns : goal.returns
 unfolding origin_value
 returns c =
     c.put_username-b.ensures then c.put_spaced-c.ensures then said (ap (λ (v : ℕ). spaced (digits v)) c.get8.ensures) c.put_spaced_number-d.ensures then c.put_spaced-e.ensures then c.put_spaced-f.ensures then c.put_spaced.ensures
+
+pub overflow_add-p-5 : goal.overflow_add-p-5
+overflow_add-p-5 c = omega (arith, c.well_formed, c.requires)

@@ -4,7 +4,7 @@ use Rattle.sdp_put.proofs.OutLaws.{◌then◌, said, nothing}
 use Rattle.sdp_put.specs.Digits.{digits}
 use Rattle.sdp_decode.specs.Decode.{num2}
 use mathlib.Core.Path.{ap}
-use mathlib.Core.List.{◌∷◌, ◌++◌}
+use mathlib.Core.List.{[], ◌∷◌, ◌++◌}
 use Rattle.sdp_row.proofs.put_ports.Goals as goal
 
 pub returns-then-get2-eq0 : goal.returns-then-get2-eq0

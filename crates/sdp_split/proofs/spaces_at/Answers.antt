@@ -7,13 +7,14 @@ use Rattle.sdp_split.proofs.spaces_at.Goals as goal
 
 pub returns-then-v-j-ne32 : goal.returns-then-v-j-ne32
 returns-then-v-j-ne32 c =
-    c.loop-j in omega (arith, spaces-stop c.args.v.now l.j (omega arith) c.if-v-j-ne32.true, l.invariant.2)
+    let l = c.loop-j in omega (arith, spaces-stop c.args.v.now l.j (omega arith) c.if-v-j-ne32.true, l.invariant.2)
 
 pub loop-j-preserved : goal.loop-j-preserved
 loop-j-preserved c =
-    c.loop-j in
+    let l = c.loop-j in
     let e = spaces_next c.args.v.now l.j (omega arith) c.if-v-j-ne32.false in
     (omega arith, omega arith, omega (arith, e, l.invariant.2))
 
 pub returns : goal.returns
-returns c = c.loop-j in omega (arith, spaces_end c.args.v.now l.j (omega arith), l.invariant.2)
+returns c =
+    let l = c.loop-j in omega (arith, spaces_end c.args.v.now l.j (omega arith), l.invariant.2)

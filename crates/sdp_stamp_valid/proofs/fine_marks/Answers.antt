@@ -1,14 +1,10 @@
 -- `sdp_stamp_valid::fine_marks` meets its contract. The invariant: the marks and the cells that are left lie in the area, and give what
 -- all of them give. Assumes nothing.
 use Rattle.sdp_stamp_valid.proofs.FineLaws.{marks_all, marks_more, marks_not, marks_none}
-use borrow.Author.Tests.{not-true, not-false}
 use mathlib.Core.Path.{sym, ◌∙◌}
 use native.Mathlib.Omega.{arith}
 use Prim.Native.Nat.{◌-◌}
 use Rattle.sdp_stamp_valid.proofs.fine_marks.Goals as goal
-
-pub get2-n-requires : goal.get2-n-requires
-get2-n-requires c = omega (arith, c.requires.0)
 
 pub loop-i-init : goal.loop-i-init
 loop-i-init c =
@@ -23,8 +19,7 @@ fine_field-requires c =
 
 pub returns-then-not-fine_field : goal.returns-then-not-fine_field
 returns-then-not-fine_field c =
-    c in
-    sym (l.loop.invariant.3 ∙ marks_not _ _ _ _ _ c.loop-i-test.true (sym c.fine_field.ensures ∙ not-true _ c.if-not-fine_field.true))
+    sym (c.loop-i.invariant.3 ∙ marks_not _ _ _ _ _ c.loop-i-test.true (sym c.fine_field.ensures ∙ c.if-not-fine_field.true))
 
 pub overflow_add-m : goal.overflow_add-m
 overflow_add-m c = omega (arith, c.loop-i-test.true, c.loop-i.invariant.1)
@@ -39,8 +34,11 @@ loop-i-preserved c =
       omega (arith, t),
       omega (arith, t, h.1),
       omega (arith, t, h.2),
-      h.3 ∙ marks_more _ _ _ _ _ t (sym c.fine_field.ensures ∙ not-false _ c.if-not-fine_field.false),
+      h.3 ∙ marks_more _ _ _ _ _ t (sym c.fine_field.ensures ∙ c.if-not-fine_field.false),
     )
 
 pub returns : goal.returns
 returns c = sym (c.loop-i.invariant.3 ∙ marks_none _ _ _ _ _ c.loop-i-test.false)
+
+pub get2-n-requires : goal.get2-n-requires
+get2-n-requires c = omega (arith, c.requires.0)

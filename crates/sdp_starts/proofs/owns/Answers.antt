@@ -11,16 +11,14 @@ loop-i-init c =
 
 pub returns-then-num2-n : goal.returns-then-num2-n
 returns-then-num2-n c =
-    c in
-    sym (l.loop.invariant.3 ∙ owns_here _ _ _ _ _ _ _ c.loop-i-test.true c.num2.ensures.0 c.if-num2-n.true)
-
-pub overflow_add-p-in-loop-i : goal.overflow_add-p-in-loop-i
-overflow_add-p-in-loop-i c = omega (arith, c.loop-i.invariant.1, c.loop-i.invariant.0)
+    sym (c.loop-i.invariant.3 ∙ owns_here _ _ _ _ _ _ _ c.loop-i-test.true c.num2.ensures.0 c.if-num2-n.true)
 
 pub loop-i-preserved : goal.loop-i-preserved
 loop-i-preserved c =
-    c in
-    (l.loop.invariant.0, omega (arith, l.loop.invariant.1), omega arith, l.loop.invariant.3 ∙ owns_more _ _ _ _ _ _ _ c.loop-i-test.true c.num2.ensures.0 c.if-num2-n.false)
+    (c.loop-i.invariant.0, omega (arith, c.loop-i.invariant.1), omega arith, c.loop-i.invariant.3 ∙ owns_more _ _ _ _ _ _ _ c.loop-i-test.true c.num2.ensures.0 c.if-num2-n.false)
 
 pub returns : goal.returns
 returns c = sym (c.loop-i.invariant.3 ∙ owns_none _ _ _ _ _ _ c.loop-i-test.false)
+
+pub overflow_add-p-in-loop-i : goal.overflow_add-p-in-loop-i
+overflow_add-p-in-loop-i c = omega (arith, c.loop-i.invariant.1, c.loop-i.invariant.0)

@@ -11,6 +11,5 @@ returns-then-num2-j c = fills_as (mine-not _ _ _ c.num2.ensures.0 _ c.if-num2-j.
 
 pub returns : goal.returns
 returns c =
-    c in
-    fills_as (mine_is _ _ _ k.num2.ensures.0 _ _ k.if1.false (ap (λ (o : ℕ). series_of k.args.area.now (whose_by k.args.i k.args.j) k.args.rule o k.args.w) k.num8.ensures))
-    k.put-series.ensures
+    fills_as (mine_is _ _ _ c.num2.ensures.0 _ _ c.if-num2-j.false (ap (λ (o : ℕ). series_of c.args.area.now (whose_by c.args.i c.args.j) c.args.rule o c.args.w) c.num8-offset.ensures))
+    c.put_series.ensures

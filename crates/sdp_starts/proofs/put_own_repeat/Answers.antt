@@ -9,5 +9,4 @@ returns-then-num2-i c = fills_as (mine-not _ _ _ c.num2.ensures.0 _ c.if-num2-i.
 
 pub returns : goal.returns
 returns c =
-    c in
-    fills_as (mine_is _ _ _ k.num2.ensures.0 _ _ k.if1.false (repeat-row _ _ _ _ _ _ _ _ k.num8.ensures)) k.put-repeat.ensures
+    fills_as (mine_is _ _ _ c.num2.ensures.0 _ _ c.if-num2-i.false (repeat-row _ _ _ _ _ _ _ _ c.num8.ensures)) c.put_repeat.ensures

@@ -16,12 +16,11 @@ returns-then-room-count c =
 
 pub put_run-requires : goal.put_run-requires
 put_run-requires c =
-    c.run_in_part-run in
+    let r = c.run_in_part-run in
     let f : c.args.w.to < 2 ^ 64 = omega (arith, c.well_formed) in
     (omega (arith, c.requires.ats), omega (arith, c.requires.times), omega (arith, c.requires.repeats), fits-run _ _ _ f _ r.ensures)
 
 pub returns : goal.returns
 returns c =
-    c in
-    let f : i.args.w.to < 2 ^ 64 = omega (arith, i.well-formed) in
-    part-put _ _ _ _ f _ i.run_in_part.ensures _ _ _ _ refl (omega (arith, i.if1.false, i.if2.false)) c.put_run.ensures
+    let f : c.args.w.to < 2 ^ 64 = omega (arith, c.well_formed) in
+    part-put _ _ _ _ f _ c.run_in_part-run.ensures _ _ _ _ refl (omega (arith, c.if-n-gt-MOST.false, c.if-room-count.false)) c.put_run.ensures

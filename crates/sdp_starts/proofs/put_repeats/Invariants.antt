@@ -1,13 +1,22 @@
 -- `sdp_starts::put_repeats` meets its contract. Assumes nothing.
--- what a row lists
+use Rattle.sdp_area.specs.Session.{Repeat}
+use Rattle.sdp_hours.specs.Listing.{Start}
+use Rattle.sdp_decode.specs.Rows.{mine}
+use Rattle.sdp_window.specs.declared.Window.{Window}
+use Rattle.sdp_starts.specs.Fill.{repeat_in, time_for}
 use Rattle.sdp_area.specs.Area.{repeats_at}
 use Rattle.sdp_decode.specs.Decode.{repeat_of}
 use Rattle.sdp_listing.specs.Columns.{columns}
 use Rattle.sdp_starts.proofs.RowLaws.{Left}
 use mathlib.Core.Path.{◌≡◌}
-use Prim.Native.Nat.{◌-◌}
+use mathlib.Core.List.{List}
+use Prim.Native.Nat.{ℕ, ◌-◌}
 use lib.ListN.{length}
 use Rattle.sdp_starts.proofs.put_repeats.Given as goal
+
+-- what a row lists
+abbrev pub row : List ℕ → ℕ → ℕ → ℕ → Window → ℕ → Repeat → List Start
+row a i start stop w j r = mine i r.owner (repeat_in a w i (time_for start stop) j r)
 
 abbrev pub invariant-loop-j : goal.invariant-loop-j
 invariant-loop-j l =

@@ -8,10 +8,8 @@ returns-then-start-eq0 c = fills_as (time_zero _ _ _ _ _ c.num8-start.ensures c.
 
 pub returns-then-owns : goal.returns-then-owns
 returns-then-owns c =
-    c in
-    fills_as (time_some _ _ _ _ _ k.num8.ensures _ k.num82.ensures _ k.owns.ensures k.if1.false k.if2.true) k.put-repeats.ensures
+    fills_as (time_some _ _ _ _ _ c.num8-start.ensures _ c.num8-stop.ensures _ c.owns.ensures c.if-start-eq0.false c.if-owns.true) c.put_repeats.ensures
 
 pub returns : goal.returns
 returns c =
-    c in
-    fills_as (time-once _ _ _ _ _ k.num8.ensures _ k.num82.ensures _ k.owns.ensures k.if1.false k.if2.false) k.put-once.ensures
+    fills_as (time-once _ _ _ _ _ c.num8-start.ensures _ c.num8-stop.ensures _ c.owns.ensures c.if-start-eq0.false c.if-owns.false) c.put_once.ensures

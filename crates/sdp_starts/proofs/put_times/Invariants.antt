@@ -1,13 +1,21 @@
 -- `sdp_starts::put_times` meets its contract. Assumes nothing.
--- what a row lists
+use Rattle.sdp_area.specs.Session.{Time}
+use Rattle.sdp_hours.specs.Listing.{Start}
+use Rattle.sdp_window.specs.declared.Window.{Window}
+use Rattle.sdp_starts.specs.Fill.{time_in}
 use Rattle.sdp_area.specs.Area.{times_at}
 use Rattle.sdp_decode.specs.Decode.{time_of}
 use Rattle.sdp_listing.specs.Columns.{columns}
 use Rattle.sdp_starts.proofs.RowLaws.{Left}
 use mathlib.Core.Path.{◌≡◌}
-use Prim.Native.Nat.{◌-◌}
+use mathlib.Core.List.{List}
+use Prim.Native.Nat.{ℕ, ◌-◌}
 use lib.ListN.{length}
 use Rattle.sdp_starts.proofs.put_times.Given as goal
+
+-- what a row lists
+abbrev pub row : List ℕ → Window → ℕ → Time → List Start
+row a w i t = time_in a w i t
 
 abbrev pub invariant-loop-i : goal.invariant-loop-i
 invariant-loop-i l =

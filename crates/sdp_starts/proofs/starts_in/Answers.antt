@@ -1,6 +1,6 @@
 -- `sdp_starts::starts_in` meets its contract. Assumes nothing.
 use mathlib.Core.Path.{sym, ◌∙◌}
-use borrow.Author.Tests.{not-true, not-false}
+use mathlib.Core.List.{[]}
 use Rattle.sdp_starts.proofs.ToldLaws.{refused_as, none_held, zeros_roomy, told-unfit, told_fall, told_many, told_list}
 use Rattle.sdp_starts.proofs.starts_in.Goals as goal
 
@@ -10,22 +10,17 @@ returns-then-number-ne0 c =
 
 pub returns-then-not-zones_rise : goal.returns-then-not-zones_rise
 returns-then-not-zones_rise c =
-    c in
     refused_as _ _ _ c.refused-then-not-zones_rise.ensures
-    (told_fall _ _ _ _ _ z.unfit.ensures z.if1.false (sym z.zones-rise.ensures ∙ not-true _ c.if-not-zones_rise.true))
+    (told_fall _ _ _ _ _ c.unfit-number.ensures c.if-number-ne0.false (sym c.zones_rise.ensures ∙ c.if-not-zones_rise.true))
 
 pub put_times-n-requires : goal.put_times-n-requires
-put_times-n-requires c =
-    c in
-    (zeros_roomy, sym t.zones-rise.ensures ∙ not-false _ t.if2.false)
+put_times-n-requires c = (zeros_roomy, sym c.zones_rise.ensures ∙ c.if-not-zones_rise.false)
 
 pub returns-then-n-gt-MOST : goal.returns-then-n-gt-MOST
 returns-then-n-gt-MOST c =
-    c in
     refused_as _ _ _ c.refused-then-n-gt-MOST.ensures
-    (told_many _ _ _ _ _ p.unfit.ensures p.if1.false (sym p.zones-rise.ensures ∙ not-false _ p.if2.false) _ _ (p.put-times.ensures.holds [] none_held) c.if-n-gt-MOST.true)
+    (told_many _ _ _ _ _ c.unfit-number.ensures c.if-number-ne0.false (sym c.zones_rise.ensures ∙ c.if-not-zones_rise.false) _ _ (c.put_times-n.ensures.holds [] none_held) c.if-n-gt-MOST.true)
 
 pub returns : goal.returns
 returns c =
-    c in
-    told_list _ _ _ _ _ p.unfit.ensures p.if1.false (sym p.zones-rise.ensures ∙ not-false _ p.if2.false) _ _ (p.put-times.ensures.holds [] none_held) c.if-n-gt-MOST.false
+    told_list _ _ _ _ _ c.unfit-number.ensures c.if-number-ne0.false (sym c.zones_rise.ensures ∙ c.if-not-zones_rise.false) _ _ (c.put_times-n.ensures.holds [] none_held) c.if-n-gt-MOST.false

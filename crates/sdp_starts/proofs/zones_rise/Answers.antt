@@ -10,16 +10,14 @@ loop-i-init c = (c.num2-rows.ensures.1, omega arith, omega arith, rise_all _ _ c
 
 pub returns-then-a-last : goal.returns-then-a-last
 returns-then-a-last c =
-    c in
-    sym (l.loop.invariant.3 ∙ rise_falls _ _ _ _ _ _ c.loop-i-test.true c.num8-a.ensures c.if-a-last.true)
-
-pub overflow_add-p-in-loop-i : goal.overflow_add-p-in-loop-i
-overflow_add-p-in-loop-i c = omega (arith, c.loop-i.invariant.1, c.loop-i.invariant.0)
+    sym (c.loop-i.invariant.3 ∙ rise_falls _ _ _ _ _ _ c.loop-i-test.true c.num8-a.ensures c.if-a-last.true)
 
 pub loop-i-preserved : goal.loop-i-preserved
 loop-i-preserved c =
-    c in
-    (l.loop.invariant.0, omega (arith, l.loop.invariant.1), omega arith, l.loop.invariant.3 ∙ rise_more _ _ _ _ _ _ c.loop-i-test.true c.num8-a.ensures c.if-a-last.false)
+    (c.loop-i.invariant.0, omega (arith, c.loop-i.invariant.1), omega arith, c.loop-i.invariant.3 ∙ rise_more _ _ _ _ _ _ c.loop-i-test.true c.num8-a.ensures c.if-a-last.false)
 
 pub returns : goal.returns
 returns c = sym (c.loop-i.invariant.3 ∙ rise_none _ _ _ _ _ c.loop-i-test.false)
+
+pub overflow_add-p-in-loop-i : goal.overflow_add-p-in-loop-i
+overflow_add-p-in-loop-i c = omega (arith, c.loop-i.invariant.1, c.loop-i.invariant.0)

@@ -2,4 +2,4 @@
 use Rattle.sdp_strings.proofs.maybe_of.Goals as goal
 
 pub returns : goal.returns
-returns c = rw c.Span-of.ensures
+returns c = rw c.span_of.ensures

@@ -4,7 +4,7 @@ use Rattle.sdp_put.proofs.OutLaws.{◌then◌, said, nothing}
 use Rattle.sdp_put.specs.Strings.{clean}
 use Rattle.sdp_lines.specs.Strings.{bytes_of}
 use Rattle.sdp_decode.specs.Decode.{span_of}
-use mathlib.Core.List.{◌∷◌, ◌++◌}
+use mathlib.Core.List.{[], ◌∷◌, ◌++◌}
 use Rattle.sdp_table_row.proofs.put_value.Goals as goal
 
 pub returns-then-get2-eq0 : goal.returns-then-get2-eq0

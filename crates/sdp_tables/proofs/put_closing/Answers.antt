@@ -8,11 +8,11 @@ use Rattle.sdp_decode.specs.Decode.{attribute_of, decode}
 use mathlib.Core.Path.{refl}
 use Rattle.sdp_tables.proofs.put_closing.Goals as goal
 
-pub put_mine_of-requires : goal.put_mine_of-requires
-put_mine_of-requires c =
-    record { w_value = (refl, attributes_inside _ c.requires.counted); never_fall = attributes-rise _ c.requires.area_value }
-
 pub returns : goal.returns
 unfolding closing_lines decode
 returns c =
     c.put_zone_line-b.ensures then said (each_rows _ attribute_of 12 _ _ _ _) c.put_mine_of.ensures
+
+pub put_mine_of-requires : goal.put_mine_of-requires
+put_mine_of-requires c =
+    record { w_value = (refl, attributes_inside _ c.requires.counted); never_fall = attributes-rise _ c.requires.area_value }

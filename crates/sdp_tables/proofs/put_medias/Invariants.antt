@@ -1,11 +1,18 @@
 -- `sdp_tables::put_medias` meets its contract. Assumes nothing.
--- an m line with those of its media
 use Rattle.sdp_tables.proofs.RowLaws.{Left}
+use Rattle.sdp_lines.specs.Strings.{bytes_of}
+use Rattle.sdp_row.specs.Written.{media_lines}
+use Rattle.sdp_decode.specs.Decode.{media_of, decode}
 use Rattle.sdp_area.specs.Area.{medias_at}
 use mathlib.Core.Path.{◌≡◌}
-use Prim.Native.Nat.{◌-◌}
+use mathlib.Core.List.{List}
+use Prim.Native.Nat.{ℕ, ◌-◌}
 use lib.ListN.{length}
 use Rattle.sdp_tables.proofs.put_medias.Given as goal
+
+-- an m line with those of its media
+abbrev pub lines : List ℕ → List ℕ → ℕ → ℕ → List ℕ
+lines t a k p = media_lines (bytes_of t) (decode a).tables k (media_of a p)
 
 abbrev pub invariant-loop-i : goal.invariant-loop-i
 invariant-loop-i l =

@@ -11,11 +11,11 @@ use mathlib.Core.Path.{refl, ap}
 use Prim.Native.Nat.{ℕ}
 use Rattle.sdp_tables.proofs.put_repeat.Goals as goal
 
-pub put_mine_of-e-requires : goal.put_mine_of-e-requires
-put_mine_of-e-requires c =
-    record { w_value = (refl, offsets_inside _ c.requires.counted.0); never_fall = offsets-rise _ c.requires.counted.1 }
-
 pub returns : goal.returns
 unfolding repeat_line
 returns c =
     in_line c.put_two-b.ensures (said (ap time_text c.get8.ensures) c.put_time-c.ensures then said (ap (λ (v : ℕ). spaced (time_text v)) c.get8-2.ensures) c.put_spaced_time-d.ensures then said (each_rows _ offset_of 10 _ _ _ _) c.put_mine_of-e.ensures) c.put_two.ensures
+
+pub put_mine_of-e-requires : goal.put_mine_of-e-requires
+put_mine_of-e-requires c =
+    record { w_value = (refl, offsets_inside _ c.requires.counted.0); never_fall = offsets-rise _ c.requires.counted.1 }

@@ -12,9 +12,9 @@ use Rattle.sdp_tables.proofs.put_zone_line.Goals as goal
 pub returns-then-get2-eq0 : goal.returns-then-get2-eq0
 returns-then-get2-eq0 c = said (zones_none _ _ _ _ c.get2.ensures.0 c.if-get2-eq0.true) (nothing _ _)
 
-pub put_rows-c-requires : goal.put_rows-c-requires
-put_rows-c-requires c = (refl, zones_inside _ c.requires)
-
 pub returns : goal.returns
 returns c =
     said (zones_some _ _ _ _ c.get2.ensures.0 c.if-get2-eq0.false) (in_line c.put_two-b.ensures (said (each_rows zone_text zone_of 16 _ _ _ _) c.put_rows-c.ensures) c.put_two.ensures)
+
+pub put_rows-c-requires : goal.put_rows-c-requires
+put_rows-c-requires c = (refl, zones_inside _ c.requires)

@@ -13,28 +13,28 @@ loop-w-init c =
 
 pub returns-in-Refused : goal.returns-in-Refused
 returns-in-Refused c =
-    let z = c.loop-w.invariant.2 ρ q a₀ t h o k in (offsets_wrong ρ _ a₀ t _ h q _ _ c.loop-w.room z.done (repeating_wrong _ _ ρ.session h.within q t _ _ _ z _ (sym c.repeat_offset.ensures ∙ c.w-1.given.1)) z.holds)
+    let z = c.loop-w.invariant.2 ρ q a₀ t h o k in (offsets_wrong ρ _ a₀ t _ h q _ _ c.loop-w.room z.done (repeating_wrong _ _ ρ.session h.within q t _ _ _ z _ (sym c.repeat_offset.ensures ∙ c.in-Refused.is)) z.holds)
 
 pub loop-w-smaller : goal.loop-w-smaller
-loop-w-smaller c = (offset_next _ _ _ _ (sym c.repeat_offset.ensures ∙ c.value-1.given.1)).1 in omega arith
+loop-w-smaller c = let m = (offset_next _ _ _ _ (sym c.repeat_offset.ensures ∙ c.in-Got.is)).1 in omega arith
 
 pub loop-w-preserved : goal.loop-w-preserved
 loop-w-preserved c =
-    (sym c.repeat_offset.ensures ∙ c.value-1.given.1) in
+    let e = (sym c.repeat_offset.ensures ∙ c.in-Got.is) in
     let m = (offset_next _ _ _ _ e).1 in
     (search rules, omega arith, λ ρ q a₀ t h o k. repeating_next _ _ ρ.session h.within q t _ _ _ (c.loop-w.invariant.2 ρ q a₀ t h o k) _ _ _ _ e c.add_offset-room.ensures.value (rw o at c.add_offset-room.ensures.area_after))
 
 pub returns-in-Open : goal.returns-in-Open
 returns-in-Open c =
-    (c.loop-w.invariant.2 ρ q a₀ t h o k) in
-    offsets-kept ρ _ a₀ t _ h q _ z.done (repeating_all _ _ ρ.session h.within q t _ _ _ z (sym c.repeat_offset.ensures ∙ c.enum_told-1.given.1)) (rw c.enum_told-in-Open-1.given.1 at z.holds)
+    let z = (c.loop-w.invariant.2 ρ q a₀ t h o k) in
+    offsets-kept ρ _ a₀ t _ h q _ z.done (repeating_all _ _ ρ.session h.within q t _ _ _ z (sym c.repeat_offset.ensures ∙ c.in-Done.is)) (rw c.in-Done.is at z.holds)
 
 pub returns-in-NoRepeats : goal.returns-in-NoRepeats
 returns-in-NoRepeats c =
-    (c.loop-w.invariant.2 ρ q a₀ t h o k) in
-    offsets_six ρ _ a₀ t _ h q _ z.done (repeating_all _ _ ρ.session h.within q t _ _ _ z (sym c.repeat_offset.ensures ∙ c.enum_told-1.given.1)) (rw c.enum_told-in-NoRepeats-1.given.1 at z.holds)
+    let z = (c.loop-w.invariant.2 ρ q a₀ t h o k) in
+    offsets_six ρ _ a₀ t _ h q _ z.done (repeating_all _ _ ρ.session h.within q t _ _ _ z (sym c.repeat_offset.ensures ∙ c.in-Done.is)) (rw c.in-Done.is at z.holds)
 
 pub returns-in-NoOffsets : goal.returns-in-NoOffsets
 returns-in-NoOffsets c =
-    (c.loop-w.invariant.2 ρ q a₀ t h o k) in
-    offsets_seven ρ _ a₀ t _ h q _ z.done (repeating_all _ _ ρ.session h.within q t _ _ _ z (sym c.repeat_offset.ensures ∙ c.enum_told-1.given.1)) (rw c.enum_told-in-NoOffsets-1.given.1 at z.holds)
+    let z = (c.loop-w.invariant.2 ρ q a₀ t h o k) in
+    offsets_seven ρ _ a₀ t _ h q _ z.done (repeating_all _ _ ρ.session h.within q t _ _ _ z (sym c.repeat_offset.ensures ∙ c.in-Done.is)) (rw c.in-Done.is at z.holds)

@@ -4,6 +4,7 @@ use Rattle.sdp_area.specs.Area.{times_at}
 use Prim.Native.Nat.{ℕ, ◌+◌}
 use native.Mathlib.Omega.{arith}
 use mathlib.Core.Path.{refl, sym, ap, ◌∙◌}
+use mathlib.Core.List.{[]}
 use Rattle.sdp_lists.proofs.RestLaws.{head_next}
 use Rattle.sdp_area.proofs.GrownLaws.{times_count, repeats_count, repeats-grown}
 use Rattle.sdp_strings.specs.Strings.{span_at}
@@ -16,27 +17,27 @@ use Rattle.sdp_take_list.proofs.take_repeat.Goals as goal
 pub returns-in_default : goal.returns-in_default
 unfolding step_role
 returns-in_default c =
-    none_latest (num 2 c.args.area.now times_at) (sym c.latest_time.ensures ∙ c.enum_told-1.given.1) in
+    let e = none_latest (num 2 c.args.area.now times_at) (sym c.latest_time.ensures ∙ c.in_default.is) in
     rw (rw (times_count ρ.session t h.within c.args.area.now h.bytes) at e) (refl, tail_of h)
 
 pub take_offsets-requires : goal.take_offsets-requires
-take_offsets-requires c = (omega arith, head_next _ _ (repeat_got _ _ (sym c.parse.ensures ∙ c.h-1.given.1)))
+take_offsets-requires c = (omega arith, head_next _ _ (repeat_got _ _ (sym c.parse.ensures ∙ c.in-Time.is)))
 
 pub returns-in-Refused : goal.returns-in-Refused
 unfolding step_role
 returns-in-Refused c =
-    (some_latest (num 2 c.args.area.now times_at) _ (sym c.latest_time.ensures ∙ c.time-1.given.1)).0 in
-    let f = repeat-refused _ _ (sym c.parse.ensures ∙ c.w-1.given.1) in
+    let e = (some_latest (num 2 c.args.area.now times_at) _ (sym c.latest_time.ensures ∙ c.in-Time.is)).0 in
+    let f = repeat-refused _ _ (sym c.parse.ensures ∙ c.in-Time.is) in
     rw (rw (times_count ρ.session t h.within c.args.area.now h.bytes) at e, head_wrong (span_at c.args.at []) ρ c.args.v.now c.w-1.given.0.0 f) (refl, tail_of h)
 
 pub returns-in-Got : goal.returns-in-Got
 unfolding step_role
 returns-in-Got c =
-    some_latest (num 2 c.args.area.now times_at) _ (sym c.latest_time.ensures ∙ c.time-1.given.1) in
-    let f = repeat_got _ _ (sym c.parse.ensures ∙ c.h-1.given.1) in
+    let s = some_latest (num 2 c.args.area.now times_at) _ (sym c.latest_time.ensures ∙ c.in-Time.is) in
+    let f = repeat_got _ _ (sym c.parse.ensures ∙ c.in-Time.is) in
     let k = s.1 ∙ times_count ρ.session t h.within c.args.area.now h.bytes in
     let o = ap (λ (i : ℕ). i + 1) (c.repeats-owner.ensures.0 ∙ repeats_count ρ.session t h.within _ h.bytes) in
     let g = repeats-grown ρ.session t h.within _ h.bytes _ in
     let u = c.push_repeat-p.ensures in
-    let r = room_begin ρ.session h.within _ _ _ t (u.0 ∙ g.0) (u.1 ∙ g.1) in
+    let r = room_begin ρ.session h.within _ _ _ t (u.value ∙ g.0) (u.area_after ∙ g.1) in
     rw (rw (times_count ρ.session t h.within c.args.area.now h.bytes) at s.0, head_got (span_at c.args.at []) ρ c.args.v.now c.h-1.given.0.0 f, ← k) (c.take_offsets.ensures ρ _ _ t h o (rw (← c.repeat_room.ensures) at r))

@@ -4,6 +4,7 @@ use Prim.Native.Nat.{◌-◌}
 use native.Mathlib.Omega.{arith}
 use mathlib.Core.Path.{refl, sym, ap, ◌∙◌}
 use mathlib.Core.Bool.{false}
+use mathlib.Core.List.{[]}
 use borrow.Author.Rules.{rules}
 use Rattle.sdp_lists.proofs.RestLaws.{zone_next}
 use Rattle.sdp_step.specs.Step.{step_role}
@@ -25,26 +26,26 @@ loop-w-init c =
 pub returns-in-Refused : goal.returns-in-Refused
 unfolding step_role
 returns-in-Refused c =
-    (once_wrong 17 _ _ _ _ _ (sym (ap (λ (m : Marks). m.zoned) h.marks) ∙ c.if-marks.false) _ (zoning_wrong _ ρ.session h.within t _ _ _ (c.loop-w.invariant.3 ρ t h (sym (ap (λ (m : Marks). m.zoned) h.marks) ∙ c.if-marks.false)) _ (sym c.parse.ensures ∙ c.w-1.given.1)) (zoning_tail _ ρ.session h.within t _ _ _ (c.loop-w.invariant.3 ρ t h (sym (ap (λ (m : Marks). m.zoned) h.marks) ∙ c.if-marks.false))))
+    (once_wrong 17 _ _ _ _ _ (sym (ap (λ (m : Marks). m.zoned) h.marks) ∙ c.if-marks.false) _ (zoning_wrong _ ρ.session h.within t _ _ _ (c.loop-w.invariant.3 ρ t h (sym (ap (λ (m : Marks). m.zoned) h.marks) ∙ c.if-marks.false)) _ (sym c.parse.ensures ∙ c.in-Refused.is)) (zoning_tail _ ρ.session h.within t _ _ _ (c.loop-w.invariant.3 ρ t h (sym (ap (λ (m : Marks). m.zoned) h.marks) ∙ c.if-marks.false))))
 
 pub overflow_add-n : goal.overflow_add-n
 overflow_add-n c = omega (arith, c.requires.1)
 
 pub loop-w-smaller : goal.loop-w-smaller
-loop-w-smaller c = (zone_next _ _ _ _ (sym c.parse.ensures ∙ c.zone-1.given.1)).1 in omega arith
+loop-w-smaller c = let m = (zone_next _ _ _ _ (sym c.parse.ensures ∙ c.in-Got.is)).1 in omega arith
 
 pub loop-w-preserved : goal.loop-w-preserved
 loop-w-preserved c =
-    (sym c.parse.ensures ∙ c.zone-1.given.1) in
+    let e = (sym c.parse.ensures ∙ c.in-Got.is) in
     let m = (zone_next _ _ _ _ e).1 in
     (search rules, omega arith, omega arith, λ ρ t h u. zoning_next _ ρ.session h.within t _ _ _ (c.loop-w.invariant.3 ρ t h u) _ _ _ e c.push_zone.ensures.area_after)
 
 pub returns-then-pairs-gt64 : goal.returns-then-pairs-gt64
 unfolding step_role
 returns-then-pairs-gt64 c =
-    once_then 17 _ _ _ _ _ (sym (ap (λ (m : Marks). m.zoned) h.marks) ∙ c.if-marks.false) _ _ (zoning_all _ ρ.session h.within t _ _ _ (c.loop-w.invariant.3 ρ t h (sym (ap (λ (m : Marks). m.zoned) h.marks) ∙ c.if-marks.false)) (sym c.parse.ensures ∙ c.enum_told-1.given.1)) (zones_full (span_at c.args.at []) _ ρ _ _ t _ h _ _ (c.loop-w.invariant.3 ρ t h (sym (ap (λ (m : Marks). m.zoned) h.marks) ∙ c.if-marks.false)) c.if-pairs-gt64.true)
+    once_then 17 _ _ _ _ _ (sym (ap (λ (m : Marks). m.zoned) h.marks) ∙ c.if-marks.false) _ _ (zoning_all _ ρ.session h.within t _ _ _ (c.loop-w.invariant.3 ρ t h (sym (ap (λ (m : Marks). m.zoned) h.marks) ∙ c.if-marks.false)) (sym c.parse.ensures ∙ c.in-Done.is)) (zones_full (span_at c.args.at []) _ ρ _ _ t _ h _ _ (c.loop-w.invariant.3 ρ t h (sym (ap (λ (m : Marks). m.zoned) h.marks) ∙ c.if-marks.false)) c.if-pairs-gt64.true)
 
 pub returns : goal.returns
 unfolding step_role
 returns c =
-    once_then 17 _ _ _ _ _ (sym (ap (λ (m : Marks). m.zoned) h.marks) ∙ c.if-marks.false) _ _ (zoning_all _ ρ.session h.within t _ _ _ (c.loop-w.invariant.3 ρ t h (sym (ap (λ (m : Marks). m.zoned) h.marks) ∙ c.if-marks.false)) (sym c.parse.ensures ∙ c.enum_told-1.given.1)) (zones-kept (span_at c.args.at []) _ ρ _ _ t _ h _ _ (c.loop-w.invariant.3 ρ t h (sym (ap (λ (m : Marks). m.zoned) h.marks) ∙ c.if-marks.false)) c.if-pairs-gt64.false)
+    once_then 17 _ _ _ _ _ (sym (ap (λ (m : Marks). m.zoned) h.marks) ∙ c.if-marks.false) _ _ (zoning_all _ ρ.session h.within t _ _ _ (c.loop-w.invariant.3 ρ t h (sym (ap (λ (m : Marks). m.zoned) h.marks) ∙ c.if-marks.false)) (sym c.parse.ensures ∙ c.in-Done.is)) (zones-kept (span_at c.args.at []) _ ρ _ _ t _ h _ _ (c.loop-w.invariant.3 ρ t h (sym (ap (λ (m : Marks). m.zoned) h.marks) ∙ c.if-marks.false)) c.if-pairs-gt64.false)

@@ -17,15 +17,15 @@ returns-then-has_connection c =
 
 pub span_of-nettype-requires : goal.span_of-nettype-requires
 span_of-nettype-requires c =
-    omega (arith, (connection_within _ _ (connection_got _ _ (sym c.parse.ensures ∙ c.c-1.given.1))).nettype, c.requires.1)
+    omega (arith, (connection_within _ _ (connection_got _ _ (sym c.parse.ensures ∙ c.in-Got.is))).nettype, c.requires.1)
 
 pub span_of-addrtype-requires : goal.span_of-addrtype-requires
 span_of-addrtype-requires c =
-    omega (arith, (connection_within _ _ (connection_got _ _ (sym c.parse.ensures ∙ c.c-1.given.1))).addrtype, c.requires.1)
+    omega (arith, (connection_within _ _ (connection_got _ _ (sym c.parse.ensures ∙ c.in-Got.is))).addrtype, c.requires.1)
 
 pub span_of-address-requires : goal.span_of-address-requires
 span_of-address-requires c =
-    omega (arith, (connection_within _ _ (connection_got _ _ (sym c.parse.ensures ∙ c.c-1.given.1))).address, c.requires.1)
+    omega (arith, (connection_within _ _ (connection_got _ _ (sym c.parse.ensures ∙ c.in-Got.is))).address, c.requires.1)
 
 pub set_connection-requires : goal.set_connection-requires
 set_connection-requires c = omega (arith, c.requires.0)
@@ -33,9 +33,9 @@ set_connection-requires c = omega (arith, c.requires.0)
 pub returns-in-Refused : goal.returns-in-Refused
 unfolding step_role
 returns-in-Refused c =
-    (once_wrong 16 _ _ _ (held h) t (sym (connection_mark ρ.session t h.within _ h.bytes) ∙ sym c.has_connection.ensures ∙ c.if-has_connection.false) _ (connection_refused _ _ (sym c.parse.ensures ∙ c.w-1.given.1)) (tail_of h))
+    (once_wrong 16 _ _ _ (held h) t (sym (connection_mark ρ.session t h.within _ h.bytes) ∙ sym c.has_connection.ensures ∙ c.if-has_connection.false) _ (connection_refused _ _ (sym c.parse.ensures ∙ c.in-Refused.is)) (tail_of h))
 
 pub returns-in-Got : goal.returns-in-Got
 unfolding step_role
 returns-in-Got c =
-    once-kept 16 _ _ _ _ _ (sym (connection_mark ρ.session t h.within _ h.bytes) ∙ sym c.has_connection.ensures ∙ c.if-has_connection.false) _ _ _ (connection_got _ _ (sym c.parse.ensures ∙ c.c-1.given.1)) refl (head_kept ρ _ _ _ _ t _ h h.marks (c.set_connection.ensures ∙ rw (c.Span-of.ensures, c.span_of-addrtype.ensures, c.span_of-address.ensures) (connection_set ρ.session t h.within _ h.bytes _)))
+    once-kept 16 _ _ _ _ _ (sym (connection_mark ρ.session t h.within _ h.bytes) ∙ sym c.has_connection.ensures ∙ c.if-has_connection.false) _ _ _ (connection_got _ _ (sym c.parse.ensures ∙ c.in-Got.is)) refl (head_kept ρ _ _ _ _ t _ h h.marks (c.set_connection.ensures ∙ rw (c.span_of-nettype.ensures, c.span_of-addrtype.ensures, c.span_of-address.ensures) (connection_set ρ.session t h.within _ h.bytes _)))

@@ -19,7 +19,7 @@ returns-then-marks c =
 
 pub span_of-x-requires : goal.span_of-x-requires
 span_of-x-requires c =
-    omega (arith, whole-within _ _ _ (whole_got _ _ (sym c.whole.ensures ∙ c.p-1.given.1)), c.requires.1)
+    omega (arith, whole-within _ _ _ (whole_got _ _ (sym c.whole.ensures ∙ c.in-Got.is)), c.requires.1)
 
 pub set_name-requires : goal.set_name-requires
 set_name-requires c = omega (arith, c.requires.0)
@@ -27,9 +27,9 @@ set_name-requires c = omega (arith, c.requires.0)
 pub returns-in-Refused : goal.returns-in-Refused
 unfolding step_role
 returns-in-Refused c =
-    (once_wrong 13 _ _ _ (held h) t (sym (ap (λ (m : Marks). m.named) h.marks) ∙ c.if-marks.false) _ (whole-refused _ _ (sym c.whole.ensures ∙ c.w-1.given.1)) (tail_of h))
+    (once_wrong 13 _ _ _ (held h) t (sym (ap (λ (m : Marks). m.named) h.marks) ∙ c.if-marks.false) _ (whole-refused _ _ (sym c.whole.ensures ∙ c.in-Refused.is)) (tail_of h))
 
 pub returns-in-Got : goal.returns-in-Got
 unfolding step_role
 returns-in-Got c =
-    once-kept 13 _ _ _ _ _ (sym (ap (λ (m : Marks). m.named) h.marks) ∙ c.if-marks.false) _ _ _ (whole_got _ _ (sym c.whole.ensures ∙ c.p-1.given.1)) refl (head_kept ρ _ _ _ _ t _ h (ap (λ (m : Marks). record { named = true; zoned = m.zoned }) h.marks) (c.set_name.ensures ∙ rw c.Span-of.ensures (name_set ρ.session t h.within _ h.bytes _)))
+    once-kept 13 _ _ _ _ _ (sym (ap (λ (m : Marks). m.named) h.marks) ∙ c.if-marks.false) _ _ _ (whole_got _ _ (sym c.whole.ensures ∙ c.in-Got.is)) refl (head_kept ρ _ _ _ _ t _ h (ap (λ (m : Marks). record { named = true; zoned = m.zoned }) h.marks) (c.set_name.ensures ∙ rw c.span_of-x.ensures (name_set ρ.session t h.within _ h.bytes _)))

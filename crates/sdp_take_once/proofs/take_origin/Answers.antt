@@ -17,23 +17,23 @@ returns-then-has_origin c =
 
 pub maybe_of-username-requires : goal.maybe_of-username-requires
 maybe_of-username-requires c =
-    omega (arith, (origin_within _ _ (origin_got _ _ (sym c.parse.ensures ∙ c.o-1.given.1))).username, c.requires.1)
+    omega (arith, (origin_within _ _ (origin_got _ _ (sym c.parse.ensures ∙ c.in-Got.is))).username, c.requires.1)
 
 pub span_of-sess_id-requires : goal.span_of-sess_id-requires
 span_of-sess_id-requires c =
-    omega (arith, (origin_within _ _ (origin_got _ _ (sym c.parse.ensures ∙ c.o-1.given.1))).id, c.requires.1)
+    omega (arith, (origin_within _ _ (origin_got _ _ (sym c.parse.ensures ∙ c.in-Got.is))).id, c.requires.1)
 
 pub span_of-nettype-requires : goal.span_of-nettype-requires
 span_of-nettype-requires c =
-    omega (arith, (origin_within _ _ (origin_got _ _ (sym c.parse.ensures ∙ c.o-1.given.1))).nettype, c.requires.1)
+    omega (arith, (origin_within _ _ (origin_got _ _ (sym c.parse.ensures ∙ c.in-Got.is))).nettype, c.requires.1)
 
 pub span_of-addrtype-requires : goal.span_of-addrtype-requires
 span_of-addrtype-requires c =
-    omega (arith, (origin_within _ _ (origin_got _ _ (sym c.parse.ensures ∙ c.o-1.given.1))).addrtype, c.requires.1)
+    omega (arith, (origin_within _ _ (origin_got _ _ (sym c.parse.ensures ∙ c.in-Got.is))).addrtype, c.requires.1)
 
 pub span_of-address-requires : goal.span_of-address-requires
 span_of-address-requires c =
-    omega (arith, (origin_within _ _ (origin_got _ _ (sym c.parse.ensures ∙ c.o-1.given.1))).address, c.requires.1)
+    omega (arith, (origin_within _ _ (origin_got _ _ (sym c.parse.ensures ∙ c.in-Got.is))).address, c.requires.1)
 
 pub set_origin-requires : goal.set_origin-requires
 set_origin-requires c = omega (arith, c.requires.0)
@@ -41,9 +41,9 @@ set_origin-requires c = omega (arith, c.requires.0)
 pub returns-in-Refused : goal.returns-in-Refused
 unfolding step_role
 returns-in-Refused c =
-    (once_wrong 12 _ _ _ (held h) t (sym (origin_mark ρ.session t h.within _ h.bytes) ∙ sym c.has_origin.ensures ∙ c.if-has_origin.false) _ (origin_refused _ _ (sym c.parse.ensures ∙ c.w-1.given.1)) (tail_of h))
+    (once_wrong 12 _ _ _ (held h) t (sym (origin_mark ρ.session t h.within _ h.bytes) ∙ sym c.has_origin.ensures ∙ c.if-has_origin.false) _ (origin_refused _ _ (sym c.parse.ensures ∙ c.in-Refused.is)) (tail_of h))
 
 pub returns-in-Got : goal.returns-in-Got
 unfolding step_role
 returns-in-Got c =
-    once-kept 12 _ _ _ _ _ (sym (origin_mark ρ.session t h.within _ h.bytes) ∙ sym c.has_origin.ensures ∙ c.if-has_origin.false) _ _ _ (origin_got _ _ (sym c.parse.ensures ∙ c.o-1.given.1)) refl (head_kept ρ _ _ _ _ t _ h h.marks (c.set_origin.ensures ∙ rw (c.maybe_of-username.ensures, c.Span-of.ensures, c.span_of-nettype.ensures, c.span_of-addrtype.ensures, c.span_of-address.ensures) (origin_set ρ.session t h.within _ h.bytes _)))
+    once-kept 12 _ _ _ _ _ (sym (origin_mark ρ.session t h.within _ h.bytes) ∙ sym c.has_origin.ensures ∙ c.if-has_origin.false) _ _ _ (origin_got _ _ (sym c.parse.ensures ∙ c.in-Got.is)) refl (head_kept ρ _ _ _ _ t _ h h.marks (c.set_origin.ensures ∙ rw (c.maybe_of-username.ensures, c.span_of-sess_id.ensures, c.span_of-nettype.ensures, c.span_of-addrtype.ensures, c.span_of-address.ensures) (origin_set ρ.session t h.within _ h.bytes _)))

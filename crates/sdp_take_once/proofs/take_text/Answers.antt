@@ -19,14 +19,14 @@ returns-then-has_text c =
 
 pub span_of-x-requires : goal.span_of-x-requires
 span_of-x-requires c =
-    omega (arith, whole-within _ _ _ (whole_got _ _ (sym c.whole.ensures ∙ c.p-1.given.1)), c.requires.1)
+    omega (arith, whole-within _ _ _ (whole_got _ _ (sym c.whole.ensures ∙ c.in-Got.is)), c.requires.1)
 
 pub returns-in-Refused : goal.returns-in-Refused
 returns-in-Refused c =
     let b = c.args in
-    (text_wrong ρ b.marks b.area.now t h (span_at b.at b.v.now) b.v.now b.which (sym c.has_text.ensures ∙ c.if-has_text.false) _ c.text_field.ensures _ (whole-refused _ _ (sym c.whole.ensures ∙ c.w-1.given.1)))
+    (text_wrong ρ b.marks b.area.now t h (span_at b.at b.v.now) b.v.now b.which (sym c.has_text.ensures ∙ c.if-has_text.false) _ c.text_field.ensures _ (whole-refused _ _ (sym c.whole.ensures ∙ c.in-Refused.is)))
 
 pub returns-in-Got : goal.returns-in-Got
 returns-in-Got c =
     let b = c.args in
-    text-kept ρ b.marks b.area.now t h (span_at b.at b.v.now) b.v.now b.which (sym c.has_text.ensures ∙ c.if-has_text.false) _ c.text_field.ensures _ _ (whole_got _ _ (sym c.whole.ensures ∙ c.p-1.given.1)) (c.set_text.ensures ∙ ap (λ (y : Span). over_text b.which b.area.now (le 2 1 ++ span y)) c.Span-of.ensures)
+    text-kept ρ b.marks b.area.now t h (span_at b.at b.v.now) b.v.now b.which (sym c.has_text.ensures ∙ c.if-has_text.false) _ c.text_field.ensures _ _ (whole_got _ _ (sym c.whole.ensures ∙ c.in-Got.is)) (c.set_text.ensures ∙ ap (λ (y : Span). over_text b.which b.area.now (le 2 1 ++ span y)) c.span_of-x.ensures)

@@ -9,6 +9,7 @@ use Rattle.sdp_step.proofs.AnswerLaws.{attribute_got, attribute-refused}
 use Rattle.sdp_step.proofs.HandleLaws.{row_wrong, row_pushed}
 use Rattle.sdp_step.proofs.TailLaws.{held, tail_of}
 use Rattle.sdp_step.proofs.WithinLaws.{within-attributes}
+use mathlib.Core.List.{[]}
 use Rattle.sdp_strings.specs.Strings.{span_at}
 use lib.ListN.{length}
 use Rattle.sdp_step.specs.Step.{attribute_in}
@@ -16,19 +17,19 @@ use Rattle.sdp_take_row.proofs.take_attribute.Goals as goal
 
 pub span_of-name-requires : goal.span_of-name-requires
 span_of-name-requires c =
-    omega (arith, (attribute-within _ _ (attribute_got _ _ (sym c.parse.ensures ∙ c.k-1.given.1))).attribute, c.requires.1)
+    omega (arith, (attribute-within _ _ (attribute_got _ _ (sym c.parse.ensures ∙ c.in-Got.is))).attribute, c.requires.1)
 
 pub maybe_of-value-requires : goal.maybe_of-value-requires
 maybe_of-value-requires c =
-    omega (arith, (attribute-within _ _ (attribute_got _ _ (sym c.parse.ensures ∙ c.k-1.given.1))).value, c.requires.1)
+    omega (arith, (attribute-within _ _ (attribute_got _ _ (sym c.parse.ensures ∙ c.in-Got.is))).value, c.requires.1)
 
 pub returns-in-Refused : goal.returns-in-Refused
 unfolding step_role
 returns-in-Refused c =
-    (row_wrong 9 512 _ _ _ (held h) t _ (attribute-refused _ _ (sym c.parse.ensures ∙ c.w-1.given.1)) (tail_of h))
+    (row_wrong 9 512 _ _ _ (held h) t _ (attribute-refused _ _ (sym c.parse.ensures ∙ c.in-Refused.is)) (tail_of h))
 
 pub returns-in-Got : goal.returns-in-Got
 unfolding step_role
 returns-in-Got c =
-    attribute_in (span_at c.args.at []) (length ρ.session.tables.medias) c.k-1.given.0.0 in
-    rw c.stored.ensures (row_pushed 9 512 ρ.session.tables.attributes _ _ _ (attribute_got _ _ (sym c.parse.ensures ∙ c.k-1.given.1)) q (with_attributes ρ.session) _ t _ _ ρ h _ (c.push_attribute-p.ensures.value ∙ (attributes-grown ρ.session t h.within _ h.bytes q).0) (c.push_attribute-p.ensures.area_after ∙ rw (c.medias-owner.ensures.0, medias_count ρ.session t h.within _ h.bytes, c.Span-of.ensures, c.maybe_of-value.ensures) (attributes-grown ρ.session t h.within _ h.bytes q).1) (within-attributes ρ.session h.within) refl refl refl)
+    let q = attribute_in (span_at c.args.at []) (length ρ.session.tables.medias) c.k-1.given.0.0 in
+    rw c.stored.ensures (row_pushed 9 512 ρ.session.tables.attributes _ _ _ (attribute_got _ _ (sym c.parse.ensures ∙ c.in-Got.is)) q (with_attributes ρ.session) _ t _ _ ρ h _ (c.push_attribute-p.ensures.value ∙ (attributes-grown ρ.session t h.within _ h.bytes q).0) (c.push_attribute-p.ensures.area_after ∙ rw (c.medias-owner.ensures.0, medias_count ρ.session t h.within _ h.bytes, c.span_of-name.ensures, c.maybe_of-value.ensures) (attributes-grown ρ.session t h.within _ h.bytes q).1) (within-attributes ρ.session h.within) refl refl refl)

@@ -8,9 +8,9 @@ pub returns-in-Zero : goal.returns-in-Zero
 returns-in-Zero c =
     let a = c.args in
     rw (c.one_kept.ensures, c.marks_of.ensures)
-    (ap (opened_turn_to a.state) (sym c.enum_told-1.given.1 ∙ (rw (part_is a.text.now a.value) at c.opening_line.ensures)))
+    (ap (opened_turn_to a.state) (sym c.in-Zero.is ∙ (rw (part_is a.text.now a.value) at c.opening_line.ensures)))
 
 pub returns-in-Refused : goal.returns-in-Refused
 returns-in-Refused c =
     let a = c.args in
-    ap (opened_turn_to a.state) (sym c.x-1.given.1 ∙ (rw (part_is a.text.now a.value) at c.opening_line.ensures))
+    ap (opened_turn_to a.state) (sym c.in-Refused.is ∙ (rw (part_is a.text.now a.value) at c.opening_line.ensures))

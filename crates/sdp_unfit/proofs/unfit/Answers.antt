@@ -1,7 +1,6 @@
 -- `sdp_unfit::unfit` meets its contract. Assumes nothing.
 use mathlib.Core.Path.{sym, ◌∙◌}
 use native.Mathlib.Omega.{arith}
-use borrow.Author.Tests.{not-true, not-false}
 use Rattle.sdp_unfit.proofs.UnfitLaws.{formed_counted, area_short, text_long, bad_session_lem, bad_lines, fit}
 use Rattle.sdp_unfit.proofs.unfit.Goals as goal
 
@@ -13,21 +12,19 @@ returns-then-text-gt32768 c = sym (text_long _ _ c.if-area-lt-AREA_SIZE.false c.
 
 pub returns-then-not-judge : goal.returns-then-not-judge
 returns-then-not-judge c =
-    sym (bad_session_lem _ _ c.if-area-lt-AREA_SIZE.false c.if-text-gt32768.false (sym c.judge.ensures ∙ not-true _ c.if-not-judge.true))
+    sym (bad_session_lem _ _ c.if-area-lt-AREA_SIZE.false c.if-text-gt32768.false (sym c.judge.ensures ∙ c.if-not-judge.true))
 
 pub lines_fine-requires : goal.lines_fine-requires
 lines_fine-requires c =
     let p = c.if-area-lt-AREA_SIZE.false in
-    (formed_counted _ _ (omega (arith, p)) (sym c.judge.ensures ∙ not-false _ c.if-not-judge.false), p)
+    (formed_counted _ _ (omega (arith, p)) (sym c.judge.ensures ∙ c.if-not-judge.false), p)
 
 pub returns-then-not-lines_fine : goal.returns-then-not-lines_fine
 returns-then-not-lines_fine c =
-    c in
-    sym (bad_lines _ _ k.if1.false k.if2.false (sym c.lines_fine.ensures ∙ not-true _ c.if-not-lines_fine.true))
+    sym (bad_lines _ _ c.if-area-lt-AREA_SIZE.false c.if-text-gt32768.false (sym c.lines_fine.ensures ∙ c.if-not-lines_fine.true))
 
 pub returns : goal.returns
 returns c =
-    c in
-    sym (fit _ _ k.if1.false k.if2.false
-    (sym k.judge.ensures ∙ not-false _ k.if3.false)
-    (sym c.lines_fine.ensures ∙ not-false _ c.if-not-lines_fine.false))
+    sym (fit _ _ c.if-area-lt-AREA_SIZE.false c.if-text-gt32768.false
+    (sym c.judge.ensures ∙ c.if-not-judge.false)
+    (sym c.lines_fine.ensures ∙ c.if-not-lines_fine.false))

@@ -22,10 +22,10 @@ pub returns-then-n-eq0 : goal.returns-then-n-eq0
 returns-then-n-eq0 c = step_here utf8_steps _ _ c.loop-i.invariant _ (read c) c.if-n-eq0.true
 
 pub overflow_add-i : goal.overflow_add-i
-overflow_add-i c = next c in omega arith
+overflow_add-i c = let h = next c in omega arith
 
 pub loop-i-smaller : goal.loop-i-smaller
-loop-i-smaller c = next c in omega arith
+loop-i-smaller c = let h = next c in omega arith
 
 pub loop-i-preserved : goal.loop-i-preserved
 loop-i-preserved c = next c

@@ -3,7 +3,6 @@
 use Rattle.sdp_valid.proofs.JudgeLaws.{every_all, every_more, every_not, every_none}
 use Rattle.sdp_valid.proofs.CountedLaws.{all_inside, row_inside}
 use Rattle.sdp_valid.specs.Judge.{fine_row}
-use borrow.Author.Tests.{not-true, not-false}
 use mathlib.Core.Path.{sym, ◌∙◌}
 use native.Mathlib.Omega.{arith}
 use Prim.Native.Nat.{◌-◌}
@@ -11,8 +10,7 @@ use Rattle.sdp_valid.proofs.fine_rows.Goals as goal
 
 pub loop-i-init : goal.loop-i-init
 loop-i-init c =
-    c in
-    (omega arith, all_inside _ _ _ _ c.get2-n.ensures.0 b.requires.1.1, every_all (fine_row b.args.area.now b.args.text.now b.args.row) _ _ _ _ c.get2-n.ensures.0)
+    (omega arith, all_inside _ _ _ _ c.get2-n.ensures.0 c.requires.w_value.1, every_all (fine_row c.args.area.now c.args.text.now c.args.row) _ _ _ _ c.get2-n.ensures.0)
 
 pub fine_row-requires : goal.fine_row-requires
 fine_row-requires c =
@@ -21,21 +19,19 @@ fine_row-requires c =
 
 pub returns-then-not-fine_row : goal.returns-then-not-fine_row
 returns-then-not-fine_row c =
-    c in
-    sym (l.loop.invariant.2 ∙ every_not (fine_row l.args.area.now l.args.text.now l.args.row) _ _ _ _ c.loop-i-test.true (sym c.fine_row.ensures ∙ not-true _ c.if-not-fine_row.true))
+    sym (c.loop-i.invariant.2 ∙ every_not (fine_row c.args.area.now c.args.text.now c.args.row) _ _ _ _ c.loop-i-test.true (sym c.fine_row.ensures ∙ c.if-not-fine_row.true))
 
 pub overflow_add-p-in-loop-i : goal.overflow_add-p-in-loop-i
-overflow_add-p-in-loop-i c = row_inside _ _ _ _ _ c.loop-i-test.true c.loop-i.invariant.1 in omega (arith, h.0)
+overflow_add-p-in-loop-i c = let h = row_inside _ _ _ _ _ c.loop-i-test.true c.loop-i.invariant.1 in omega (arith, h.0)
 
 pub loop-i-preserved : goal.loop-i-preserved
 loop-i-preserved c =
     let t = c.loop-i-test.true in (
       omega arith,
       (row_inside _ _ _ _ _ t c.loop-i.invariant.1).1,
-      c.loop-i.invariant.2 ∙ every_more (fine_row c.args.area.now c.args.text.now c.args.row) _ _ _ _ t (sym c.fine_row.ensures ∙ not-false _ c.if-not-fine_row.false),
+      c.loop-i.invariant.2 ∙ every_more (fine_row c.args.area.now c.args.text.now c.args.row) _ _ _ _ t (sym c.fine_row.ensures ∙ c.if-not-fine_row.false),
     )
 
 pub returns : goal.returns
 returns c =
-    c in
-    sym (c.loop-i.invariant.2 ∙ every_none (fine_row b.args.area.now b.args.text.now b.args.row) _ _ _ _ c.loop-i-test.false)
+    sym (c.loop-i.invariant.2 ∙ every_none (fine_row c.args.area.now c.args.text.now c.args.row) _ _ _ _ c.loop-i-test.false)

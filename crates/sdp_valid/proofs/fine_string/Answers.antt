@@ -14,5 +14,4 @@ returns-then-plain c =
 
 pub returns : goal.returns
 returns c =
-    c in
-    c.is_utf8.ensures ∙ sym (string_inside _ _ _ _ _ k.get2.ensures.0 k.get22.ensures.0 k.if1.false)
+    c.is_utf8.ensures ∙ sym (string_inside _ _ _ _ _ c.get2-place.ensures.0 c.get2-len.ensures.0 c.if-text-end.false)

@@ -1,22 +1,20 @@
 -- `sdp_valid::judge` meets its contract. Assumes nothing.
 use Rattle.sdp_valid.proofs.JudgeLaws.{small_no, large_no, counts_known, counts_yes}
-use borrow.Author.Tests.{not-true, not-false}
 use mathlib.Core.Path.{sym, ap₂, ◌∙◌}
 use mathlib.Core.Bool.{◌&&◌}
 use Rattle.sdp_valid.proofs.judge.Goals as goal
 
 pub returns-then-not-small_counts : goal.returns-then-not-small_counts
-returns-then-not-small_counts c = sym (small_no _ _ (sym c.small_counts.ensures ∙ not-true _ c.if-not-small_counts.true))
+returns-then-not-small_counts c = sym (small_no _ _ (sym c.small_counts.ensures ∙ c.if-not-small_counts.true))
 
 pub returns-then-not-large_counts : goal.returns-then-not-large_counts
-returns-then-not-large_counts c = sym (large_no _ _ (sym c.large_counts.ensures ∙ not-true _ c.if-not-large_counts.true))
+returns-then-not-large_counts c = sym (large_no _ _ (sym c.large_counts.ensures ∙ c.if-not-large_counts.true))
 
 pub owners_fine-requires : goal.owners_fine-requires
 owners_fine-requires c =
-    c in
-    counts_known _ k.requires
-    (sym k.small-counts.ensures ∙ not-false _ k.if1.false)
-    (sym k.large-counts.ensures ∙ not-false _ k.if2.false)
+    counts_known _ c.requires
+    (sym c.small_counts.ensures ∙ c.if-not-small_counts.false)
+    (sym c.large_counts.ensures ∙ c.if-not-large_counts.false)
 
 pub fine_tables-requires : goal.fine_tables-requires
 fine_tables-requires c =

@@ -8,23 +8,23 @@ use Rattle.sdp_valid.proofs.owners_fine.Goals as goal
 
 pub owned-requires : goal.owned-requires
 owned-requires c =
-    c.requires in record { le_w = (omega arith, connections_inside _ h); owners_in_bounds = omega (arith, h.whole) }
+    let h = c.requires in record { le_w = (omega arith, connections_inside _ h); owners_in_bounds = omega (arith, h.whole) }
 
 pub owned-requires-2 : goal.owned-requires-2
 owned-requires-2 c =
-    c.requires in record { le_w = (omega arith, bandwidths_inside _ h); owners_in_bounds = omega (arith, h.whole) }
+    let h = c.requires in record { le_w = (omega arith, bandwidths_inside _ h); owners_in_bounds = omega (arith, h.whole) }
 
 pub owned-requires-3 : goal.owned-requires-3
 owned-requires-3 c =
-    c.requires in record { le_w = (omega arith, repeats_inside _ h); owners_in_bounds = omega (arith, h.whole) }
+    let h = c.requires in record { le_w = (omega arith, repeats_inside _ h); owners_in_bounds = omega (arith, h.whole) }
 
 pub owned-requires-4 : goal.owned-requires-4
 owned-requires-4 c =
-    c.requires in record { le_w = (omega arith, offsets_inside _ h); owners_in_bounds = omega (arith, h.whole) }
+    let h = c.requires in record { le_w = (omega arith, offsets_inside _ h); owners_in_bounds = omega (arith, h.whole) }
 
 pub owned-requires-5 : goal.owned-requires-5
 owned-requires-5 c =
-    c.requires in record { le_w = (omega arith, attributes_inside _ h); owners_in_bounds = omega (arith, h.whole) }
+    let h = c.requires in record { le_w = (omega arith, attributes_inside _ h); owners_in_bounds = omega (arith, h.whole) }
 
 pub returns : goal.returns
 unfolding owners

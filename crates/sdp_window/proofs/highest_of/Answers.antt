@@ -6,16 +6,16 @@ use Rattle.sdp_window.proofs.highest_of.Goals as goal
 
 pub returns-then-v-to : goal.returns-then-v-to
 unfolding highest
-returns-then-v-to c = rw (c.sum-1.given.1, le-leb _ _ c.if-v-to.true) refl
+returns-then-v-to c = rw (c.in-At.is, le-leb _ _ c.if-v-to.true) refl
 
 pub returns-in-Below : goal.returns-in-Below
 unfolding highest
-returns-in-Below c = rw c.enum_told-1.given.1 refl
+returns-in-Below c = rw c.in-Below.is refl
 
 pub returns-else-v-to : goal.returns-else-v-to
 unfolding highest
-returns-else-v-to c = rw (c.sum-1.given.1, lt-leb _ _ c.if-v-to.false) refl
+returns-else-v-to c = rw (c.in-At.is, lt-leb _ _ c.if-v-to.false) refl
 
 pub returns-in-Above : goal.returns-in-Above
 unfolding highest
-returns-in-Above c = rw c.enum_told-in-Above-1.given.1 refl
+returns-in-Above c = rw c.in-Above.is refl

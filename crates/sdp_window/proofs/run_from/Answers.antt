@@ -7,7 +7,7 @@ use Rattle.sdp_window.proofs.RunLaws.{counted_none, counted_some}
 use Rattle.sdp_window.proofs.run_from.Goals as goal
 
 pub overflow_add-result : goal.overflow_add-result
-overflow_add-result c = c.args in omega (arith, div-le_self (a.hi - 1 - a.f) a.d)
+overflow_add-result c = let a = c.args in omega (arith, div-le_self (a.hi - 1 - a.f) a.d)
 
 pub returns-then-f-hi : goal.returns-then-f-hi
 returns-then-f-hi c = sym (counted_some _ _ _ c.if-f-hi.true)

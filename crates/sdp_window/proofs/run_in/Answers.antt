@@ -5,12 +5,12 @@ use Rattle.sdp_window.proofs.run_in.Goals as goal
 
 pub returns-in-Below : goal.returns-in-Below
 unfolding run_in
-returns-in-Below c = rw c.sum-1.given.1 c.run_below.ensures
+returns-in-Below c = rw c.in-Below.is c.run_below.ensures
 
 pub returns-in-At : goal.returns-in-At
 unfolding run_in
-returns-in-At c = rw c.sum-in-At-1.given.1 c.run_at.ensures
+returns-in-At c = rw c.in-At.is c.run_at.ensures
 
 pub returns-in-Above : goal.returns-in-Above
 unfolding run_in
-returns-in-Above c = rw c.enum_told-1.given.1 refl
+returns-in-Above c = rw c.in-Above.is refl

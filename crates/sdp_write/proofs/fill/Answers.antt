@@ -13,7 +13,7 @@ returns-then-number-ne0 c =
 
 pub above-n-requires : goal.above-n-requires
 above-n-requires c =
-    sym c.unfit-number.ensures ∙ c.if-number-ne0.false in record { counted = fit-counted _ _ f; area_value = fit-owned _ _ f }
+    let f = sym c.unfit-number.ensures ∙ c.if-number-ne0.false in record { counted = fit-counted _ _ f; area_value = fit-owned _ _ f }
 
 pub returns-then-n-ne0 : goal.returns-then-n-ne0
 returns-then-n-ne0 c =
@@ -22,7 +22,7 @@ returns-then-n-ne0 c =
 
 pub put_session-len-requires : goal.put_session-len-requires
 put_session-len-requires c =
-    c in let f = sym k.unfit.ensures ∙ k.if1.false in record { counted = fit-counted _ _ f; area_value = fit-owned _ _ f }
+    let f = sym c.unfit-number.ensures ∙ c.if-number-ne0.false in record { counted = fit-counted _ _ f; area_value = fit-owned _ _ f }
 
 pub returns : goal.returns
 returns c =

@@ -9,7 +9,7 @@ returns-then-number-ne0 c = c.told.ensures ∙ sym (no_length _ _ _ c.unfit-numb
 
 pub length_of-requires : goal.length_of-requires
 length_of-requires c =
-    sym c.unfit-number.ensures ∙ c.if-number-ne0.false in record { counted = fit-counted _ _ f; area_value = fit-owned _ _ f }
+    let f = sym c.unfit-number.ensures ∙ c.if-number-ne0.false in record { counted = fit-counted _ _ f; area_value = fit-owned _ _ f }
 
 pub returns : goal.returns
 returns c =

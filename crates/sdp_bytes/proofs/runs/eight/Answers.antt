@@ -11,5 +11,5 @@ returns-then-s-lt8 c = sym (run_short _ 8 _ c.if-s-lt8.true)
 
 pub returns : goal.returns
 returns c =
-    ap₂ ◌&&◌ c.All-from.ensures c.all_from-2.ensures
+    ap₂ ◌&&◌ c.all_from.ensures c.all_from-2.ensures
     ∙ eight_is _ (λ i. omega (arith, c.shared_slice_known-1.given i)) _ _ (omega (arith, c.ranges.hi)) c.if-s-lt8.false _ c.get8-x.ensures

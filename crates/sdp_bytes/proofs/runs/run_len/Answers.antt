@@ -11,11 +11,11 @@ loop-i-init c = run_passed _ (run_pass _) _ _ c.eights-i.ensures
 
 pub returns-then-not-inside : goal.returns-then-not-inside
 returns-then-not-inside c =
-    until_here (run-until _) _ _ c.loop-i.invariant c.loop-i-test.true (ap not (sym c.inside.ensures) ∙ c.if-not-inside.true)
+    until_here (run-until _) _ _ c.loop-i.invariant c.loop-i-test.true (ap not (sym c.inside.ensures ∙ c.if-not-inside.true))
 
 pub loop-i-preserved : goal.loop-i-preserved
 loop-i-preserved c =
-    until_next (run-until _) _ _ c.loop-i.invariant c.loop-i-test.true (ap not (sym c.inside.ensures) ∙ c.if-not-inside.false)
+    until_next (run-until _) _ _ c.loop-i.invariant c.loop-i-test.true (ap not (sym c.inside.ensures ∙ c.if-not-inside.false))
 
 pub returns : goal.returns
 returns c = until_done (run-until _) _ _ c.loop-i.invariant c.loop-i-test.false

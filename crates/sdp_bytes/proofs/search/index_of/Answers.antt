@@ -7,11 +7,11 @@ use Rattle.sdp_bytes.proofs.search.index_of.Goals as goal
 
 pub returns-then-s-i : goal.returns-then-s-i
 returns-then-s-i c =
-    c in until_here (index_until _) _ _ k.loop.invariant k.loop-test.true (eq-eqb _ _ c.if-s-i.true)
+    until_here (index_until _) _ _ c.loop-i.invariant c.loop-i-test.true (eq-eqb _ _ c.if-s-i.true)
 
 pub loop-i-preserved : goal.loop-i-preserved
 loop-i-preserved c =
-    c in until_next (index_until _) _ _ k.loop.invariant k.loop-test.true (ne_eqb _ _ c.if-s-i.false)
+    until_next (index_until _) _ _ c.loop-i.invariant c.loop-i-test.true (ne_eqb _ _ c.if-s-i.false)
 
 pub returns : goal.returns
 returns c = until_done (index_until _) _ _ c.loop-i.invariant c.loop-i-test.false

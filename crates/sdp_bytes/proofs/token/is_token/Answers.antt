@@ -3,7 +3,6 @@
 use Prim.Native.Nat.{◌-◌}
 use mathlib.Core.Path.{sym, ◌∙◌}
 use mathlib.Core.Bool.{and-true, and-false}
-use borrow.Author.Tests.{not-true, not-false}
 use borrow.Author.Rules.{rules}
 use Rattle.sdp_bytes.specs.Token.{is_token}
 use Rattle.sdp_bytes.proofs.TokenLaws.{token_next, token_stop, token_done}
@@ -12,12 +11,12 @@ use Rattle.sdp_bytes.proofs.token.is_token.Goals as goal
 pub returns-then-not-token_char : goal.returns-then-not-token_char
 unfolding is_token
 returns-then-not-token_char c =
-    let e = sym c.token_char.ensures ∙ not-true _ c.if-not-token_char.true in
+    let e = sym c.token_char.ensures ∙ c.if-not-token_char.true in
     rw (c.loop-i.invariant.1, token_stop _ _ c.loop-i-test.true e, and-false)
 
 pub loop-i-preserved : goal.loop-i-preserved
 loop-i-preserved c =
-    (search rules, c.loop-i.invariant.1 ∙ token_next _ _ c.loop-i-test.true (sym c.token_char.ensures ∙ not-false _ c.if-not-token_char.false))
+    (search rules, c.loop-i.invariant.1 ∙ token_next _ _ c.loop-i-test.true (sym c.token_char.ensures ∙ c.if-not-token_char.false))
 
 pub returns : goal.returns
 unfolding is_token

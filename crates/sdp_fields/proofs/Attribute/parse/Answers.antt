@@ -13,7 +13,7 @@ text_of-requires c = rw c.first_piece.ensures (first_within _ _)
 pub returns-in-Refused : goal.returns-in-Refused
 unfolding attribute_of
 returns-in-Refused c =
-    sym (ap attribute_answer (by_text _ (c.text_of.ensures ∙ ap (text_of _ _) c.first_piece.ensures) c.x-1.given.1))
+    sym (ap attribute_answer (by_text _ (c.text_of.ensures ∙ ap (text_of _ _) c.first_piece.ensures) c.in-Refused.is))
 
 pub choice_of-requires : goal.choice_of-requires
 choice_of-requires c = rw c.rest_after.ensures (rest_within _ _)
@@ -22,12 +22,12 @@ pub returns-in-Got-choice_of : goal.returns-in-Got-choice_of
 unfolding attribute_of
 returns-in-Got-choice_of c =
     sym (ap attribute_answer
-    (by_text _ (c.text_of.ensures ∙ ap (text_of _ _) c.first_piece.ensures) c.piece-1.given.1
-    ∙ by_choice _ (c.choice_of.ensures ∙ ap (choice_of _ _) c.rest_after.ensures) c.value-1.given.1))
+    (by_text _ (c.text_of.ensures ∙ ap (text_of _ _) c.first_piece.ensures) c.in-Got.is
+    ∙ by_choice _ (c.choice_of.ensures ∙ ap (choice_of _ _) c.rest_after.ensures) c.in-Got.is))
 
 pub returns-in-Refused-choice_of : goal.returns-in-Refused-choice_of
 unfolding attribute_of
 returns-in-Refused-choice_of c =
     sym (ap attribute_answer
-    (by_text _ (c.text_of.ensures ∙ ap (text_of _ _) c.first_piece.ensures) c.piece-1.given.1
-    ∙ by_choice _ (c.choice_of.ensures ∙ ap (choice_of _ _) c.rest_after.ensures) c.x-in-Refused-choice_of-1.given.1))
+    (by_text _ (c.text_of.ensures ∙ ap (text_of _ _) c.first_piece.ensures) c.in-Got.is
+    ∙ by_choice _ (c.choice_of.ensures ∙ ap (choice_of _ _) c.rest_after.ensures) c.in-Got.is))

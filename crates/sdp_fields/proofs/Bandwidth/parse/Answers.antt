@@ -13,7 +13,7 @@ text_of-requires c = rw c.first_piece.ensures (first_within _ _)
 pub returns-in-Refused : goal.returns-in-Refused
 unfolding bandwidth_of
 returns-in-Refused c =
-    sym (ap bandwidth_answer (by_text _ (c.text_of.ensures ∙ ap (text_of _ _) c.first_piece.ensures) c.x-1.given.1))
+    sym (ap bandwidth_answer (by_text _ (c.text_of.ensures ∙ ap (text_of _ _) c.first_piece.ensures) c.in-Refused.is))
 
 pub number_of-requires : goal.number_of-requires
 number_of-requires c = rw c.piece_after.ensures (after-within _ _ _)
@@ -22,21 +22,21 @@ pub returns-in-Refused-number_of : goal.returns-in-Refused-number_of
 unfolding bandwidth_of
 returns-in-Refused-number_of c =
     sym (ap bandwidth_answer
-    (by_text _ (c.text_of.ensures ∙ ap (text_of _ _) c.first_piece.ensures) c.piece-1.given.1
-    ∙ by_amount _ (c.number_of.ensures ∙ ap (number_of _ _) c.piece_after.ensures) c.x-in-Refused-number_of-1.given.1))
+    (by_text _ (c.text_of.ensures ∙ ap (text_of _ _) c.first_piece.ensures) c.in-Got.is
+    ∙ by_amount _ (c.number_of.ensures ∙ ap (number_of _ _) c.piece_after.ensures) c.in-Got.is))
 
 pub returns-in-Got-piece_after : goal.returns-in-Got-piece_after
 unfolding bandwidth_of
 returns-in-Got-piece_after c =
     rw c.wrong_of.ensures (sym (ap bandwidth_answer
-    (by_text _ (c.text_of.ensures ∙ ap (text_of _ _) c.first_piece.ensures) c.piece-1.given.1
-    ∙ by_amount _ (c.number_of.ensures ∙ ap (number_of _ _) c.piece_after.ensures) c.value-1.given.1
-    ∙ by_end _ _ c.piece_after-2.ensures c.enum_told-1.given.1)))
+    (by_text _ (c.text_of.ensures ∙ ap (text_of _ _) c.first_piece.ensures) c.in-Got.is
+    ∙ by_amount _ (c.number_of.ensures ∙ ap (number_of _ _) c.piece_after.ensures) c.in-Got.is
+    ∙ by_end _ _ c.piece_after-2.ensures c.in-Got.is)))
 
 pub returns : goal.returns
 unfolding bandwidth_of
 returns c =
     sym (ap bandwidth_answer
-    (by_text _ (c.text_of.ensures ∙ ap (text_of _ _) c.first_piece.ensures) c.piece-1.given.1
-    ∙ by_amount _ (c.number_of.ensures ∙ ap (number_of _ _) c.piece_after.ensures) c.value-1.given.1
-    ∙ by_end _ _ c.piece_after-2.ensures c.enum_told-in_default-1.given.1))
+    (by_text _ (c.text_of.ensures ∙ ap (text_of _ _) c.first_piece.ensures) c.in-Got.is
+    ∙ by_amount _ (c.number_of.ensures ∙ ap (number_of _ _) c.piece_after.ensures) c.in-Got.is
+    ∙ by_end _ _ c.piece_after-2.ensures c.in-Got.is))

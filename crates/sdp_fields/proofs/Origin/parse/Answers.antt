@@ -9,40 +9,40 @@ use Rattle.sdp_fields.proofs.Origin.parse.Goals as goal
 
 pub returns-in-Refused : goal.returns-in-Refused
 unfolding origin_of
-returns-in-Refused c = sym (ap origin_answer (text_next _ _ _ _ c.word_text.ensures c.x-1.given.1))
+returns-in-Refused c = sym (ap origin_answer (text_next _ _ _ _ c.word_text.ensures c.in-Refused.is))
 
 pub returns-in-Refused-word_text : goal.returns-in-Refused-word_text
 unfolding origin_of
 returns-in-Refused-word_text c =
     sym (ap origin_answer
-    (text_next _ _ _ _ c.word_text.ensures c.piece-1.given.1
-    ∙ text_next _ _ _ _ c.word_text-2.ensures c.x-in-Refused-word_text-2-1.given.1))
+    (text_next _ _ _ _ c.word_text.ensures c.in-Got.is
+    ∙ text_next _ _ _ _ c.word_text-2.ensures c.in-Got.is))
 
 pub returns-in-Refused-word_number : goal.returns-in-Refused-word_number
 unfolding origin_of
 returns-in-Refused-word_number c =
     sym (ap origin_answer
-    (text_next _ _ _ _ c.word_text.ensures c.piece-1.given.1
-    ∙ text_next _ _ _ _ c.word_text-2.ensures c.piece-in-Got-word_text-2-1.given.1
-    ∙ number_next _ _ _ _ c.word_number.ensures c.x-in-Refused-word_number-1.given.1))
+    (text_next _ _ _ _ c.word_text.ensures c.in-Got.is
+    ∙ text_next _ _ _ _ c.word_text-2.ensures c.in-Got.is
+    ∙ number_next _ _ _ _ c.word_number.ensures c.in-Got.is))
 
 pub username_of-requires : goal.username_of-requires
-username_of-requires c = (text-within _ _ _ _ _ (word_within _ _) (sym c.word_text.ensures ∙ c.piece-1.given.1)).0
+username_of-requires c = (text-within _ _ _ _ _ (word_within _ _) (sym c.word_text.ensures ∙ c.in-Got.is)).0
 
 pub returns-in-Refused-word_address : goal.returns-in-Refused-word_address
 unfolding origin_of
 returns-in-Refused-word_address c =
     sym (ap origin_answer
-    (text_next _ _ _ _ c.word_text.ensures c.piece-1.given.1
-    ∙ text_next _ _ _ _ c.word_text-2.ensures c.piece-in-Got-word_text-2-1.given.1
-    ∙ number_next _ _ _ _ c.word_number.ensures c.value-1.given.1
-    ∙ by_address 4 _ _ _ c.word_address.ensures c.x-in-Refused-word_address-1.given.1))
+    (text_next _ _ _ _ c.word_text.ensures c.in-Got.is
+    ∙ text_next _ _ _ _ c.word_text-2.ensures c.in-Got.is
+    ∙ number_next _ _ _ _ c.word_number.ensures c.in-Got.is
+    ∙ by_address 4 _ _ _ c.word_address.ensures c.in-Got.is))
 
 pub returns-in-Got-word_address : goal.returns-in-Got-word_address
 unfolding origin_of
 returns-in-Got-word_address c =
     rw c.username_of.ensures (sym (ap origin_answer
-    (text_next _ _ _ _ c.word_text.ensures c.piece-1.given.1
-    ∙ text_next _ _ _ _ c.word_text-2.ensures c.piece-in-Got-word_text-2-1.given.1
-    ∙ number_next _ _ _ _ c.word_number.ensures c.value-1.given.1
-    ∙ by_address 4 _ _ _ c.word_address.ensures c.place-1.given.1)))
+    (text_next _ _ _ _ c.word_text.ensures c.in-Got.is
+    ∙ text_next _ _ _ _ c.word_text-2.ensures c.in-Got.is
+    ∙ number_next _ _ _ _ c.word_number.ensures c.in-Got.is
+    ∙ by_address 4 _ _ _ c.word_address.ensures c.in-Got.is)))

@@ -7,27 +7,27 @@ use Rattle.sdp_fields.proofs.Time.parse.Goals as goal
 
 pub returns-in-Refused : goal.returns-in-Refused
 unfolding times_of
-returns-in-Refused c = sym (ap time_answer (number_next _ _ _ _ c.word_number.ensures c.x-1.given.1))
+returns-in-Refused c = sym (ap time_answer (number_next _ _ _ _ c.word_number.ensures c.in-Refused.is))
 
 pub returns-in-Refused-word_number : goal.returns-in-Refused-word_number
 unfolding times_of
 returns-in-Refused-word_number c =
     sym (ap time_answer
-    (number_next _ _ _ _ c.word_number.ensures c.value-1.given.1
-    ∙ number_next _ _ _ _ c.word_number-2.ensures c.x-in-Refused-word_number-2-1.given.1))
+    (number_next _ _ _ _ c.word_number.ensures c.in-Got.is
+    ∙ number_next _ _ _ _ c.word_number-2.ensures c.in-Got.is))
 
 pub returns-in-Got-word_at : goal.returns-in-Got-word_at
 unfolding times_of
 returns-in-Got-word_at c =
     rw c.wrong_of.ensures (sym (ap time_answer
-    (number_next _ _ _ _ c.word_number.ensures c.value-1.given.1
-    ∙ number_next _ _ _ _ c.word_number-2.ensures c.value-in-Got-word_number-2-1.given.1
-    ∙ end_next _ _ _ _ c.word_at.ensures c.enum_told-1.given.1)))
+    (number_next _ _ _ _ c.word_number.ensures c.in-Got.is
+    ∙ number_next _ _ _ _ c.word_number-2.ensures c.in-Got.is
+    ∙ end_next _ _ _ _ c.word_at.ensures c.in-Got.is)))
 
 pub returns : goal.returns
 unfolding times_of
 returns c =
     sym (ap time_answer
-    (number_next _ _ _ _ c.word_number.ensures c.value-1.given.1
-    ∙ number_next _ _ _ _ c.word_number-2.ensures c.value-in-Got-word_number-2-1.given.1
-    ∙ end_next _ _ _ _ c.word_at.ensures c.enum_told-in_default-1.given.1))
+    (number_next _ _ _ _ c.word_number.ensures c.in-Got.is
+    ∙ number_next _ _ _ _ c.word_number-2.ensures c.in-Got.is
+    ∙ end_next _ _ _ _ c.word_at.ensures c.in-Got.is))

@@ -6,18 +6,18 @@ use Rattle.sdp_lists.proofs.RepeatHead.parse.Goals as goal
 
 pub returns-in-Refused : goal.returns-in-Refused
 unfolding repeat_head
-returns-in-Refused c = sym (ap repeat_answer (by_amount _ c.word_time.ensures c.x-1.given.1))
+returns-in-Refused c = sym (ap repeat_answer (by_amount _ c.word_time.ensures c.in-Refused.is))
 
 pub returns-in-Got-word_time : goal.returns-in-Got-word_time
 unfolding repeat_head
 returns-in-Got-word_time c =
     sym (ap repeat_answer
-    (by_amount _ c.word_time.ensures c.value-1.given.1
-    ∙ by_amount _ c.word_time-2.ensures c.value-in-Got-word_time-2-1.given.1))
+    (by_amount _ c.word_time.ensures c.in-Got.is
+    ∙ by_amount _ c.word_time-2.ensures c.in-Got.is))
 
 pub returns-in-Refused-word_time : goal.returns-in-Refused-word_time
 unfolding repeat_head
 returns-in-Refused-word_time c =
     sym (ap repeat_answer
-    (by_amount _ c.word_time.ensures c.value-1.given.1
-    ∙ by_amount _ c.word_time-2.ensures c.x-in-Refused-word_time-2-1.given.1))
+    (by_amount _ c.word_time.ensures c.in-Got.is
+    ∙ by_amount _ c.word_time-2.ensures c.in-Got.is))

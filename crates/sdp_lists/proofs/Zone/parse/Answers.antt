@@ -7,7 +7,7 @@ use Rattle.sdp_lists.proofs.OffsetLaws.{zone_end, zone_at_lem}
 use Rattle.sdp_lists.proofs.Zone.parse.Goals as goal
 
 pub returns-in-Nothing : goal.returns-in-Nothing
-returns-in-Nothing c = zone_end _ _ _ c.word_at-f.ensures c.enum_told-1.given.1
+returns-in-Nothing c = zone_end _ _ _ c.word_at-f.ensures c.in-Nothing.is
 
 pub number_of-requires : goal.number_of-requires
 number_of-requires c = rw c.word_at-f.ensures (word_within _ _)
@@ -18,8 +18,8 @@ offset_of-requires c = rw c.word_at.ensures (word_within _ _)
 pub returns-in-Got : goal.returns-in-Got
 returns-in-Got c =
     c.zone_of.ensures ∙ ap (zone_done _) (c.offset_of.ensures ∙ ap (offset_of _ _) c.word_at.ensures)
-    ∙ zone_at_lem _ _ _ c.word_at-f.ensures _ _ c.enum_told-in_default-1.given.1 _ _ c.value-1.given.1 c.number_of.ensures
+    ∙ zone_at_lem _ _ _ c.word_at-f.ensures _ _ c.in_default.is _ _ c.in_default.is c.number_of.ensures
 
 pub returns-in-Refused : goal.returns-in-Refused
 returns-in-Refused c =
-    zone_at_lem _ _ _ c.word_at-f.ensures _ _ c.enum_told-in_default-1.given.1 _ _ c.x-1.given.1 c.number_of.ensures
+    zone_at_lem _ _ _ c.word_at-f.ensures _ _ c.in_default.is _ _ c.in_default.is c.number_of.ensures

@@ -14,7 +14,7 @@ text_of-requires c = rw c.first_piece.ensures (first_within _ _)
 pub returns-in-Refused : goal.returns-in-Refused
 unfolding media_of
 returns-in-Refused c =
-    sym (ap media_answer (by_text _ (c.text_of.ensures ∙ ap (text_of _ _) c.first_piece.ensures) c.x-1.given.1))
+    sym (ap media_answer (by_text _ (c.text_of.ensures ∙ ap (text_of _ _) c.first_piece.ensures) c.in-Refused.is))
 
 pub port_of-requires : goal.port_of-requires
 port_of-requires c = rw c.m_piece.ensures (after-within _ _ _)
@@ -23,8 +23,8 @@ pub returns-in-Refused-port_of : goal.returns-in-Refused-port_of
 unfolding media_of
 returns-in-Refused-port_of c =
     sym (ap media_answer
-    (by_text _ (c.text_of.ensures ∙ ap (text_of _ _) c.first_piece.ensures) c.piece-1.given.1
-    ∙ by_port _ _ _ (c.port_of.ensures ∙ ap (port_field _) c.m_piece.ensures) c.x-in-Refused-port_of-1.given.1))
+    (by_text _ (c.text_of.ensures ∙ ap (text_of _ _) c.first_piece.ensures) c.in-Got.is
+    ∙ by_port _ _ _ (c.port_of.ensures ∙ ap (port_field _) c.m_piece.ensures) c.in-Got.is))
 
 pub text_of-requires-2 : goal.text_of-requires-2
 text_of-requires-2 c = rw c.m_piece-2.ensures (after-within _ _ _)
@@ -33,9 +33,9 @@ pub returns-in-Refused-text_of : goal.returns-in-Refused-text_of
 unfolding media_of
 returns-in-Refused-text_of c =
     sym (ap media_answer
-    (by_text _ (c.text_of.ensures ∙ ap (text_of _ _) c.first_piece.ensures) c.piece-1.given.1
-    ∙ by_port _ _ _ (c.port_of.ensures ∙ ap (port_field _) c.m_piece.ensures) c.port-1.given.1
-    ∙ by_text _ (c.text_of-2.ensures ∙ ap (text_of _ _) c.m_piece-2.ensures) c.x-in-Refused-text_of-2-1.given.1))
+    (by_text _ (c.text_of.ensures ∙ ap (text_of _ _) c.first_piece.ensures) c.in-Got.is
+    ∙ by_port _ _ _ (c.port_of.ensures ∙ ap (port_field _) c.m_piece.ensures) c.in-Got.is
+    ∙ by_text _ (c.text_of-2.ensures ∙ ap (text_of _ _) c.m_piece-2.ensures) c.in-Got.is))
 
 pub text_of-requires-3 : goal.text_of-requires-3
 text_of-requires-3 c = rw c.rest_after.ensures (rest_within _ _)
@@ -44,16 +44,16 @@ pub returns-in-Got-text_of-2 : goal.returns-in-Got-text_of-2
 unfolding media_of
 returns-in-Got-text_of-2 c =
     sym (ap media_answer
-    (by_text _ (c.text_of.ensures ∙ ap (text_of _ _) c.first_piece.ensures) c.piece-1.given.1
-    ∙ by_port _ _ _ (c.port_of.ensures ∙ ap (port_field _) c.m_piece.ensures) c.port-1.given.1
-    ∙ by_text _ (c.text_of-2.ensures ∙ ap (text_of _ _) c.m_piece-2.ensures) c.piece-in-Got-text_of-2-1.given.1
-    ∙ by_text _ (c.text_of-3.ensures ∙ ap (text_of _ _) c.rest_after.ensures) c.piece-in-Got-text_of-3-1.given.1))
+    (by_text _ (c.text_of.ensures ∙ ap (text_of _ _) c.first_piece.ensures) c.in-Got.is
+    ∙ by_port _ _ _ (c.port_of.ensures ∙ ap (port_field _) c.m_piece.ensures) c.in-Got.is
+    ∙ by_text _ (c.text_of-2.ensures ∙ ap (text_of _ _) c.m_piece-2.ensures) c.in-Got.is
+    ∙ by_text _ (c.text_of-3.ensures ∙ ap (text_of _ _) c.rest_after.ensures) c.in-Got.is))
 
 pub returns-in-Refused-text_of-2 : goal.returns-in-Refused-text_of-2
 unfolding media_of
 returns-in-Refused-text_of-2 c =
     sym (ap media_answer
-    (by_text _ (c.text_of.ensures ∙ ap (text_of _ _) c.first_piece.ensures) c.piece-1.given.1
-    ∙ by_port _ _ _ (c.port_of.ensures ∙ ap (port_field _) c.m_piece.ensures) c.port-1.given.1
-    ∙ by_text _ (c.text_of-2.ensures ∙ ap (text_of _ _) c.m_piece-2.ensures) c.piece-in-Got-text_of-2-1.given.1
-    ∙ by_text _ (c.text_of-3.ensures ∙ ap (text_of _ _) c.rest_after.ensures) c.x-in-Refused-text_of-3-1.given.1))
+    (by_text _ (c.text_of.ensures ∙ ap (text_of _ _) c.first_piece.ensures) c.in-Got.is
+    ∙ by_port _ _ _ (c.port_of.ensures ∙ ap (port_field _) c.m_piece.ensures) c.in-Got.is
+    ∙ by_text _ (c.text_of-2.ensures ∙ ap (text_of _ _) c.m_piece-2.ensures) c.in-Got.is
+    ∙ by_text _ (c.text_of-3.ensures ∙ ap (text_of _ _) c.rest_after.ensures) c.in-Got.is))
