@@ -295,7 +295,7 @@ fn put_repeats(
     w: Window,
 ) -> usize
     requires { Roomy (columns at.old time.old repeat.old) × (rise 0 (zones_in area.now) ≡ true) }
-    ensures* { λ r. ⌜ Fills (columns at.old time.old repeat.old) n (each (λ j r. mine i r.owner (repeat_in area.now w i (time_for start stop) j r)) 1 (repeats_in area.now)) (columns at.new time.new repeat.new) r ⌝ }
+    ensures { Fills (columns at.old time.old repeat.old) n (each (λ j r. mine i r.owner (repeat_in area.now w i (time_for start stop) j r)) 1 (repeats_in area.now)) (columns at.new time.new repeat.new) result }
 {
     let rows = num2(area, REPEATS);
     let mut m = n;
