@@ -12,5 +12,5 @@ returns c =
     let b = c.args in
     let k = c.put_words.ensures in
     let user = maybe_is b.username _ _ _ c.mark.ensures c.place_of.ensures c.len_of.ensures in
-    let row = word_is 1 and user and span_is b.sess-id and eight_is b.version and span_is b.nettype and span_is b.addrtype and span_is b.address in
+    let row = word_is 1 and user and span_is b.sess_id and eight_is b.version and span_is b.nettype and span_is b.addrtype and span_is b.address in
     k ∙ ap (over _ _) row.is

@@ -22,7 +22,7 @@ overflow_add-m c = omega (arith, c.loop-k.invariant.rows, c.requires.0)
 pub loop-k-preserved : goal.loop-k-preserved
 loop-k-preserved c =
     let o = c.put_in.new in
-    one-filled _ _ _ _ _ _ _ _ (columns o.0 o.1.0 o.1.1.0) _ _ _ _ c.loop-k.invariant c.loop-k-test.true
+    one-filled _ _ _ _ _ _ _ _ (columns o.at o.time o.repeat) _ _ _ _ c.loop-k.invariant c.loop-k-test.true
     c.put_in.ensures c.next_of-x.ensures
 
 pub returns : goal.returns

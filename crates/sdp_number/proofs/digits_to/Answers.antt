@@ -28,10 +28,10 @@ returns-then-max-v-2 c =
 pub loop-i-preserved : goal.loop-i-preserved
 loop-i-preserved c =
     (
-  omega arith,
-  omega arith,
-  rw c.wide-d.ensures (c.loop-i.invariant.2 ∙ next _ _ _ _ c.loop-i-test.true c.if-b-lt48.false c.if-b-gt57.false),
-
+      omega arith,
+      omega arith,
+      rw c.wide-d.ensures (c.loop-i.invariant.2 ∙ next _ _ _ _ c.loop-i-test.true c.if-b-lt48.false c.if-b-gt57.false),
     )
+
 pub returns : goal.returns
 returns c = sym (c.loop-i.invariant.2 ∙ done _ _ _ _ c.loop-i-test.false (omega arith))

@@ -13,7 +13,7 @@ use Prim.Native.Nat.{◌-◌}
 use Rattle.sdp_put.proofs.quiet.Goals as goal
 
 pub returns-then-n-lt8 : goal.returns-then-n-lt8
-returns-then-n-lt8 c =
+returns-then-n-lt8 c e =
     let s = c.args.s.now in
     quiet_clean s (every_run strings.quiet s (sym c.run_len.ensures ∙ eqb-true _ _ e))
 
@@ -28,7 +28,7 @@ loop-i-preserved c =
     (c.loop-i.invariant.0, omega arith, every_eight strings.quiet s c.loop-i.i c.loop-i.invariant.2 r)
 
 pub returns : goal.returns
-returns c =
+returns c e =
     let s = c.args.s.now in
     let k = length s - 8 in
     let r = sym (ap (run strings.quiet 8) (rest_from s k)) ∙ sym c.eight-2.ensures ∙ e in
@@ -38,7 +38,7 @@ pub eight-requires : goal.eight-requires
 eight-requires c = record { lo_bound = omega arith; le_hi = omega arith }
 
 pub returns-then-not-eight : goal.returns-then-not-eight
-returns-then-not-eight c = absurd (false≢true e)
+returns-then-not-eight c e = absurd (false≢true e)
 
 pub eight-requires-2 : goal.eight-requires-2
 eight-requires-2 c = record { lo_bound = omega arith; le_hi = omega arith }

@@ -5,57 +5,58 @@ use Rattle.sdp_roles.proofs.before_media.Goals as goal
 
 pub returns-in-111 : goal.returns-in-111
 unfolding before_media
-returns-in-111 c = rw c.in-111.keys1
+returns-in-111 c = rw c.in-111.is
 
 pub returns-in-115 : goal.returns-in-115
 unfolding before_media
-returns-in-115 c = rw c.in-115.keys2
+returns-in-115 c = rw c.in-115.is
 
 pub returns-in-105 : goal.returns-in-105
 unfolding before_media
-returns-in-105 c = rw c.in-105.keys3
+returns-in-105 c = rw c.in-105.is
 
 pub returns-in-117 : goal.returns-in-117
 unfolding before_media
-returns-in-117 c = rw c.in-117.keys4
+returns-in-117 c = rw c.in-117.is
 
 pub returns-in-101 : goal.returns-in-101
 unfolding before_media
-returns-in-101 c = rw c.in-101.keys5
+returns-in-101 c = rw c.in-101.is
 
 pub returns-in-112 : goal.returns-in-112
 unfolding before_media
-returns-in-112 c = rw c.in-112.keys6
+returns-in-112 c = rw c.in-112.is
 
 pub returns-in-99 : goal.returns-in-99
 unfolding before_media
-returns-in-99 c = rw c.in-99.keys7
+returns-in-99 c = rw c.in-99.is
 
 pub returns-in-98 : goal.returns-in-98
 unfolding before_media
-returns-in-98 c = rw c.in-98.keys8
+returns-in-98 c = rw c.in-98.is
 
 pub returns-in-116 : goal.returns-in-116
 unfolding before_media
-returns-in-116 c = rw c.in-116.keys9
+returns-in-116 c = rw c.in-116.is
 
 pub returns-in-114 : goal.returns-in-114
 unfolding before_media
-returns-in-114 c = rw c.in-114.keys10
+returns-in-114 c = rw c.in-114.is
 
 pub returns-in-122 : goal.returns-in-122
 unfolding before_media
-returns-in-122 c = rw c.in-122.keys11
+returns-in-122 c = rw c.in-122.is
 
 pub returns-in-97 : goal.returns-in-97
 unfolding before_media
-returns-in-97 c = rw c.in-97.keys12
+returns-in-97 c = rw c.in-97.is
 
 pub returns-in-109 : goal.returns-in-109
 unfolding before_media
-returns-in-109 c = rw c.in-109.keys13
+returns-in-109 c = rw c.in-109.is
 
 pub returns-in_default : goal.returns-in_default
 unfolding before_media
 returns-in_default c =
-    simp (ne_eqb _ _ c.in_default.rest.1, ne_eqb _ _ c.in_default.rest.0.1, ne_eqb _ _ c.in_default.rest.0.0.1, ne_eqb _ _ c.in_default.rest.0.0.0.1, ne_eqb _ _ c.in_default.rest.0.0.0.0.1, ne_eqb _ _ c.in_default.rest.0.0.0.0.0.1, ne_eqb _ _ c.in_default.rest.0.0.0.0.0.0.1, ne_eqb _ _ c.in_default.rest.0.0.0.0.0.0.0.1, ne_eqb _ _ c.in_default.rest.0.0.0.0.0.0.0.0.1, ne_eqb _ _ c.in_default.rest.0.0.0.0.0.0.0.0.0.1, ne_eqb _ _ c.in_default.rest.0.0.0.0.0.0.0.0.0.0.1, ne_eqb _ _ c.in_default.rest.0.0.0.0.0.0.0.0.0.0.0.1, ne_eqb _ _ c.in_default.rest.0.0.0.0.0.0.0.0.0.0.0.0.1)
+    let h = c.in_default.in_default-own.rest in
+    simp (ne_eqb _ _ h.1, ne_eqb _ _ h.0.1, ne_eqb _ _ h.0.0.1, ne_eqb _ _ h.0.0.0.1, ne_eqb _ _ h.0.0.0.0.1, ne_eqb _ _ h.0.0.0.0.0.1, ne_eqb _ _ h.0.0.0.0.0.0.1, ne_eqb _ _ h.0.0.0.0.0.0.0.1, ne_eqb _ _ h.0.0.0.0.0.0.0.0.1, ne_eqb _ _ h.0.0.0.0.0.0.0.0.0.1, ne_eqb _ _ h.0.0.0.0.0.0.0.0.0.0.1, ne_eqb _ _ h.0.0.0.0.0.0.0.0.0.0.0.1, ne_eqb _ _ h.0.0.0.0.0.0.0.0.0.0.0.0.1)

@@ -20,7 +20,7 @@ slice_bounds-form_of-end c =
 
 pub overflow_sub-value : goal.overflow_sub-value
 overflow_sub-value c =
-    good_has_two c.args.text.now c.args.self c.if-text-at.false c.first_line.result c.first_line.ensures _ _ c.in-Whole.is c.form_of.result c.form_of.ensures _ c.in-Whole.is
+    good_has_two c.args.text.now c.args.self c.if-text-at.false c.first_line.result c.first_line.ensures _ _ c.in-Whole.is c.form_of.result c.form_of.ensures _ c.in-Good.is
 
 pub returns-in-NulOrCr : goal.returns-in-NulOrCr
 returns-in-NulOrCr c =
@@ -28,12 +28,12 @@ returns-in-NulOrCr c =
 
 pub returns-in-Blank : goal.returns-in-Blank
 returns-in-Blank c =
-    cut_blank c.args.text.now c.args.self c.if-text-at.false c.first_line.result c.first_line.ensures _ _ c.in-Whole.is c.form_of.result c.form_of.ensures _ c.next_line.ensures c.in-Whole.is
+    cut_blank c.args.text.now c.args.self c.if-text-at.false c.first_line.result c.first_line.ensures _ _ c.in-Whole.is c.form_of.result c.form_of.ensures _ c.next_line.ensures c.in-Blank.is
 
 pub returns-in-Bad : goal.returns-in-Bad
 returns-in-Bad c =
-    cut_bad c.args.text.now c.args.self c.if-text-at.false c.first_line.result c.first_line.ensures _ _ c.in-Whole.is c.form_of.result c.form_of.ensures _ c.in-Whole.is
+    cut_bad c.args.text.now c.args.self c.if-text-at.false c.first_line.result c.first_line.ensures _ _ c.in-Whole.is c.form_of.result c.form_of.ensures _ c.in-Bad.is
 
 pub returns-in-Good : goal.returns-in-Good
 returns-in-Good c =
-    cut_good c.args.text.now c.args.self c.if-text-at.false c.first_line.result c.first_line.ensures _ _ c.in-Whole.is c.form_of.result c.form_of.ensures _ c.next_line.ensures _ c.in-Whole.is
+    cut_good c.args.text.now c.args.self c.if-text-at.false c.first_line.result c.first_line.ensures _ _ c.in-Whole.is c.form_of.result c.form_of.ensures _ c.next_line.ensures _ c.in-Good.is
