@@ -22,4 +22,4 @@ returns c =
     let b = c.args in
     let k = c.push_words.ensures in
     let row = span_is b.x in
-    rw (← most_is b.which, ← c.contacts_at.ensures.value) (k.value, k.area_after ∙ ap (grown _ _ _) row.is)
+    rw (← most_is b.which, ← c.contacts_at.ensures.value) (record { value = k.value; area_after = k.area_after ∙ ap (grown _ _ _) row.is })

@@ -27,4 +27,4 @@ loop-fault-preserved c =
 
 pub returns-in-Line : goal.returns-in-Line
 returns-in-Line c =
-    follows_line _ _ _ c.loop-fault.invariant _ c.letter-1.given.0.1.0 _ (seen _ c.loop-fault.c _ (sym c.cut.ensures ∙ c.in-Line.is))
+    follows_line _ _ _ c.loop-fault.invariant _ c.in-Line.value _ (seen _ c.loop-fault.c _ (sym c.cut.ensures ∙ c.in-Line.is))
