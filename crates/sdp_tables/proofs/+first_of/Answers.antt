@@ -1,21 +1,27 @@
-use Rattle.std.proofs.Common.{rules, ◌≡◌, ◌+◌, ◌≤◌, length, true, ℕ, ◌-◌, ◌*◌, ◌<◌, ◌/◌, ◌%◌, Bool, false, nat_eq, nat_lt, List, [], ◌∷◌, ◌++◌, slice_index_or, slice_set, bit_and, bit_or, Fits, w8, w32, w64, Bor, MutBor}
-use Rattle.sdp_lines.specs.Strings.{bytes_of}
-use Rattle.sdp_cells.specs.Bytes.{num}
-use Rattle.sdp_valid.specs.Judge.{owners}
-use Rattle.sdp_valid.specs.Counted.{Counted, Inside}
-use Rattle.sdp_area.specs.Area.{times_at, repeats_at}
-use Rattle.sdp_put.specs.Out.{Put}
-use Rattle.sdp_decode.specs.Rows.{each, each_at}
-use Rattle.sdp_decode.specs.Decode.{time_of, repeat_of, media_of, times_in, repeats_in, offsets_in, zones_in, decode}
-use Rattle.sdp_row.specs.Written.{repeat_line, time_lines, times_lines, zones_line, media_lines, contact_lines, closing_lines}
-use Rattle.sdp_table_row.specs.Rows.{width, row_text}
-use Rattle.sdp_tables.specs.Tables.{own, NeverFall, Parted}
+-- `sdp_tables::first_of` calls itself with a half of the rows. Assumes nothing.
+use native.Mathlib.Omega.{arith}
+use Rattle.sdp_tables.proofs.OwnerLaws.{none_left, right_half, left_half, half_inside}
 use Rattle.sdp_tables.proofs.+first_of.Goals as goal
 
--- src/lib.rt:62:9
-pub first_of-requires : goal.first_of-requires
-first_of-requires t c = ?
+pub returns-then-hi-lo : goal.returns-then-hi-lo
+returns-then-hi-lo t c = none_left _ _ _ _ _ _ c.requires.le_w.2 c.if-hi-lo.true
 
--- src/lib.rt:64:5
+pub first_of-requires : goal.first_of-requires
+first_of-requires t c =
+    let r = c.requires.le_w in
+    (omega arith, ((r.0, r.1, omega arith, r.3), c.requires.never_fall))
+
+pub returns-then-get2-n : goal.returns-then-get2-n
+returns-then-get2-n t c =
+    let r = c.requires in
+    right_half _ _ _ _ _ _ r.never_fall r.le_w.3 _ _ _ c.get2.ensures.0 (omega arith) c.if-get2-n.true (omega arith) c.first_of.ensures
+
 pub first_of-requires-2 : goal.first_of-requires-2
-first_of-requires-2 t c = ?
+first_of-requires-2 t c =
+    let r = c.requires.le_w in
+    (omega arith, ((r.0, r.1, omega arith, omega arith), c.requires.never_fall))
+
+pub returns : goal.returns
+returns t c =
+    let r = c.requires in
+    left_half _ _ _ _ _ _ r.never_fall r.le_w.3 _ _ _ c.get2.ensures.0 (omega arith) c.if-get2-n.false (omega arith) c.first_of-2.ensures
