@@ -14,30 +14,30 @@ unfolding address_of
 returns-in-Refused-word_token c =
     sym (ap connection_answer
     (token_next _ _ _ _ c.word_token.ensures c.in-Got.is
-    ∙ token_next _ _ _ _ c.word_token-2.ensures c.in-Got.is))
+    ∙ token_next _ _ _ _ c.word_token-2.ensures c.in-Refused-word_token.is))
 
 pub returns-in-Refused-word_text : goal.returns-in-Refused-word_text
 unfolding address_of
 returns-in-Refused-word_text c =
     sym (ap connection_answer
     (token_next _ _ _ _ c.word_token.ensures c.in-Got.is
-    ∙ token_next _ _ _ _ c.word_token-2.ensures c.in-Got.is
-    ∙ text_next _ _ _ _ c.word_text.ensures c.in-Got.is))
+    ∙ token_next _ _ _ _ c.word_token-2.ensures c.in-Got-word_token.is
+    ∙ text_next _ _ _ _ c.word_text.ensures c.in-Refused-word_text.is))
 
 pub returns-in-Got-word_at : goal.returns-in-Got-word_at
 unfolding address_of
 returns-in-Got-word_at c =
     rw c.wrong_of.ensures (sym (ap connection_answer
     (token_next _ _ _ _ c.word_token.ensures c.in-Got.is
-    ∙ token_next _ _ _ _ c.word_token-2.ensures c.in-Got.is
-    ∙ text_next _ _ _ _ c.word_text.ensures c.in-Got.is
-    ∙ end_next _ _ _ _ c.word_at.ensures c.in-Got.is)))
+    ∙ token_next _ _ _ _ c.word_token-2.ensures c.in-Got-word_token.is
+    ∙ text_next _ _ _ _ c.word_text.ensures c.in-Got-word_text.is
+    ∙ end_next _ _ _ _ c.word_at.ensures c.in-Got-word_at.is)))
 
 pub returns : goal.returns
 unfolding address_of
 returns c =
     sym (ap connection_answer
     (token_next _ _ _ _ c.word_token.ensures c.in-Got.is
-    ∙ token_next _ _ _ _ c.word_token-2.ensures c.in-Got.is
-    ∙ text_next _ _ _ _ c.word_text.ensures c.in-Got.is
-    ∙ end_next _ _ _ _ c.word_at.ensures c.in-Got.is))
+    ∙ token_next _ _ _ _ c.word_token-2.ensures c.in-Got-word_token.is
+    ∙ text_next _ _ _ _ c.word_text.ensures c.in-Got-word_text.is
+    ∙ end_next _ _ _ _ c.word_at.ensures c.in_default.is))

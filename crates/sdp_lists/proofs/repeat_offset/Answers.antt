@@ -11,8 +11,8 @@ time_of-requires c = rw c.word_at-f.ensures (word_within _ _)
 
 pub returns-in-Got : goal.returns-in-Got
 returns-in-Got c =
-    offset_at_lem _ _ _ c.word_at-f.ensures _ _ c.in_default.is _ _ c.in_default.is c.time_of.ensures
+    offset_at_lem _ _ _ c.word_at-f.ensures _ _ c.in_default.is _ _ c.in-Got.is c.time_of.ensures
 
 pub returns-in-Refused : goal.returns-in-Refused
 returns-in-Refused c =
-    offset_at_lem _ _ _ c.word_at-f.ensures _ _ c.in_default.is _ _ c.in_default.is c.time_of.ensures
+    offset_at_lem _ _ _ c.word_at-f.ensures _ _ c.in_default.is _ _ c.in-Refused.is c.time_of.ensures

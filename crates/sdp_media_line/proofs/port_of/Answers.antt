@@ -9,7 +9,7 @@ pub returns-in-Nothing : goal.returns-in-Nothing
 returns-in-Nothing c = rw (c.wrong_of.ensures, c.in-Nothing.is)
 
 pub returns-in-Got-parse : goal.returns-in-Got-parse
-returns-in-Got-parse c = port_field_lem c.args.v.now _ _ _ c.in-Got.is _ _ c.parse.ensures c.in-Got.is
+returns-in-Got-parse c = port_field_lem c.args.v.now _ _ _ c.in-Got.is _ _ c.parse.ensures c.in-Got-parse.is
 
 pub returns-in-Refused : goal.returns-in-Refused
-returns-in-Refused c = port_field_lem c.args.v.now _ _ _ c.in-Got.is _ _ c.parse.ensures c.in-Got.is
+returns-in-Refused c = port_field_lem c.args.v.now _ _ _ c.in-Got.is _ _ c.parse.ensures c.in-Refused.is

@@ -11,12 +11,12 @@ returns-in_default c = out_of_order _ c.if-text-gt32768.false (rw c.in_default.i
 
 pub returns-in_default-time_lines : goal.returns-in_default-time_lines
 returns-in_default-time_lines c =
-    out_of_order _ c.if-text-gt32768.false ((rw c.in-Past.is at c.first_lines.ensures) ∙ c.session_lines-t.ensures ∙ (rw c.in-Past.is at c.time_lines.ensures))
+    out_of_order _ c.if-text-gt32768.false ((rw c.in-Past.is at c.first_lines.ensures) ∙ c.session_lines-t.ensures ∙ (rw c.in_default-time_lines.is at c.time_lines.ensures))
 
 pub returns-then-ended : goal.returns-then-ended
 returns-then-ended c =
-    in_order_lem _ c.if-text-gt32768.false ((rw c.in-Past.is at c.first_lines.ensures) ∙ c.session_lines-t.ensures ∙ (rw c.in-Past.is at c.time_lines.ensures) ∙ c.last_lines-m.ensures ∙ c.medias-end.ensures ∙ sym c.ended.ensures ∙ c.if-ended.true)
+    in_order_lem _ c.if-text-gt32768.false ((rw c.in-Past.is at c.first_lines.ensures) ∙ c.session_lines-t.ensures ∙ (rw c.in-Past-time_lines.is at c.time_lines.ensures) ∙ c.last_lines-m.ensures ∙ c.medias-end.ensures ∙ sym c.ended.ensures ∙ c.if-ended.true)
 
 pub returns : goal.returns
 returns c =
-    out_of_order _ c.if-text-gt32768.false ((rw c.in-Past.is at c.first_lines.ensures) ∙ c.session_lines-t.ensures ∙ (rw c.in-Past.is at c.time_lines.ensures) ∙ c.last_lines-m.ensures ∙ c.medias-end.ensures ∙ sym c.ended.ensures ∙ c.if-ended.false)
+    out_of_order _ c.if-text-gt32768.false ((rw c.in-Past.is at c.first_lines.ensures) ∙ c.session_lines-t.ensures ∙ (rw c.in-Past-time_lines.is at c.time_lines.ensures) ∙ c.last_lines-m.ensures ∙ c.medias-end.ensures ∙ sym c.ended.ensures ∙ c.if-ended.false)

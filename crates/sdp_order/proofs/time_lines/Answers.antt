@@ -14,10 +14,10 @@ returns-in_default c =
 
 pub returns-in-Through : goal.returns-in-Through
 returns-in-Through c =
-    run_same _ _ _ _ first_time ∙ must_come _ _ 0x74 _ (Past _) (rw c.in-Past.is at c.line_with.ensures) ∙ c.loop-next.invariant ∙ (rw c.in-Past.is at c.repeats.ensures)
+    run_same _ _ _ _ first_time ∙ must_come _ _ 0x74 _ (Past _) (rw c.in-Past.is at c.line_with.ensures) ∙ c.loop-next.invariant ∙ (rw c.in-Through.is at c.repeats.ensures)
 
 pub loop-next-smaller : goal.loop-next-smaller
-loop-next-smaller c = let h = rw c.in-Past.is at c.repeats.ensures in omega (arith, h.0.stands, h.0.moved)
+loop-next-smaller c = let h = rw c.in-AtRepeats.is at c.repeats.ensures in omega (arith, h.0.stands, h.0.moved)
 
 pub loop-next-preserved : goal.loop-next-preserved
-loop-next-preserved c = c.loop-next.invariant ∙ (rw c.in-Past.is at c.repeats.ensures).1
+loop-next-preserved c = c.loop-next.invariant ∙ (rw c.in-AtRepeats.is at c.repeats.ensures).1

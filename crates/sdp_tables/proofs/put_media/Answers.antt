@@ -15,12 +15,12 @@ returns c =
 
 pub put_mine_of-d-requires : goal.put_mine_of-d-requires
 put_mine_of-d-requires c =
-    record { w_value = (refl, connections_inside _ c.requires.counted.0); never_fall = connections-rise _ c.requires.counted.1 }
+    record { w_value = (refl, connections_inside _ c.requires.counted); never_fall = connections-rise _ c.requires.area_value }
 
 pub put_mine_of-e-requires : goal.put_mine_of-e-requires
 put_mine_of-e-requires c =
-    record { w_value = (refl, bandwidths_inside _ c.requires.counted.0); never_fall = bandwidths-rise _ c.requires.counted.1 }
+    record { w_value = (refl, bandwidths_inside _ c.requires.counted); never_fall = bandwidths-rise _ c.requires.area_value }
 
 pub put_mine_of-requires : goal.put_mine_of-requires
 put_mine_of-requires c =
-    record { w_value = (refl, attributes_inside _ c.requires.counted.0); never_fall = attributes-rise _ c.requires.counted.1 }
+    record { w_value = (refl, attributes_inside _ c.requires.counted); never_fall = attributes-rise _ c.requires.area_value }

@@ -18,4 +18,4 @@ returns c =
 
 pub put_mine_of-e-requires : goal.put_mine_of-e-requires
 put_mine_of-e-requires c =
-    record { w_value = (refl, offsets_inside _ c.requires.counted.0); never_fall = offsets-rise _ c.requires.counted.1 }
+    record { w_value = (refl, offsets_inside _ c.requires.counted); never_fall = offsets-rise _ c.requires.area_value }

@@ -6,19 +6,19 @@ use Rattle.sdp_take.proofs.ShapeLaws.{once_lands, row_lands}
 use Rattle.sdp_take.proofs.take_role.Goals as goal
 
 pub returns-in-Once : goal.returns-in-Once
-returns-in-Once c =
+returns-in-Once c ρ t h =
     rw (c.shape_of.ensures ∙ ap shape_role c.in-Once.is) (once_lands _ _ _ _ t (c.take_once.ensures ρ t h) c.what-1.given.0.0)
 
 pub returns-in-Row : goal.returns-in-Row
-returns-in-Row c =
+returns-in-Row c ρ t h =
     rw (c.shape_of.ensures ∙ ap shape_role c.in-Row.is) (row_lands _ _ _ _ t (c.take_row.ensures ρ t h) c.what-in-Row-1.given.0.0)
 
 pub returns-in-Repeat : goal.returns-in-Repeat
-returns-in-Repeat c = rw (c.shape_of.ensures ∙ ap shape_role c.in-Repeat.is) (c.take_repeat.ensures ρ t h)
+returns-in-Repeat c ρ t h = rw (c.shape_of.ensures ∙ ap shape_role c.in-Repeat.is) (c.take_repeat.ensures ρ t h)
 
 pub returns-in-Zone : goal.returns-in-Zone
-returns-in-Zone c = rw (c.shape_of.ensures ∙ ap shape_role c.in-Zone.is) (c.take_zone.ensures ρ t h)
+returns-in-Zone c ρ t h = rw (c.shape_of.ensures ∙ ap shape_role c.in-Zone.is) (c.take_zone.ensures ρ t h)
 
 pub returns-in-Nothing : goal.returns-in-Nothing
 unfolding step_role
-returns-in-Nothing c = rw (c.shape_of.ensures ∙ ap shape_role c.in-Nothing.is) h
+returns-in-Nothing c ρ t h = rw (c.shape_of.ensures ∙ ap shape_role c.in-Nothing.is) h

@@ -12,7 +12,7 @@ loop-w-init c =
     (refl, omega (arith, c.requires.1), λ ρ q a₀ t h o k. repeating-begin _ _ ρ.session q t _ _ k)
 
 pub returns-in-Refused : goal.returns-in-Refused
-returns-in-Refused c =
+returns-in-Refused c ρ q a₀ t h o k =
     let z = c.loop-w.invariant.2 ρ q a₀ t h o k in (offsets_wrong ρ _ a₀ t _ h q _ _ c.loop-w.room z.done (repeating_wrong _ _ ρ.session h.within q t _ _ _ z _ (sym c.repeat_offset.ensures ∙ c.in-Refused.is)) z.holds)
 
 pub loop-w-smaller : goal.loop-w-smaller
@@ -25,16 +25,16 @@ loop-w-preserved c =
     (search rules, omega arith, λ ρ q a₀ t h o k. repeating_next _ _ ρ.session h.within q t _ _ _ (c.loop-w.invariant.2 ρ q a₀ t h o k) _ _ _ _ e c.add_offset-room.ensures.value (rw o at c.add_offset-room.ensures.area_after))
 
 pub returns-in-Open : goal.returns-in-Open
-returns-in-Open c =
+returns-in-Open c ρ q a₀ t h o k =
     let z = (c.loop-w.invariant.2 ρ q a₀ t h o k) in
-    offsets-kept ρ _ a₀ t _ h q _ z.done (repeating_all _ _ ρ.session h.within q t _ _ _ z (sym c.repeat_offset.ensures ∙ c.in-Done.is)) (rw c.in-Done.is at z.holds)
+    offsets-kept ρ _ a₀ t _ h q _ z.done (repeating_all _ _ ρ.session h.within q t _ _ _ z (sym c.repeat_offset.ensures ∙ c.in-Done.is)) (rw c.in-Open.is at z.holds)
 
 pub returns-in-NoRepeats : goal.returns-in-NoRepeats
-returns-in-NoRepeats c =
+returns-in-NoRepeats c ρ q a₀ t h o k =
     let z = (c.loop-w.invariant.2 ρ q a₀ t h o k) in
-    offsets_six ρ _ a₀ t _ h q _ z.done (repeating_all _ _ ρ.session h.within q t _ _ _ z (sym c.repeat_offset.ensures ∙ c.in-Done.is)) (rw c.in-Done.is at z.holds)
+    offsets_six ρ _ a₀ t _ h q _ z.done (repeating_all _ _ ρ.session h.within q t _ _ _ z (sym c.repeat_offset.ensures ∙ c.in-Done.is)) (rw c.in-NoRepeats.is at z.holds)
 
 pub returns-in-NoOffsets : goal.returns-in-NoOffsets
-returns-in-NoOffsets c =
+returns-in-NoOffsets c ρ q a₀ t h o k =
     let z = (c.loop-w.invariant.2 ρ q a₀ t h o k) in
-    offsets_seven ρ _ a₀ t _ h q _ z.done (repeating_all _ _ ρ.session h.within q t _ _ _ z (sym c.repeat_offset.ensures ∙ c.in-Done.is)) (rw c.in-Done.is at z.holds)
+    offsets_seven ρ _ a₀ t _ h q _ z.done (repeating_all _ _ ρ.session h.within q t _ _ _ z (sym c.repeat_offset.ensures ∙ c.in-Done.is)) (rw c.in-NoOffsets.is at z.holds)

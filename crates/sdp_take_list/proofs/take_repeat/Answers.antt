@@ -16,25 +16,25 @@ use Rattle.sdp_take_list.proofs.take_repeat.Goals as goal
 
 pub returns-in_default : goal.returns-in_default
 unfolding step_role
-returns-in_default c =
+returns-in_default c ρ t h =
     let e = none_latest (num 2 c.args.area.now times_at) (sym c.latest_time.ensures ∙ c.in_default.is) in
     rw (rw (times_count ρ.session t h.within c.args.area.now h.bytes) at e) (refl, tail_of h)
 
 pub take_offsets-requires : goal.take_offsets-requires
-take_offsets-requires c = (omega arith, head_next _ _ (repeat_got _ _ (sym c.parse.ensures ∙ c.in-Time.is)))
+take_offsets-requires c = (omega arith, head_next _ _ (repeat_got _ _ (sym c.parse.ensures ∙ c.in-Got.is)))
 
 pub returns-in-Refused : goal.returns-in-Refused
 unfolding step_role
-returns-in-Refused c =
+returns-in-Refused c ρ t h =
     let e = (some_latest (num 2 c.args.area.now times_at) _ (sym c.latest_time.ensures ∙ c.in-Time.is)).0 in
-    let f = repeat-refused _ _ (sym c.parse.ensures ∙ c.in-Time.is) in
+    let f = repeat-refused _ _ (sym c.parse.ensures ∙ c.in-Refused.is) in
     rw (rw (times_count ρ.session t h.within c.args.area.now h.bytes) at e, head_wrong (span_at c.args.at []) ρ c.args.v.now c.w-1.given.0.0 f) (refl, tail_of h)
 
 pub returns-in-Got : goal.returns-in-Got
 unfolding step_role
-returns-in-Got c =
+returns-in-Got c ρ t h =
     let s = some_latest (num 2 c.args.area.now times_at) _ (sym c.latest_time.ensures ∙ c.in-Time.is) in
-    let f = repeat_got _ _ (sym c.parse.ensures ∙ c.in-Time.is) in
+    let f = repeat_got _ _ (sym c.parse.ensures ∙ c.in-Got.is) in
     let k = s.1 ∙ times_count ρ.session t h.within c.args.area.now h.bytes in
     let o = ap (λ (i : ℕ). i + 1) (c.repeats-owner.ensures.0 ∙ repeats_count ρ.session t h.within _ h.bytes) in
     let g = repeats-grown ρ.session t h.within _ h.bytes _ in

@@ -16,7 +16,7 @@ use Rattle.sdp_take_list.proofs.take_zone.Goals as goal
 
 pub returns-then-marks : goal.returns-then-marks
 unfolding step_role
-returns-then-marks c =
+returns-then-marks c ρ t h =
     once-second 17 _ _ _ (held h) t (sym (ap (λ (m : Marks). m.zoned) h.marks) ∙ c.if-marks.true) (tail_of h)
 
 pub loop-w-init : goal.loop-w-init
@@ -25,7 +25,7 @@ loop-w-init c =
 
 pub returns-in-Refused : goal.returns-in-Refused
 unfolding step_role
-returns-in-Refused c =
+returns-in-Refused c ρ t h =
     (once_wrong 17 _ _ _ _ _ (sym (ap (λ (m : Marks). m.zoned) h.marks) ∙ c.if-marks.false) _ (zoning_wrong _ ρ.session h.within t _ _ _ (c.loop-w.invariant.3 ρ t h (sym (ap (λ (m : Marks). m.zoned) h.marks) ∙ c.if-marks.false)) _ (sym c.parse.ensures ∙ c.in-Refused.is)) (zoning_tail _ ρ.session h.within t _ _ _ (c.loop-w.invariant.3 ρ t h (sym (ap (λ (m : Marks). m.zoned) h.marks) ∙ c.if-marks.false))))
 
 pub overflow_add-n : goal.overflow_add-n
@@ -42,10 +42,10 @@ loop-w-preserved c =
 
 pub returns-then-pairs-gt64 : goal.returns-then-pairs-gt64
 unfolding step_role
-returns-then-pairs-gt64 c =
+returns-then-pairs-gt64 c ρ t h =
     once_then 17 _ _ _ _ _ (sym (ap (λ (m : Marks). m.zoned) h.marks) ∙ c.if-marks.false) _ _ (zoning_all _ ρ.session h.within t _ _ _ (c.loop-w.invariant.3 ρ t h (sym (ap (λ (m : Marks). m.zoned) h.marks) ∙ c.if-marks.false)) (sym c.parse.ensures ∙ c.in-Done.is)) (zones_full (span_at c.args.at []) _ ρ _ _ t _ h _ _ (c.loop-w.invariant.3 ρ t h (sym (ap (λ (m : Marks). m.zoned) h.marks) ∙ c.if-marks.false)) c.if-pairs-gt64.true)
 
 pub returns : goal.returns
 unfolding step_role
-returns c =
+returns c ρ t h =
     once_then 17 _ _ _ _ _ (sym (ap (λ (m : Marks). m.zoned) h.marks) ∙ c.if-marks.false) _ _ (zoning_all _ ρ.session h.within t _ _ _ (c.loop-w.invariant.3 ρ t h (sym (ap (λ (m : Marks). m.zoned) h.marks) ∙ c.if-marks.false)) (sym c.parse.ensures ∙ c.in-Done.is)) (zones-kept (span_at c.args.at []) _ ρ _ _ t _ h _ _ (c.loop-w.invariant.3 ρ t h (sym (ap (λ (m : Marks). m.zoned) h.marks) ∙ c.if-marks.false)) c.if-pairs-gt64.false)

@@ -12,7 +12,7 @@ use Rattle.sdp_take_once.proofs.take_connection.Goals as goal
 
 pub returns-then-has_connection : goal.returns-then-has_connection
 unfolding step_role
-returns-then-has_connection c =
+returns-then-has_connection c ρ t h =
     once-second 16 _ _ _ (held h) t (sym (connection_mark ρ.session t h.within _ h.bytes) ∙ sym c.has_connection.ensures ∙ c.if-has_connection.true) (tail_of h)
 
 pub span_of-nettype-requires : goal.span_of-nettype-requires
@@ -32,10 +32,10 @@ set_connection-requires c = omega (arith, c.requires.0)
 
 pub returns-in-Refused : goal.returns-in-Refused
 unfolding step_role
-returns-in-Refused c =
+returns-in-Refused c ρ t h =
     (once_wrong 16 _ _ _ (held h) t (sym (connection_mark ρ.session t h.within _ h.bytes) ∙ sym c.has_connection.ensures ∙ c.if-has_connection.false) _ (connection_refused _ _ (sym c.parse.ensures ∙ c.in-Refused.is)) (tail_of h))
 
 pub returns-in-Got : goal.returns-in-Got
 unfolding step_role
-returns-in-Got c =
+returns-in-Got c ρ t h =
     once-kept 16 _ _ _ _ _ (sym (connection_mark ρ.session t h.within _ h.bytes) ∙ sym c.has_connection.ensures ∙ c.if-has_connection.false) _ _ _ (connection_got _ _ (sym c.parse.ensures ∙ c.in-Got.is)) refl (head_kept ρ _ _ _ _ t _ h h.marks (c.set_connection.ensures ∙ rw (c.span_of-nettype.ensures, c.span_of-addrtype.ensures, c.span_of-address.ensures) (connection_set ρ.session t h.within _ h.bytes _)))

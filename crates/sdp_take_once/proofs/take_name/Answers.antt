@@ -14,7 +14,7 @@ use Rattle.sdp_take_once.proofs.take_name.Goals as goal
 
 pub returns-then-marks : goal.returns-then-marks
 unfolding step_role
-returns-then-marks c =
+returns-then-marks c ρ t h =
     once-second 13 _ _ _ (held h) t (sym (ap (λ (m : Marks). m.named) h.marks) ∙ c.if-marks.true) (tail_of h)
 
 pub span_of-x-requires : goal.span_of-x-requires
@@ -26,10 +26,10 @@ set_name-requires c = omega (arith, c.requires.0)
 
 pub returns-in-Refused : goal.returns-in-Refused
 unfolding step_role
-returns-in-Refused c =
+returns-in-Refused c ρ t h =
     (once_wrong 13 _ _ _ (held h) t (sym (ap (λ (m : Marks). m.named) h.marks) ∙ c.if-marks.false) _ (whole-refused _ _ (sym c.whole.ensures ∙ c.in-Refused.is)) (tail_of h))
 
 pub returns-in-Got : goal.returns-in-Got
 unfolding step_role
-returns-in-Got c =
+returns-in-Got c ρ t h =
     once-kept 13 _ _ _ _ _ (sym (ap (λ (m : Marks). m.named) h.marks) ∙ c.if-marks.false) _ _ _ (whole_got _ _ (sym c.whole.ensures ∙ c.in-Got.is)) refl (head_kept ρ _ _ _ _ t _ h (ap (λ (m : Marks). record { named = true; zoned = m.zoned }) h.marks) (c.set_name.ensures ∙ rw c.span_of-x.ensures (name_set ρ.session t h.within _ h.bytes _)))

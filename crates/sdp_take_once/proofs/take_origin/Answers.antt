@@ -12,7 +12,7 @@ use Rattle.sdp_take_once.proofs.take_origin.Goals as goal
 
 pub returns-then-has_origin : goal.returns-then-has_origin
 unfolding step_role
-returns-then-has_origin c =
+returns-then-has_origin c ρ t h =
     once-second 12 _ _ _ (held h) t (sym (origin_mark ρ.session t h.within _ h.bytes) ∙ sym c.has_origin.ensures ∙ c.if-has_origin.true) (tail_of h)
 
 pub maybe_of-username-requires : goal.maybe_of-username-requires
@@ -40,10 +40,10 @@ set_origin-requires c = omega (arith, c.requires.0)
 
 pub returns-in-Refused : goal.returns-in-Refused
 unfolding step_role
-returns-in-Refused c =
+returns-in-Refused c ρ t h =
     (once_wrong 12 _ _ _ (held h) t (sym (origin_mark ρ.session t h.within _ h.bytes) ∙ sym c.has_origin.ensures ∙ c.if-has_origin.false) _ (origin_refused _ _ (sym c.parse.ensures ∙ c.in-Refused.is)) (tail_of h))
 
 pub returns-in-Got : goal.returns-in-Got
 unfolding step_role
-returns-in-Got c =
+returns-in-Got c ρ t h =
     once-kept 12 _ _ _ _ _ (sym (origin_mark ρ.session t h.within _ h.bytes) ∙ sym c.has_origin.ensures ∙ c.if-has_origin.false) _ _ _ (origin_got _ _ (sym c.parse.ensures ∙ c.in-Got.is)) refl (head_kept ρ _ _ _ _ t _ h h.marks (c.set_origin.ensures ∙ rw (c.maybe_of-username.ensures, c.span_of-sess_id.ensures, c.span_of-nettype.ensures, c.span_of-addrtype.ensures, c.span_of-address.ensures) (origin_set ρ.session t h.within _ h.bytes _)))

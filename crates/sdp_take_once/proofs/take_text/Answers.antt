@@ -13,7 +13,7 @@ use Rattle.sdp_take_once.proofs.TextLaws.{text-second, text_wrong, text-kept}
 use Rattle.sdp_take_once.proofs.take_text.Goals as goal
 
 pub returns-then-has_text : goal.returns-then-has_text
-returns-then-has_text c =
+returns-then-has_text c ρ t h =
     let b = c.args in
     rw c.text_number.ensures (text-second ρ b.marks b.area.now t h (span_at b.at b.v.now) b.v.now b.which (sym c.has_text.ensures ∙ c.if-has_text.true))
 
@@ -22,11 +22,11 @@ span_of-x-requires c =
     omega (arith, whole-within _ _ _ (whole_got _ _ (sym c.whole.ensures ∙ c.in-Got.is)), c.requires.1)
 
 pub returns-in-Refused : goal.returns-in-Refused
-returns-in-Refused c =
+returns-in-Refused c ρ t h =
     let b = c.args in
     (text_wrong ρ b.marks b.area.now t h (span_at b.at b.v.now) b.v.now b.which (sym c.has_text.ensures ∙ c.if-has_text.false) _ c.text_field.ensures _ (whole-refused _ _ (sym c.whole.ensures ∙ c.in-Refused.is)))
 
 pub returns-in-Got : goal.returns-in-Got
-returns-in-Got c =
+returns-in-Got c ρ t h =
     let b = c.args in
     text-kept ρ b.marks b.area.now t h (span_at b.at b.v.now) b.v.now b.which (sym c.has_text.ensures ∙ c.if-has_text.false) _ c.text_field.ensures _ _ (whole_got _ _ (sym c.whole.ensures ∙ c.in-Got.is)) (c.set_text.ensures ∙ ap (λ (y : Span). over_text b.which b.area.now (le 2 1 ++ span y)) c.span_of-x.ensures)

@@ -25,11 +25,11 @@ maybe_of-value-requires c =
 
 pub returns-in-Refused : goal.returns-in-Refused
 unfolding step_role
-returns-in-Refused c =
+returns-in-Refused c ρ t h =
     (row_wrong 9 512 _ _ _ (held h) t _ (attribute-refused _ _ (sym c.parse.ensures ∙ c.in-Refused.is)) (tail_of h))
 
 pub returns-in-Got : goal.returns-in-Got
 unfolding step_role
-returns-in-Got c =
+returns-in-Got c ρ t h =
     let q = attribute_in (span_at c.args.at []) (length ρ.session.tables.medias) c.k-1.given.0.0 in
     rw c.stored.ensures (row_pushed 9 512 ρ.session.tables.attributes _ _ _ (attribute_got _ _ (sym c.parse.ensures ∙ c.in-Got.is)) q (with_attributes ρ.session) _ t _ _ ρ h _ (c.push_attribute-p.ensures.value ∙ (attributes-grown ρ.session t h.within _ h.bytes q).0) (c.push_attribute-p.ensures.area_after ∙ rw (c.medias-owner.ensures.0, medias_count ρ.session t h.within _ h.bytes, c.span_of-name.ensures, c.maybe_of-value.ensures) (attributes-grown ρ.session t h.within _ h.bytes q).1) (within-attributes ρ.session h.within) refl refl refl)

@@ -16,11 +16,11 @@ span_of-x-requires c =
     omega (arith, whole-within _ _ _ (whole_got _ _ (sym c.whole.ensures ∙ c.in-Got.is)), c.requires.1)
 
 pub returns-in-Refused : goal.returns-in-Refused
-returns-in-Refused c =
+returns-in-Refused c ρ t h =
     let b = c.args in
     (contact_wrong ρ b.marks b.area.now t h (span_at b.at b.v.now) b.v.now _ b.which c.contact_field.ensures _ (whole-refused _ _ (sym c.whole.ensures ∙ c.in-Refused.is)))
 
 pub returns-in-Got : goal.returns-in-Got
-returns-in-Got c =
+returns-in-Got c ρ t h =
     let b = c.args in
     rw (c.stored.ensures, c.contact_table.ensures) (contact_pushed ρ b.marks b.area.now t h (span_at b.at b.v.now) b.v.now _ b.which c.contact_field.ensures _ _ _ (whole_got _ _ (sym c.whole.ensures ∙ c.in-Got.is)) c.push_contact-p.ensures.value (c.push_contact-p.ensures.area_after ∙ ap (λ (y : Span). grown b.area.now (contacts_at b.which) (most_contacts b.which) (span y)) c.span_of-x.ensures))

@@ -12,11 +12,11 @@ use Rattle.sdp_take_row.proofs.take_time.Goals as goal
 
 pub returns-in-Refused : goal.returns-in-Refused
 unfolding step_role
-returns-in-Refused c =
+returns-in-Refused c ρ t h =
     (row_wrong 5 32 _ _ _ (held h) t _ (time-refused _ _ (sym c.parse.ensures ∙ c.in-Refused.is)) (tail_of h))
 
 pub returns-in-Got : goal.returns-in-Got
 unfolding step_role
-returns-in-Got c =
+returns-in-Got c ρ t h =
     let q = time_in c.t-1.given.0.0 in
     rw c.stored.ensures (row_pushed 5 32 ρ.session.tables.times _ _ _ (time_got _ _ (sym c.parse.ensures ∙ c.in-Got.is)) q (with_times ρ.session) _ t _ _ ρ h _ (c.push_time-p.ensures.value ∙ (times-grown ρ.session t h.within _ h.bytes q).0) (c.push_time-p.ensures.area_after ∙ (times-grown ρ.session t h.within _ h.bytes q).1) (within-times ρ.session h.within) refl refl refl)

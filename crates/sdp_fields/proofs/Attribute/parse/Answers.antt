@@ -23,11 +23,11 @@ unfolding attribute_of
 returns-in-Got-choice_of c =
     sym (ap attribute_answer
     (by_text _ (c.text_of.ensures ∙ ap (text_of _ _) c.first_piece.ensures) c.in-Got.is
-    ∙ by_choice _ (c.choice_of.ensures ∙ ap (choice_of _ _) c.rest_after.ensures) c.in-Got.is))
+    ∙ by_choice _ (c.choice_of.ensures ∙ ap (choice_of _ _) c.rest_after.ensures) c.in-Got-choice_of.is))
 
 pub returns-in-Refused-choice_of : goal.returns-in-Refused-choice_of
 unfolding attribute_of
 returns-in-Refused-choice_of c =
     sym (ap attribute_answer
     (by_text _ (c.text_of.ensures ∙ ap (text_of _ _) c.first_piece.ensures) c.in-Got.is
-    ∙ by_choice _ (c.choice_of.ensures ∙ ap (choice_of _ _) c.rest_after.ensures) c.in-Got.is))
+    ∙ by_choice _ (c.choice_of.ensures ∙ ap (choice_of _ _) c.rest_after.ensures) c.in-Refused-choice_of.is))

@@ -23,20 +23,20 @@ unfolding bandwidth_of
 returns-in-Refused-number_of c =
     sym (ap bandwidth_answer
     (by_text _ (c.text_of.ensures ∙ ap (text_of _ _) c.first_piece.ensures) c.in-Got.is
-    ∙ by_amount _ (c.number_of.ensures ∙ ap (number_of _ _) c.piece_after.ensures) c.in-Got.is))
+    ∙ by_amount _ (c.number_of.ensures ∙ ap (number_of _ _) c.piece_after.ensures) c.in-Refused-number_of.is))
 
 pub returns-in-Got-piece_after : goal.returns-in-Got-piece_after
 unfolding bandwidth_of
 returns-in-Got-piece_after c =
     rw c.wrong_of.ensures (sym (ap bandwidth_answer
     (by_text _ (c.text_of.ensures ∙ ap (text_of _ _) c.first_piece.ensures) c.in-Got.is
-    ∙ by_amount _ (c.number_of.ensures ∙ ap (number_of _ _) c.piece_after.ensures) c.in-Got.is
-    ∙ by_end _ _ c.piece_after-2.ensures c.in-Got.is)))
+    ∙ by_amount _ (c.number_of.ensures ∙ ap (number_of _ _) c.piece_after.ensures) c.in-Got-number_of.is
+    ∙ by_end _ _ c.piece_after-2.ensures c.in-Got-piece_after.is)))
 
 pub returns : goal.returns
 unfolding bandwidth_of
 returns c =
     sym (ap bandwidth_answer
     (by_text _ (c.text_of.ensures ∙ ap (text_of _ _) c.first_piece.ensures) c.in-Got.is
-    ∙ by_amount _ (c.number_of.ensures ∙ ap (number_of _ _) c.piece_after.ensures) c.in-Got.is
-    ∙ by_end _ _ c.piece_after-2.ensures c.in-Got.is))
+    ∙ by_amount _ (c.number_of.ensures ∙ ap (number_of _ _) c.piece_after.ensures) c.in-Got-number_of.is
+    ∙ by_end _ _ c.piece_after-2.ensures c.in_default.is))

@@ -16,15 +16,15 @@ unfolding origin_of
 returns-in-Refused-word_text c =
     sym (ap origin_answer
     (text_next _ _ _ _ c.word_text.ensures c.in-Got.is
-    ∙ text_next _ _ _ _ c.word_text-2.ensures c.in-Got.is))
+    ∙ text_next _ _ _ _ c.word_text-2.ensures c.in-Refused-word_text.is))
 
 pub returns-in-Refused-word_number : goal.returns-in-Refused-word_number
 unfolding origin_of
 returns-in-Refused-word_number c =
     sym (ap origin_answer
     (text_next _ _ _ _ c.word_text.ensures c.in-Got.is
-    ∙ text_next _ _ _ _ c.word_text-2.ensures c.in-Got.is
-    ∙ number_next _ _ _ _ c.word_number.ensures c.in-Got.is))
+    ∙ text_next _ _ _ _ c.word_text-2.ensures c.in-Got-word_text.is
+    ∙ number_next _ _ _ _ c.word_number.ensures c.in-Refused-word_number.is))
 
 pub username_of-requires : goal.username_of-requires
 username_of-requires c = (text-within _ _ _ _ _ (word_within _ _) (sym c.word_text.ensures ∙ c.in-Got.is)).0
@@ -34,15 +34,15 @@ unfolding origin_of
 returns-in-Refused-word_address c =
     sym (ap origin_answer
     (text_next _ _ _ _ c.word_text.ensures c.in-Got.is
-    ∙ text_next _ _ _ _ c.word_text-2.ensures c.in-Got.is
-    ∙ number_next _ _ _ _ c.word_number.ensures c.in-Got.is
-    ∙ by_address 4 _ _ _ c.word_address.ensures c.in-Got.is))
+    ∙ text_next _ _ _ _ c.word_text-2.ensures c.in-Got-word_text.is
+    ∙ number_next _ _ _ _ c.word_number.ensures c.in-Got-word_number.is
+    ∙ by_address 4 _ _ _ c.word_address.ensures c.in-Refused-word_address.is))
 
 pub returns-in-Got-word_address : goal.returns-in-Got-word_address
 unfolding origin_of
 returns-in-Got-word_address c =
     rw c.username_of.ensures (sym (ap origin_answer
     (text_next _ _ _ _ c.word_text.ensures c.in-Got.is
-    ∙ text_next _ _ _ _ c.word_text-2.ensures c.in-Got.is
-    ∙ number_next _ _ _ _ c.word_number.ensures c.in-Got.is
-    ∙ by_address 4 _ _ _ c.word_address.ensures c.in-Got.is)))
+    ∙ text_next _ _ _ _ c.word_text-2.ensures c.in-Got-word_text.is
+    ∙ number_next _ _ _ _ c.word_number.ensures c.in-Got-word_number.is
+    ∙ by_address 4 _ _ _ c.word_address.ensures c.in-Got-word_address.is)))

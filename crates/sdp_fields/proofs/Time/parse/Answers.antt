@@ -14,20 +14,20 @@ unfolding times_of
 returns-in-Refused-word_number c =
     sym (ap time_answer
     (number_next _ _ _ _ c.word_number.ensures c.in-Got.is
-    ∙ number_next _ _ _ _ c.word_number-2.ensures c.in-Got.is))
+    ∙ number_next _ _ _ _ c.word_number-2.ensures c.in-Refused-word_number.is))
 
 pub returns-in-Got-word_at : goal.returns-in-Got-word_at
 unfolding times_of
 returns-in-Got-word_at c =
     rw c.wrong_of.ensures (sym (ap time_answer
     (number_next _ _ _ _ c.word_number.ensures c.in-Got.is
-    ∙ number_next _ _ _ _ c.word_number-2.ensures c.in-Got.is
-    ∙ end_next _ _ _ _ c.word_at.ensures c.in-Got.is)))
+    ∙ number_next _ _ _ _ c.word_number-2.ensures c.in-Got-word_number.is
+    ∙ end_next _ _ _ _ c.word_at.ensures c.in-Got-word_at.is)))
 
 pub returns : goal.returns
 unfolding times_of
 returns c =
     sym (ap time_answer
     (number_next _ _ _ _ c.word_number.ensures c.in-Got.is
-    ∙ number_next _ _ _ _ c.word_number-2.ensures c.in-Got.is
-    ∙ end_next _ _ _ _ c.word_at.ensures c.in-Got.is))
+    ∙ number_next _ _ _ _ c.word_number-2.ensures c.in-Got-word_number.is
+    ∙ end_next _ _ _ _ c.word_at.ensures c.in_default.is))

@@ -13,11 +13,11 @@ unfolding repeat_head
 returns-in-Got-word_time c =
     sym (ap repeat_answer
     (by_amount _ c.word_time.ensures c.in-Got.is
-    ∙ by_amount _ c.word_time-2.ensures c.in-Got.is))
+    ∙ by_amount _ c.word_time-2.ensures c.in-Got-word_time.is))
 
 pub returns-in-Refused-word_time : goal.returns-in-Refused-word_time
 unfolding repeat_head
 returns-in-Refused-word_time c =
     sym (ap repeat_answer
     (by_amount _ c.word_time.ensures c.in-Got.is
-    ∙ by_amount _ c.word_time-2.ensures c.in-Got.is))
+    ∙ by_amount _ c.word_time-2.ensures c.in-Refused-word_time.is))

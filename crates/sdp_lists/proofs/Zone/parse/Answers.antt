@@ -18,8 +18,8 @@ offset_of-requires c = rw c.word_at.ensures (word_within _ _)
 pub returns-in-Got : goal.returns-in-Got
 returns-in-Got c =
     c.zone_of.ensures ∙ ap (zone_done _) (c.offset_of.ensures ∙ ap (offset_of _ _) c.word_at.ensures)
-    ∙ zone_at_lem _ _ _ c.word_at-f.ensures _ _ c.in_default.is _ _ c.in_default.is c.number_of.ensures
+    ∙ zone_at_lem _ _ _ c.word_at-f.ensures _ _ c.in_default.is _ _ c.in-Got.is c.number_of.ensures
 
 pub returns-in-Refused : goal.returns-in-Refused
 returns-in-Refused c =
-    zone_at_lem _ _ _ c.word_at-f.ensures _ _ c.in_default.is _ _ c.in_default.is c.number_of.ensures
+    zone_at_lem _ _ _ c.word_at-f.ensures _ _ c.in_default.is _ _ c.in-Refused.is c.number_of.ensures

@@ -24,7 +24,7 @@ unfolding media_of
 returns-in-Refused-port_of c =
     sym (ap media_answer
     (by_text _ (c.text_of.ensures ∙ ap (text_of _ _) c.first_piece.ensures) c.in-Got.is
-    ∙ by_port _ _ _ (c.port_of.ensures ∙ ap (port_field _) c.m_piece.ensures) c.in-Got.is))
+    ∙ by_port _ _ _ (c.port_of.ensures ∙ ap (port_field _) c.m_piece.ensures) c.in-Refused-port_of.is))
 
 pub text_of-requires-2 : goal.text_of-requires-2
 text_of-requires-2 c = rw c.m_piece-2.ensures (after-within _ _ _)
@@ -34,8 +34,8 @@ unfolding media_of
 returns-in-Refused-text_of c =
     sym (ap media_answer
     (by_text _ (c.text_of.ensures ∙ ap (text_of _ _) c.first_piece.ensures) c.in-Got.is
-    ∙ by_port _ _ _ (c.port_of.ensures ∙ ap (port_field _) c.m_piece.ensures) c.in-Got.is
-    ∙ by_text _ (c.text_of-2.ensures ∙ ap (text_of _ _) c.m_piece-2.ensures) c.in-Got.is))
+    ∙ by_port _ _ _ (c.port_of.ensures ∙ ap (port_field _) c.m_piece.ensures) c.in-Got-port_of.is
+    ∙ by_text _ (c.text_of-2.ensures ∙ ap (text_of _ _) c.m_piece-2.ensures) c.in-Refused-text_of.is))
 
 pub text_of-requires-3 : goal.text_of-requires-3
 text_of-requires-3 c = rw c.rest_after.ensures (rest_within _ _)
@@ -45,15 +45,15 @@ unfolding media_of
 returns-in-Got-text_of-2 c =
     sym (ap media_answer
     (by_text _ (c.text_of.ensures ∙ ap (text_of _ _) c.first_piece.ensures) c.in-Got.is
-    ∙ by_port _ _ _ (c.port_of.ensures ∙ ap (port_field _) c.m_piece.ensures) c.in-Got.is
-    ∙ by_text _ (c.text_of-2.ensures ∙ ap (text_of _ _) c.m_piece-2.ensures) c.in-Got.is
-    ∙ by_text _ (c.text_of-3.ensures ∙ ap (text_of _ _) c.rest_after.ensures) c.in-Got.is))
+    ∙ by_port _ _ _ (c.port_of.ensures ∙ ap (port_field _) c.m_piece.ensures) c.in-Got-port_of.is
+    ∙ by_text _ (c.text_of-2.ensures ∙ ap (text_of _ _) c.m_piece-2.ensures) c.in-Got-text_of.is
+    ∙ by_text _ (c.text_of-3.ensures ∙ ap (text_of _ _) c.rest_after.ensures) c.in-Got-text_of-2.is))
 
 pub returns-in-Refused-text_of-2 : goal.returns-in-Refused-text_of-2
 unfolding media_of
 returns-in-Refused-text_of-2 c =
     sym (ap media_answer
     (by_text _ (c.text_of.ensures ∙ ap (text_of _ _) c.first_piece.ensures) c.in-Got.is
-    ∙ by_port _ _ _ (c.port_of.ensures ∙ ap (port_field _) c.m_piece.ensures) c.in-Got.is
-    ∙ by_text _ (c.text_of-2.ensures ∙ ap (text_of _ _) c.m_piece-2.ensures) c.in-Got.is
-    ∙ by_text _ (c.text_of-3.ensures ∙ ap (text_of _ _) c.rest_after.ensures) c.in-Got.is))
+    ∙ by_port _ _ _ (c.port_of.ensures ∙ ap (port_field _) c.m_piece.ensures) c.in-Got-port_of.is
+    ∙ by_text _ (c.text_of-2.ensures ∙ ap (text_of _ _) c.m_piece-2.ensures) c.in-Got-text_of.is
+    ∙ by_text _ (c.text_of-3.ensures ∙ ap (text_of _ _) c.rest_after.ensures) c.in-Refused-text_of-2.is))
