@@ -15,7 +15,7 @@ loop-i-init c =
 pub put_time_lines-q-requires : goal.put_time_lines-q-requires
 put_time_lines-q-requires c =
     let h = left_here _ _ _ _ _ _ _ c.loop-i-test.true c.loop-i.invariant.1 in
-    (h, c.requires)
+    record { p_in_bounds = h; counted = c.requires.counted; area_value = c.requires.area_value }
 
 pub overflow_add-p-in-loop-i : goal.overflow_add-p-in-loop-i
 overflow_add-p-in-loop-i c =

@@ -18,7 +18,7 @@ loop-i-init c =
 pub put_media-q-requires : goal.put_media-q-requires
 put_media-q-requires c =
     let h = left_here _ _ _ _ _ _ _ c.loop-i-test.true c.loop-i.invariant.1 in
-    (omega (arith, h), c.requires)
+    record { p_in_bounds = omega (arith, h); counted = c.requires.counted; area_value = c.requires.area_value }
 
 pub overflow_add-p-in-loop-i : goal.overflow_add-p-in-loop-i
 overflow_add-p-in-loop-i c =

@@ -33,7 +33,7 @@ get2-requires c =
     omega (arith, h)
 
 pub put_repeat-q-requires : goal.put_repeat-q-requires
-put_repeat-q-requires c = (left_here _ _ _ _ _ _ _ c.loop-i-test.true c.loop-i.invariant.1.rows, c.requires)
+put_repeat-q-requires c = record { p_in_bounds = left_here _ _ _ _ _ _ _ c.loop-i-test.true c.loop-i.invariant.1.rows; counted = c.requires.counted; area_value = c.requires.area_value }
 
 pub overflow_add-p-in-loop-i : goal.overflow_add-p-in-loop-i
 overflow_add-p-in-loop-i c =

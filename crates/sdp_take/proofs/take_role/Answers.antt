@@ -7,11 +7,11 @@ use Rattle.sdp_take.proofs.take_role.Goals as goal
 
 pub returns-in-Once : goal.returns-in-Once
 returns-in-Once c ρ t h =
-    rw (c.shape_of.ensures ∙ ap shape_role c.in-Once.is) (once_lands _ _ _ _ t (c.take_once.ensures ρ t h) c.what-1.given.0.0)
+    rw (c.shape_of.ensures ∙ ap shape_role c.in-Once.is) (once_lands _ _ _ _ t (c.take_once.ensures ρ t h) c.in-Once.what)
 
 pub returns-in-Row : goal.returns-in-Row
 returns-in-Row c ρ t h =
-    rw (c.shape_of.ensures ∙ ap shape_role c.in-Row.is) (row_lands _ _ _ _ t (c.take_row.ensures ρ t h) c.what-in-Row-1.given.0.0)
+    rw (c.shape_of.ensures ∙ ap shape_role c.in-Row.is) (row_lands _ _ _ _ t (c.take_row.ensures ρ t h) c.in-Row.what)
 
 pub returns-in-Repeat : goal.returns-in-Repeat
 returns-in-Repeat c ρ t h = rw (c.shape_of.ensures ∙ ap shape_role c.in-Repeat.is) (c.take_repeat.ensures ρ t h)

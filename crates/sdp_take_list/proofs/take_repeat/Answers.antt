@@ -28,7 +28,7 @@ unfolding step_role
 returns-in-Refused c ρ t h =
     let e = (some_latest (num 2 c.args.area.now times_at) _ (sym c.latest_time.ensures ∙ c.in-Time.is)).0 in
     let f = repeat-refused _ _ (sym c.parse.ensures ∙ c.in-Refused.is) in
-    rw (rw (times_count ρ.session t h.within c.args.area.now h.bytes) at e, head_wrong (span_at c.args.at []) ρ c.args.v.now c.w-1.given.0.0 f) (refl, tail_of h)
+    rw (rw (times_count ρ.session t h.within c.args.area.now h.bytes) at e, head_wrong (span_at c.args.at []) ρ c.args.v.now c.in-Refused.w f) (refl, tail_of h)
 
 pub returns-in-Got : goal.returns-in-Got
 unfolding step_role
@@ -40,4 +40,4 @@ returns-in-Got c ρ t h =
     let g = repeats-grown ρ.session t h.within _ h.bytes _ in
     let u = c.push_repeat-p.ensures in
     let r = room_begin ρ.session h.within _ _ _ t (u.value ∙ g.0) (u.area_after ∙ g.1) in
-    rw (rw (times_count ρ.session t h.within c.args.area.now h.bytes) at s.0, head_got (span_at c.args.at []) ρ c.args.v.now c.h-1.given.0.0 f, ← k) (c.take_offsets.ensures ρ _ _ t h o (rw (← c.repeat_room.ensures) at r))
+    rw (rw (times_count ρ.session t h.within c.args.area.now h.bytes) at s.0, head_got (span_at c.args.at []) ρ c.args.v.now c.in-Got.h f, ← k) (c.take_offsets.ensures ρ _ _ t h o (rw (← c.repeat_room.ensures) at r))

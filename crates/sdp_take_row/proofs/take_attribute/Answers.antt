@@ -31,5 +31,5 @@ returns-in-Refused c ρ t h =
 pub returns-in-Got : goal.returns-in-Got
 unfolding step_role
 returns-in-Got c ρ t h =
-    let q = attribute_in (span_at c.args.at []) (length ρ.session.tables.medias) c.k-1.given.0.0 in
+    let q = attribute_in (span_at c.args.at []) (length ρ.session.tables.medias) c.in-Got.k in
     rw c.stored.ensures (row_pushed 9 512 ρ.session.tables.attributes _ _ _ (attribute_got _ _ (sym c.parse.ensures ∙ c.in-Got.is)) q (with_attributes ρ.session) _ t _ _ ρ h _ (c.push_attribute-p.ensures.value ∙ (attributes-grown ρ.session t h.within _ h.bytes q).0) (c.push_attribute-p.ensures.area_after ∙ rw (c.medias-owner.ensures.0, medias_count ρ.session t h.within _ h.bytes, c.span_of-name.ensures, c.maybe_of-value.ensures) (attributes-grown ρ.session t h.within _ h.bytes q).1) (within-attributes ρ.session h.within) refl refl refl)

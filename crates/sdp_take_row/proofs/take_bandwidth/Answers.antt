@@ -27,5 +27,5 @@ returns-in-Refused c ρ t h =
 pub returns-in-Got : goal.returns-in-Got
 unfolding step_role
 returns-in-Got c ρ t h =
-    let q = bandwidth_in (span_at c.args.at []) (length ρ.session.tables.medias) c.b-1.given.0.0 in
+    let q = bandwidth_in (span_at c.args.at []) (length ρ.session.tables.medias) c.in-Got.b in
     rw c.stored.ensures (row_pushed 4 64 ρ.session.tables.bandwidths _ _ _ (bandwidth_got _ _ (sym c.parse.ensures ∙ c.in-Got.is)) q (with_bandwidths ρ.session) _ t _ _ ρ h _ (c.push_bandwidth-p.ensures.value ∙ (bandwidths-grown ρ.session t h.within _ h.bytes q).0) (c.push_bandwidth-p.ensures.area_after ∙ rw (c.medias-owner.ensures.0, medias_count ρ.session t h.within _ h.bytes, c.span_of-bwtype.ensures) (bandwidths-grown ρ.session t h.within _ h.bytes q).1) (within-bandwidths ρ.session h.within) refl refl refl)

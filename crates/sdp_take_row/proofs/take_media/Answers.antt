@@ -34,5 +34,5 @@ returns-in-Refused c ρ t h =
 pub returns-in-Got : goal.returns-in-Got
 unfolding step_role
 returns-in-Got c ρ t h =
-    let q = media_in (span_at c.args.at []) c.m-1.given.0.0 in
+    let q = media_in (span_at c.args.at []) c.in-Got.m in
     rw c.stored.ensures (row_pushed 10 32 ρ.session.tables.medias _ _ _ (media_got _ _ (sym c.parse_m_line.ensures ∙ c.in-Got.is)) q (with_medias ρ.session) _ t _ _ ρ h _ (c.push_media-p.ensures.value ∙ (medias-grown ρ.session t h.within _ h.bytes q).0) (c.push_media-p.ensures.area_after ∙ rw (c.span_of-media.ensures, c.ports_of-ports.ensures, c.span_of-proto.ensures, c.span_of-fmt.ensures) (medias-grown ρ.session t h.within _ h.bytes q).1) (within-medias ρ.session h.within) refl refl refl)

@@ -35,5 +35,5 @@ returns-in-Refused c ρ t h =
 pub returns-in-Got : goal.returns-in-Got
 unfolding step_role
 returns-in-Got c ρ t h =
-    let q = media_connection_in (span_at c.args.at []) (length ρ.session.tables.medias) c.c-1.given.0.0 in
+    let q = media_connection_in (span_at c.args.at []) (length ρ.session.tables.medias) c.in-Got.c in
     rw c.stored.ensures (row_pushed 3 64 ρ.session.tables.connections _ _ _ (connection_got _ _ (sym c.parse.ensures ∙ c.in-Got.is)) q (with_connections ρ.session) _ t _ _ ρ h _ (c.push_connection-p.ensures.value ∙ (connections-grown ρ.session t h.within _ h.bytes q).0) (c.push_connection-p.ensures.area_after ∙ rw (c.medias-owner.ensures.0, medias_count ρ.session t h.within _ h.bytes, c.span_of-nettype.ensures, c.span_of-addrtype.ensures, c.span_of-address.ensures) (connections-grown ρ.session t h.within _ h.bytes q).1) (within-connections ρ.session h.within) refl refl refl)

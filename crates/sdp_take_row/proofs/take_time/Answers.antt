@@ -18,5 +18,5 @@ returns-in-Refused c ρ t h =
 pub returns-in-Got : goal.returns-in-Got
 unfolding step_role
 returns-in-Got c ρ t h =
-    let q = time_in c.t-1.given.0.0 in
+    let q = time_in c.in-Got.t in
     rw c.stored.ensures (row_pushed 5 32 ρ.session.tables.times _ _ _ (time_got _ _ (sym c.parse.ensures ∙ c.in-Got.is)) q (with_times ρ.session) _ t _ _ ρ h _ (c.push_time-p.ensures.value ∙ (times-grown ρ.session t h.within _ h.bytes q).0) (c.push_time-p.ensures.area_after ∙ (times-grown ρ.session t h.within _ h.bytes q).1) (within-times ρ.session h.within) refl refl refl)

@@ -6,25 +6,25 @@ use Rattle.sdp_valid.proofs.CountedLaws.{emails_inside, phones_inside, connectio
 use Rattle.sdp_valid.proofs.fine_tables.Goals as goal
 
 pub fine_rows-requires : goal.fine_rows-requires
-fine_rows-requires c = let h = c.requires in record { plain_value = h.0; w_value = (refl, emails_inside _ h.1) }
+fine_rows-requires c = record { plain_value = c.requires.plain_value; w_value = (refl, emails_inside _ c.requires.counted) }
 
 pub fine_rows-requires-2 : goal.fine_rows-requires-2
-fine_rows-requires-2 c = let h = c.requires in record { plain_value = h.0; w_value = (refl, phones_inside _ h.1) }
+fine_rows-requires-2 c = record { plain_value = c.requires.plain_value; w_value = (refl, phones_inside _ c.requires.counted) }
 
 pub fine_rows-requires-3 : goal.fine_rows-requires-3
 fine_rows-requires-3 c =
-    let h = c.requires in record { plain_value = h.0; w_value = (refl, connections_inside _ h.1) }
+    record { plain_value = c.requires.plain_value; w_value = (refl, connections_inside _ c.requires.counted) }
 
 pub fine_rows-requires-4 : goal.fine_rows-requires-4
 fine_rows-requires-4 c =
-    let h = c.requires in record { plain_value = h.0; w_value = (refl, bandwidths_inside _ h.1) }
+    record { plain_value = c.requires.plain_value; w_value = (refl, bandwidths_inside _ c.requires.counted) }
 
 pub fine_rows-requires-5 : goal.fine_rows-requires-5
 fine_rows-requires-5 c =
-    let h = c.requires in record { plain_value = h.0; w_value = (refl, attributes_inside _ h.1) }
+    record { plain_value = c.requires.plain_value; w_value = (refl, attributes_inside _ c.requires.counted) }
 
 pub fine_rows-requires-6 : goal.fine_rows-requires-6
-fine_rows-requires-6 c = let h = c.requires in record { plain_value = h.0; w_value = (refl, medias_inside _ h.1) }
+fine_rows-requires-6 c = record { plain_value = c.requires.plain_value; w_value = (refl, medias_inside _ c.requires.counted) }
 
 pub returns : goal.returns
 unfolding fine_tables

@@ -18,9 +18,9 @@ owners_fine-requires c =
 
 pub fine_tables-requires : goal.fine_tables-requires
 fine_tables-requires c =
-    record { plain_value = c.plain_text-plain.ensures; counted = owners_fine-requires c c.owners_fine.lifetimes }
+    record { plain_value = c.plain_text-plain.ensures; counted = counts_known _ c.requires (sym c.small_counts.ensures ∙ c.if-not-small_counts.false) (sym c.large_counts.ensures ∙ c.if-not-large_counts.false) }
 
 pub returns : goal.returns
 returns c =
     ap₂ ◌&&◌ c.owners_fine.ensures (ap₂ ◌&&◌ c.fine_head.ensures c.fine_tables.ensures)
-    ∙ sym (counts_yes _ _ (owners_fine-requires c c.owners_fine.lifetimes))
+    ∙ sym (counts_yes _ _ (counts_known _ c.requires (sym c.small_counts.ensures ∙ c.if-not-small_counts.false) (sym c.large_counts.ensures ∙ c.if-not-large_counts.false)))
