@@ -8,7 +8,7 @@ good_line-requires c = (c.requires.0, (c.requires.1.0, (c.requires.1.1.0, rw c.i
 pub returns-then-state : goal.returns-then-state
 returns-then-state c =
     let a = c.args in
-    rw c.in-Found.is (turns_good a.text.now a.state a.area.now c.next-in-Found-1.given.0.0 _ _ _ _ c.if-state.true c.good_line.ensures)
+    rw c.in-Found.is (turns_good a.text.now a.state a.area.now c.in-Found.number _ _ _ _ c.if-state.true c.good_line.ensures)
 
 pub opened_line-requires : goal.opened_line-requires
 opened_line-requires c = (c.requires.1.1.0, rw c.in-Found.is at c.requires.1.1.1)
@@ -21,7 +21,7 @@ returns-in-End c =
 pub returns-in-Refused : goal.returns-in-Refused
 returns-in-Refused c =
     let a = c.args in
-    rw (c.refused.ensures, c.on_line.ensures, c.fault_number.ensures, c.in-Refused.is) (turns_bad a.text.now a.state a.area.now c.next-1.given.0.0 _)
+    rw (c.refused.ensures, c.on_line.ensures, c.fault_number.ensures, c.in-Refused.is) (turns_bad a.text.now a.state a.area.now c.in-Refused.fault _)
 
 pub returns-in-Empty : goal.returns-in-Empty
 returns-in-Empty c =
@@ -31,4 +31,4 @@ returns-in-Empty c =
 pub returns-else-state : goal.returns-else-state
 returns-else-state c =
     let a = c.args in
-    rw (c.opened_line.ensures, c.in-Found.is) (turns_opened a.text.now a.state a.area.now c.next-in-Found-1.given.0.0 _ _ c.if-state.false)
+    rw (c.opened_line.ensures, c.in-Found.is) (turns_opened a.text.now a.state a.area.now c.in-Found.number _ _ c.if-state.false)

@@ -7,4 +7,4 @@ pub returns-then-w-ne8 : goal.returns-then-w-ne8
 returns-then-w-ne8 c = λ h. c.on_line.ensures ∙ none_told _ _ _ c.if-w-ne8.true
 
 pub returns : goal.returns
-returns c = λ h. byte_told _ _ _ _ c.if-w-ne8.false c.wrapping_add_usize.ensures h
+returns c = λ h. byte_told _ _ _ _ c.if-w-ne8.false c.wrapping_add_usize.ensures.value h
