@@ -3,4 +3,3 @@ pub mod TallyLaws
 pub mod RestLaws
 pub mod LoopLaws
 pub mod ReadLaws
-pub mod AgainLaws

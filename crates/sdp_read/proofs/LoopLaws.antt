@@ -1,8 +1,8 @@
 -- The loop over the lines: what holds before each line.
 -- Assumes nothing.
-use Prim.Native.Nat.{ℕ, ◌≤◌}
+use Prim.Native.Nat.{ℕ, ◌+◌, ◌-◌, ◌≤◌, ◌<◌}
 use native.Mathlib.Omega.{arith}
-use mathlib.Core.Path.{◌≡◌, refl, ap, subst, ◌∙◌}
+use mathlib.Core.Path.{◌≡◌, refl, sym, ap, subst, ◌∙◌}
 use mathlib.Core.Bool.{false}
 use mathlib.Core.List.{List}
 use lib.ListN.{length}
@@ -14,13 +14,16 @@ use Rattle.sdp_area.specs.Columns.{cells, area_of}
 use Rattle.sdp_cells.proofs.ByteLaws.{length-zeros}
 use Rattle.sdp_stamp.specs.Stamp.{no_stamps}
 use Rattle.sdp_counts.specs.Count.{no_counts}
-use Rattle.sdp_turn.specs.Turn.{Standing, searching, Lined, on, ended, stopped, unread, Stands, Turned}
+use Rattle.sdp_cutter.specs.Cutter.{move_at, standing, due}
+use Rattle.sdp_cutter.specs.declared.Cutter.{Cutter}
+use Rattle.sdp_turn.specs.Turn.{Standing, searching, Lined, on, ended, stopped, unread, lines_in, Stands, Turned, Turns, Passes}
 use Rattle.sdp_read.specs.From.{Reached, begin_at, counts_at, begin_stamps_at, line_at, EndsFrom}
 use Rattle.sdp_turn.specs.declared.State.{State}
 use Rattle.sdp_turn.specs.declared.Ended.{Ended}
 use Rattle.sdp_turn.specs.declared.Ended.TheVariants.{Accepted, Stopped, Unread}
+use Rattle.sdp_turn.specs.declared.Turn.{Turn}
 use Rattle.sdp_turn.specs.declared.Turn.TheVariants.{Goes, Over}
-use Rattle.sdp_read.proofs.CutLaws.{then}
+use Rattle.sdp_read.proofs.CutLaws.{Further, then, goes_further}
 use Rattle.sdp_read.proofs.TallyLaws.{plus_none}
 use Rattle.sdp_read.proofs.RestLaws.{rest_of, verdict_on, total_of, Totals, stamps_on, Stamps, rest_line, total_line, stamps_line}
 
@@ -88,3 +91,47 @@ module _ (s : List ℕ) (short : length s ≤ longest_text) (from d : Cursor) (m
       go (unread x) e (Unread y) h = rw (left_on (unread x) e) h
       go (unread x) e (Accepted c) h = absurd h
       go (unread x) e (Stopped y) h = absurd h
+
+-- what holds before each line, where the cutter stands at k; the area was ys before the first
+pub record Before (s : List ℕ) (from : Cursor) (ys : List ℕ) (k : Cutter) (m : State) (a : List ℕ) : Type 0 where
+  pub reached : Reached s (due k)
+  pub few : lines_in m ≤ k.at.0
+  pub going : (r : List ℕ) → ys ≡ area_of empty no_stamps r → Going s from (due k) m a r
+
+-- what one line does, where the cutter then stands at y and the area is a'
+abbrev pub Said : List ℕ → Cutter → State → List ℕ → Turn → Cutter → List ℕ → Type 0
+Said s k m a r y a' =
+    (Turns (λ x. line_at s x (due k)) m r a a' × Passes (move_at s k.at k.line).next m r) × (y ≡ standing (move_at s k.at k.line))
+
+pub before_first : (s : List ℕ) (k : Cutter) (ys : List ℕ) → Reached s (due k) → Before s (due k) ys k none ys
+before_first s k ys w = record { reached = w; few = omega arith; going = λ r e. going_begin s (due k) ys r e }
+
+module _ (s : List ℕ) (short : length s ≤ longest_text) (from : Cursor) (ys : List ℕ) (k : Cutter) (m : State) (a : List ℕ) (b : Before s from ys k m a) (y : Cutter) (a' : List ℕ) where
+  -- a line after which the run goes on
+  module _ (n : State) (e : Said s k m a (Goes n) y a') where
+    passes : Further s (due k) (due y) × (lines_in n ≡ lines_in m + 1)
+    passes = subst (λ (u : Cutter). Further s (due k) (due u) × (lines_in n ≡ lines_in m + 1)) (sym e.1) (goes_further s (due k) m n e.0.1)
+
+    reached_on : Reached s (due y)
+    reached_on = passes.0.reached b.reached
+
+    going_next : (r : List ℕ) → ys ≡ area_of empty no_stamps r → Going s from (due y) n a' r
+    going_next r q =
+        let g = b.going r q in
+        subst (λ (u : Cutter). Going s from (due u) n a' r) (sym e.1) (going_on s short from (due k) m b.reached a a' r g n (e.0.0 g.so_far r g.stands))
+
+    pub before_next : Before s from ys y n a'
+    before_next =
+        record { reached = reached_on; few = omega (arith, passes.0.forward, passes.1, b.few); going = going_next }
+
+    pub nearer : length s - y.at.0 < length s - k.at.0
+    nearer =
+        let f = passes.0.forward in
+        let i = reached_on.inside in
+        omega (arith, f, i)
+
+  -- the last line
+  pub at_last : (x : Ended) → Said s k m a (Over x) y a' → (r : List ℕ) → ys ≡ area_of empty no_stamps r → EndsFrom s from x a' r
+  at_last x e r q =
+      let g = b.going r q in
+      going_over s short from (due k) m b.reached a a' r g x (e.0.0 g.so_far r g.stands)
