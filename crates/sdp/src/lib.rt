@@ -1,4 +1,6 @@
 // What Rust and C call: byte slices and numbers in, numbers out. c/sdp.h has the C declarations.
+#![tactic(auto)]
+
 ghost use Rattle.std.specs.Prelude.{◌≡◌};
 ghost use Rattle.sdp_utf8.specs.Utf8.{utf8_end};
 ghost use Rattle.sdp_bytes.specs.Token.{is_token};

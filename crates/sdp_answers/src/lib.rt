@@ -1,4 +1,6 @@
 // The leaves' answers in numbers, as they cross to Rust and C.
+#![tactic(auto)]
+
 ghost use Rattle.std.specs.Prelude.{◌≡◌};
 ghost use Rattle.sdp_answers.specs.Boundary.{numeral_of, piece_of};
 

@@ -1,4 +1,6 @@
 // The record area: a session in bytes at fixed places that the caller lends. docs/AREA.md has its layout.
+#![tactic(auto)]
+
 ghost use Rattle.std.specs.Prelude.{◌≡◌, cond, ◌++◌, ◌+◌, ◌*◌, ◌≤◌, ◌<◌, length, drop, eqb};
 ghost use Rattle.std.proofs.Math.Option.{none};
 ghost use Rattle.sdp_numbers.specs.Tables.{most_media_connections, most_bandwidths, most_times, most_repeats, most_offsets, most_zones, most_attributes, most_medias};

@@ -1,5 +1,7 @@
 // Document 01, module 6: small records by hand, after builders.rs. Each method takes a record and hands it back with one
 // field set. The records hold what set_origin and push_media of the record area take.
+#![tactic(auto)]
+
 ghost use Rattle.std.specs.Prelude.{◌≡◌};
 ghost use Rattle.sdp_builders.specs.Set.{with_username, with_num_ports};
 

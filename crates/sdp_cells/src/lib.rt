@@ -1,4 +1,6 @@
 // Numbers of two bytes, rows of them, and tables of rows, anywhere in a lent area.
+#![tactic(auto)]
+
 ghost use Rattle.std.specs.Prelude.{◌≡◌, ◌+◌, ◌*◌, ◌≤◌, ◌<◌, length, eqb};
 ghost use Rattle.sdp_cells.specs.Bytes.{le, num, over};
 ghost use Rattle.sdp_cells.specs.Tables.{pairs, grown, told};

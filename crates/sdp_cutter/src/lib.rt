@@ -1,4 +1,6 @@
 // Document 01, "Forms we want to see": the crate's LineParser and Line, over the cursor by value.
+#![tactic(auto)]
+
 ghost use Rattle.std.specs.Prelude.{◌≡◌};
 ghost use Rattle.sdp_cutter.specs.Cutter.{stands_at, move_at, standing};
 

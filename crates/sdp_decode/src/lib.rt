@@ -1,4 +1,6 @@
 // Numbers of the record area, whatever its bytes are: past its end every byte is 0.
+#![tactic(auto)]
+
 ghost use Rattle.std.specs.Prelude.{◌≡◌, ◌<◌};
 ghost use Rattle.sdp_cells.specs.Bytes.{num};
 

@@ -1,4 +1,6 @@
 // Document 01, module 3: one reader for each record of fixed shape but m. parser.rs has the same names.
+#![tactic(auto)]
+
 ghost use Rattle.std.specs.Prelude.{◌≡◌, ◌≤◌};
 ghost use Rattle.sdp_split.specs.Split.{words_at, Inside};
 ghost use Rattle.sdp_fields.specs.Records.{username_of, origin_of, address_of, connection_of, bandwidth_of, times_of, attribute_of};

@@ -1,4 +1,6 @@
 // Document 01, module 3: one field judged, a string, a token, a number or a time. parser.rs has the same names.
+#![tactic(auto)]
+
 ghost use Rattle.std.specs.Prelude.{◌≡◌};
 ghost use Rattle.sdp_split.specs.Split.{Inside, Within, word_at};
 ghost use Rattle.sdp_judge.specs.Read.{wrong_of, encoding, amount_of, text_of, token_of, number_of, time_of, choice_of, whole_of, whole_answer};

@@ -1,4 +1,6 @@
 // The length of what is written of an area, found without writing it: a sum over fields and rows. p is a place in the area.
+#![tactic(auto)]
+
 ghost use Rattle.std.specs.Prelude.{◌≡◌, true, [], ◌∷◌, ◌++◌, ℕ, ◌+◌, ◌≤◌, ◌<◌, length};
 ghost use Rattle.sdp_area.specs.Area.{origin_at, connection_at, times_at, zones_at};
 ghost use Rattle.sdp_lines.specs.Strings.{bytes_of};

@@ -1,4 +1,6 @@
 // Document 01, module 4: one line, taken from plain parameters. Whoever calls these needs no walk by hand.
+#![tactic(auto)]
+
 ghost use Rattle.std.specs.Prelude.{◌≡◌, ◌+◌, ◌≤◌, length};
 ghost use Rattle.sdp_numbers.specs.Refusals.{longest_text};
 ghost use Rattle.sdp_area.specs.Area.{size};

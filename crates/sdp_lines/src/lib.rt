@@ -1,4 +1,6 @@
 // Document 01, module 2: cutting a text into lines, and line form.
+#![tactic(auto)]
+
 ghost use Rattle.std.specs.Prelude.{◌≡◌};
 ghost use Rattle.sdp_lines.specs.Lines.{plain_form, next_line, start, cut_at};
 ghost use Rattle.sdp_lines.specs.Quick.{stop_byte, stop_index, crlf_at, first_of, equals_second};

@@ -1,4 +1,6 @@
 // A list of starts, kept in order in three lent arrays.
+#![tactic(auto)]
+
 ghost use Rattle.std.specs.Prelude.{◌≡◌, ◌+◌, ◌-◌, ◌*◌, ◌^◌, ◌≤◌, ◌<◌, length};
 ghost use Rattle.sdp_hours.specs.Listing.{before};
 ghost use Rattle.sdp_hours.specs.Starts.{numbered};

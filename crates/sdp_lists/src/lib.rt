@@ -1,4 +1,6 @@
 // Document 01, module 3: the readers of r and z, whose lists are read one offset or pair at a time. parser.rs has the same names.
+#![tactic(auto)]
+
 ghost use Rattle.std.specs.Prelude.{◌≡◌};
 ghost use Rattle.sdp_lists.specs.Answers.{repeat_head, repeat_answer, offset_at, zone_done, zone_at};
 

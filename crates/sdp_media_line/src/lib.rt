@@ -1,4 +1,6 @@
 // Document 01, module 3: the reader of the m line. parser.rs has the same names.
+#![tactic(auto)]
+
 ghost use Rattle.std.specs.Prelude.{◌≡◌};
 ghost use Rattle.sdp_split.specs.Split.{Inside, Within, piece_after};
 ghost use Rattle.sdp_judge.specs.Read.{got};

@@ -1,4 +1,6 @@
 // Whole numbers and typed times of document 01, "Fields".
+#![tactic(auto)]
+
 ghost use Rattle.std.specs.Prelude.{◌≡◌, cond, ◌+◌, ◌<◌, ◌^◌};
 ghost use Rattle.sdp_utf8.specs.Utf8.{is_utf8};
 ghost use Rattle.sdp_number.specs.Number.{digits_below, drop_plus, whole_number, unit_of, scaled, typed_time};

@@ -1,4 +1,6 @@
 // Document 01, module 7: the letter order of a text.
+#![tactic(auto)]
+
 ghost use Rattle.std.specs.Prelude.{◌≡◌, false};
 ghost use Rattle.sdp_lines.specs.Lines.{start};
 ghost use Rattle.sdp_order.specs.Expression.{Expr, empty, letter, ◌·◌, ◌*, ◌⁇};

@@ -1,5 +1,7 @@
 // Writers of one piece each: bytes go into out from at on, what finds no room is only counted, and the next place is returned.
 // So a call with at = out.len() changes nothing and counts.
+#![tactic(auto)]
+
 ghost use Rattle.std.specs.Prelude.{◌≡◌, true, List, [], ◌∷◌, ◌++◌, ◌+◌, ◌/◌, ◌%◌, ◌≤◌, ◌<◌, length};
 ghost use Rattle.sdp_cells.specs.Bytes.{le};
 ghost use Rattle.sdp_put.specs.Out.{placed, put, Put};

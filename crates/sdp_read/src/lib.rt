@@ -1,4 +1,6 @@
 // Document 01, module 4: session and media reading, a text line by line.
+#![tactic(auto)]
+
 ghost use Rattle.std.specs.Prelude.{◌≡◌, List, ℕ, ◌≤◌, length};
 ghost use Rattle.sdp_numbers.specs.Refusals.{longest_text};
 ghost use Rattle.sdp_area.specs.Session.{empty};

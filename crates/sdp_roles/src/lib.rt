@@ -1,4 +1,6 @@
 // Document 01, "Lines": what a line's letter is for.
+#![tactic(auto)]
+
 ghost use Rattle.std.specs.Prelude.{◌≡◌};
 ghost use Rattle.sdp_roles.specs.Roles.{before_media, from_media, role_at};
 

@@ -1,4 +1,6 @@
 // Room that is enough for what is written of an area, found without writing it.
+#![tactic(auto)]
+
 ghost use Rattle.std.specs.Prelude.{◌≡◌, ◌+◌, ◌≤◌, ◌<◌, length};
 ghost use Rattle.sdp_area.specs.Area.{size};
 ghost use Rattle.sdp_valid.specs.Counted.{Counted, Inside, width_of};

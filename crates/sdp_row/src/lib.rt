@@ -1,5 +1,7 @@
 // The parts of a line and single lines of a session, put into an output, after writer.rs. Each function puts its bytes into out from at on;
 // what finds no room is only counted. p is a place in the area; what is read from there on lies in it.
+#![tactic(auto)]
+
 ghost use Rattle.std.specs.Prelude.{[], ◌∷◌, ◌++◌, ◌+◌, ◌≤◌, length};
 ghost use Rattle.sdp_lines.specs.Strings.{bytes_of};
 ghost use Rattle.sdp_area.specs.Area.{size, origin_at, connection_at};

@@ -1,4 +1,6 @@
 // Document 01, module 3: how a line's value is split into fields.
+#![tactic(auto)]
+
 ghost use Rattle.std.specs.Prelude.{◌≡◌, ◌≤◌, length, drop};
 ghost use Rattle.sdp_split.specs.Split.{spaces, piece_from, word_at, first_piece, piece_after, rest_after};
 

@@ -1,4 +1,6 @@
 // Document 02, P9: the number of a line, put into the cells of the records that were read from it.
+#![tactic(auto)]
+
 ghost use Rattle.std.specs.Prelude.{◌≡◌, [], ◌∷◌, ◌+◌, ◌*◌, ◌≤◌, length};
 ghost use Rattle.sdp_cells.specs.Bytes.{over};
 ghost use Rattle.sdp_cells.specs.Tables.{pairs};

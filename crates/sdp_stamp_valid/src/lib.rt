@@ -1,4 +1,6 @@
 // Document 02, P9: whether no line in the cells of an area is above the limit, judged on any bytes.
+#![tactic(auto)]
+
 ghost use Rattle.std.specs.Prelude.{◌≡◌, ◌+◌, ◌*◌, ◌≤◌, length};
 ghost use Rattle.sdp_cells.specs.Bytes.{num};
 ghost use Rattle.sdp_area.specs.Area.{medias_at};

@@ -1,5 +1,7 @@
 // Document 02, P3, "When will it start?": the starts of a session in a window. The list is made in three lent arrays of 256 numbers each; n
 // is how many starts it has so far, 257 for more than 256.
+#![tactic(auto)]
+
 ghost use Rattle.std.specs.Prelude.{◌≡◌, true, [], ◌+◌, ◌<◌};
 ghost use Rattle.sdp_cells.specs.Bytes.{num};
 ghost use Rattle.sdp_decode.specs.Rows.{each, mine};

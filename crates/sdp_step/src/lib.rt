@@ -1,4 +1,6 @@
 // Document 01, module 4: what a line did, told by every function that takes one.
+#![tactic(auto)]
+
 ghost use Rattle.std.specs.Prelude.{◌≡◌};
 ghost use Rattle.sdp_step.specs.Hold.{stored_of};
 

@@ -1,4 +1,6 @@
 // The strings of a line's value as places in the text.
+#![tactic(auto)]
+
 ghost use Rattle.std.specs.Prelude.{◌≡◌, [], ◌+◌, ◌≤◌};
 ghost use Rattle.sdp_numbers.specs.Refusals.{longest_text};
 ghost use Rattle.sdp_strings.specs.Strings.{span_at};

@@ -1,5 +1,7 @@
 // The lines of a session that its tables give, after writer.rs. Each put function puts its bytes into out from at on; what finds no room
 // is only counted.
+#![tactic(auto)]
+
 ghost use Rattle.std.specs.Prelude.{◌≡◌, ◌+◌, ◌≤◌, length, true};
 ghost use Rattle.sdp_lines.specs.Strings.{bytes_of};
 ghost use Rattle.sdp_cells.specs.Bytes.{num};

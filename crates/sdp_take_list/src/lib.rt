@@ -1,4 +1,6 @@
 // Document 01, module 4: the r and the z line, each with a list.
+#![tactic(auto)]
+
 ghost use Rattle.std.specs.Prelude.{◌≡◌, ◌+◌, ◌≤◌, length};
 ghost use Rattle.sdp_numbers.specs.Refusals.{longest_text};
 ghost use Rattle.sdp_numbers.specs.Tables.{most_offsets};

@@ -1,4 +1,6 @@
 // Document 01, module 4: a line that is one row more of a table.
+#![tactic(auto)]
+
 ghost use Rattle.std.specs.Prelude.{◌≡◌, ◌+◌, ◌≤◌, length};
 ghost use Rattle.sdp_numbers.specs.Refusals.{longest_text};
 ghost use Rattle.sdp_area.specs.Area.{size};

@@ -1,4 +1,6 @@
 // Document 01, module 4: one line, by what the cutter found, and what it does to a reading.
+#![tactic(auto)]
+
 ghost use Rattle.std.specs.Prelude.{◌≡◌, ◌+◌, ◌^◌, ◌<◌, ◌≤◌, length};
 ghost use Rattle.sdp_numbers.specs.Refusals.{longest_text, encoding};
 ghost use Rattle.sdp_area.specs.Columns.{area_size};

@@ -1,4 +1,6 @@
 // Whether the session of an area can be used with a text: refusals 2, 1 and 23, for writing and for all that is judged as writing is.
+#![tactic(auto)]
+
 ghost use Rattle.std.specs.Prelude.{◌≡◌};
 ghost use Rattle.sdp_unfit.specs.Unfit.{unfit};
 

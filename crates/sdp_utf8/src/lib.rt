@@ -1,4 +1,6 @@
 // The UTF-8 test of RFC 3629.
+#![tactic(auto)]
+
 ghost use Rattle.std.specs.Prelude.{◌≡◌, cond, [], ◌∷◌};
 ghost use Rattle.sdp_bytes.specs.Ranges.{◌to◌, in_at, fits};
 ghost use Rattle.sdp_bytes.specs.Runs.{run_len};

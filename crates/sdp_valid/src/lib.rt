@@ -1,4 +1,6 @@
 // Whether the session that a record area holds can be written, judged on any bytes: refusal 23.
+#![tactic(auto)]
+
 ghost use Rattle.std.specs.Prelude.{◌≡◌, true, ◌+◌, ◌≤◌, length};
 ghost use Rattle.sdp_cells.specs.Bytes.{num};
 ghost use Rattle.sdp_area.specs.Area.{size};

@@ -1,5 +1,7 @@
 // The numbers of an arithmetic progression that lie in a window, found without walking them: "start + k times interval + offset", while one
 // zone offset holds. No sum wraps: what is below 0 or past 64 bits is told apart.
+#![tactic(auto)]
+
 ghost use Rattle.std.specs.Prelude.{◌≡◌, ◌+◌, ◌%◌, ◌<◌};
 ghost use Rattle.sdp_hours.specs.Hours.{east, west};
 ghost use Rattle.sdp_window.specs.Run.{gap, counted, run_of, sum_of, run_in, once_in, lowest, highest, end_of, part_run};

@@ -1,5 +1,7 @@
 // Document 01, module 5, and document 02, P7: writing a whole session, after writer.rs, in two calls. Each put function puts its bytes into out
 // from at on; what finds no room is only counted.
+#![tactic(auto)]
+
 ghost use Rattle.std.specs.Prelude.{◌≡◌, true, cond, ◌≤◌, ltb, length};
 ghost use Rattle.sdp_lines.specs.Strings.{bytes_of};
 ghost use Rattle.sdp_area.specs.Area.{size};

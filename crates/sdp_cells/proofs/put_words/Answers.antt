@@ -16,14 +16,13 @@ unfolding flat
 loop-i-init c = (omega arith, omega arith, refl, over_none c.args.a.now c.args.at)
 
 pub loop-i-preserved : goal.loop-i-preserved
-loop-i-preserved c =
-    (
-      omega arith,
-      omega arith,
-      omega arith,
-      put_more c.args.a.now c.loop-i.a c.put2.new.a c.args.ws.now c.args.at c.loop-i.p c.loop-i.i
-          c.loop-i-test.true c.loop-i.invariant.1 c.requires c.loop-i.invariant.3 c.put2.ensures,
-    )
+loop-i-preserved c = (
+  omega arith,
+  omega arith,
+  omega arith,
+  put_more c.args.a.now c.loop-i.a c.put2.new.a c.args.ws.now c.args.at c.loop-i.p c.loop-i.i
+      c.loop-i-test.true c.loop-i.invariant.1 c.requires c.loop-i.invariant.3 c.put2.ensures,
+)
 
 pub returns : goal.returns
 returns c =

@@ -1,8 +1,6 @@
 use Rattle.std.proofs.Common.{◌≡◌, true, [], ◌∷◌, ◌++◌, ℕ, ◌+◌, ◌≤◌, ◌<◌, length, ◌-◌, ◌*◌}
 use Rattle.sdp_area.specs.Area.{origin_at, connection_at, times_at, zones_at}
 use Rattle.sdp_lines.specs.Strings.{bytes_of}
-
-
 use Rattle.sdp_decode.specs.Rows.{marked}
 use Rattle.sdp_decode.specs.Decode.{num2, span_of, origin_of, connection_of, bandwidth_of, attribute_of, times_in, zones_in, decode}
 use Rattle.sdp_valid.specs.Judge.{owners}

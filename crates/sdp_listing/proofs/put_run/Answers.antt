@@ -9,12 +9,11 @@ pub loop-k-init : goal.loop-k-init
 loop-k-init c = none_filled _ _ _ _ _ _ _ c.requires.3
 
 pub put_in-requires : goal.put_in-requires
-put_in-requires c =
-    (
-      omega (arith, c.requires.0, c.loop-k.invariant.rows, c.loop-k.invariant.ats),
-      omega (arith, c.requires.1, c.loop-k.invariant.rows, c.loop-k.invariant.times),
-      omega (arith, c.requires.2, c.loop-k.invariant.rows, c.loop-k.invariant.repeats),
-    )
+put_in-requires c = (
+  omega (arith, c.requires.0, c.loop-k.invariant.rows, c.loop-k.invariant.ats),
+  omega (arith, c.requires.1, c.loop-k.invariant.rows, c.loop-k.invariant.times),
+  omega (arith, c.requires.2, c.loop-k.invariant.rows, c.loop-k.invariant.repeats),
+)
 
 pub overflow_add-m : goal.overflow_add-m
 overflow_add-m c = omega (arith, c.loop-k.invariant.rows, c.requires.0)

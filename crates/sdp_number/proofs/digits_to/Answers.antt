@@ -26,12 +26,11 @@ returns-then-max-v-2 c =
     sym (c.loop-i.invariant.2 ∙ over _ _ _ _ c.loop-i-test.true c.if-b-lt48.false c.if-b-gt57.false (omega arith))
 
 pub loop-i-preserved : goal.loop-i-preserved
-loop-i-preserved c =
-    (
-      omega arith,
-      omega arith,
-      rw c.wide-d.ensures (c.loop-i.invariant.2 ∙ next _ _ _ _ c.loop-i-test.true c.if-b-lt48.false c.if-b-gt57.false),
-    )
+loop-i-preserved c = (
+  omega arith,
+  omega arith,
+  rw c.wide-d.ensures (c.loop-i.invariant.2 ∙ next _ _ _ _ c.loop-i-test.true c.if-b-lt48.false c.if-b-gt57.false),
+)
 
 pub returns : goal.returns
 returns c = sym (c.loop-i.invariant.2 ∙ done _ _ _ _ c.loop-i-test.false (omega arith))

@@ -8,14 +8,13 @@ use Prim.Native.Nat.{◌-◌}
 use Rattle.sdp_room.proofs.rows_room.Goals as goal
 
 pub loop-i-init : goal.loop-i-init
-loop-i-init c =
-    (
-      c.get2-n.ensures.1,
-      omega arith,
-      all_inside _ _ _ _ c.get2-n.ensures.0 c.requires.1,
-      omega arith,
-      sum_all (row_room c.args.area.now c.args.row) _ _ _ _ c.get2-n.ensures.0,
-    )
+loop-i-init c = (
+  c.get2-n.ensures.1,
+  omega arith,
+  all_inside _ _ _ _ c.get2-n.ensures.0 c.requires.1,
+  omega arith,
+  sum_all (row_room c.args.area.now c.args.row) _ _ _ _ c.get2-n.ensures.0,
+)
 
 pub row_room-sum-requires : goal.row_room-sum-requires
 row_room-sum-requires c =

@@ -17,13 +17,12 @@ put_offset-m-requires c =
     (left_roomy (row c.args.area.now c.args.i c.args.j c.args.rule c.args.w) offset_of 10 offsets_at _ _ _ _ c.loop-k.invariant.3 c.requires.0, c.requires.1, omega (arith, c.loop-k.invariant.3.few, c.loop-k.invariant.3.near, c.loop-k-test.true))
 
 pub loop-k-preserved : goal.loop-k-preserved
-loop-k-preserved c =
-    (
-      omega (arith, c.loop-k.invariant.0),
-      omega (arith, c.loop-k.invariant.1),
-      omega (arith, c.loop-k.invariant.2),
-      left_turn (row c.args.area.now c.args.i c.args.j c.args.rule c.args.w) offset_of 10 offsets_at _ _ _ _ (omega arith) c.loop-k-test.true c.loop-k.invariant.3 c.put_offset-m.ensures,
-    )
+loop-k-preserved c = (
+  omega (arith, c.loop-k.invariant.0),
+  omega (arith, c.loop-k.invariant.1),
+  omega (arith, c.loop-k.invariant.2),
+  left_turn (row c.args.area.now c.args.i c.args.j c.args.rule c.args.w) offset_of 10 offsets_at _ _ _ _ (omega arith) c.loop-k-test.true c.loop-k.invariant.3 c.put_offset-m.ensures,
+)
 
 pub returns : goal.returns
 returns c =

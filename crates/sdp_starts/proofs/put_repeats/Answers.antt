@@ -17,13 +17,12 @@ put_own_repeat-m-requires c =
     (left_roomy (row c.args.area.now c.args.i c.args.start c.args.stop c.args.w) repeat_of 18 repeats_at _ _ _ _ c.loop-j.invariant.3 c.requires.0, c.requires.1, omega (arith, c.loop-j.invariant.3.few, c.loop-j.invariant.3.near, c.loop-j-test.true))
 
 pub loop-j-preserved : goal.loop-j-preserved
-loop-j-preserved c =
-    (
-      omega (arith, c.loop-j.invariant.0),
-      omega (arith, c.loop-j.invariant.1),
-      omega (arith, c.loop-j.invariant.2),
-      left_turn (row c.args.area.now c.args.i c.args.start c.args.stop c.args.w) repeat_of 18 repeats_at _ _ _ _ (omega arith) c.loop-j-test.true c.loop-j.invariant.3 c.put_own_repeat-m.ensures,
-    )
+loop-j-preserved c = (
+  omega (arith, c.loop-j.invariant.0),
+  omega (arith, c.loop-j.invariant.1),
+  omega (arith, c.loop-j.invariant.2),
+  left_turn (row c.args.area.now c.args.i c.args.start c.args.stop c.args.w) repeat_of 18 repeats_at _ _ _ _ (omega arith) c.loop-j-test.true c.loop-j.invariant.3 c.put_own_repeat-m.ensures,
+)
 
 pub returns : goal.returns
 returns c =

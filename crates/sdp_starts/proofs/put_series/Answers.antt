@@ -14,13 +14,12 @@ pub put_before-m-requires : goal.put_before-m-requires
 put_before-m-requires c = passed_roomy _ _ _ _ _ _ _ _ c.loop-i.invariant.3 c.requires.0
 
 pub loop-i-preserved : goal.loop-i-preserved
-loop-i-preserved c =
-    (
-      omega (arith, c.loop-i.invariant.0),
-      omega (arith, c.loop-i.invariant.1),
-      omega (arith, c.loop-i.invariant.2),
-      passed_turn _ _ _ _ _ _ _ _ c.loop-i.invariant.3 c.loop-i-test.true c.num8-a.ensures c.num8-zone.ensures c.put_before-m.ensures,
-    )
+loop-i-preserved c = (
+  omega (arith, c.loop-i.invariant.0),
+  omega (arith, c.loop-i.invariant.1),
+  omega (arith, c.loop-i.invariant.2),
+  passed_turn _ _ _ _ _ _ _ _ c.loop-i.invariant.3 c.loop-i-test.true c.num8-a.ensures c.num8-zone.ensures c.put_before-m.ensures,
+)
 
 pub put_part-requires : goal.put_part-requires
 put_part-requires c = passed_roomy _ _ _ _ _ _ _ _ c.loop-i.invariant.3 c.requires.0

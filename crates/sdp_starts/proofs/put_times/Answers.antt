@@ -19,13 +19,12 @@ put_time-n-requires c =
     (left_roomy (row c.args.area.now c.args.w) time_of 16 times_at _ _ _ _ c.loop-i.invariant.3 c.requires.0, c.requires.1, omega (arith, c.loop-i.invariant.3.few, c.loop-i.invariant.3.near, c.loop-i-test.true))
 
 pub loop-i-preserved : goal.loop-i-preserved
-loop-i-preserved c =
-    (
-      omega (arith, c.loop-i.invariant.0),
-      omega (arith, c.loop-i.invariant.1),
-      omega (arith, c.loop-i.invariant.2),
-      left_turn (row c.args.area.now c.args.w) time_of 16 times_at _ _ _ _ (omega arith) c.loop-i-test.true c.loop-i.invariant.3 c.put_time-n.ensures,
-    )
+loop-i-preserved c = (
+  omega (arith, c.loop-i.invariant.0),
+  omega (arith, c.loop-i.invariant.1),
+  omega (arith, c.loop-i.invariant.2),
+  left_turn (row c.args.area.now c.args.w) time_of 16 times_at _ _ _ _ (omega arith) c.loop-i-test.true c.loop-i.invariant.3 c.put_time-n.ensures,
+)
 
 pub returns : goal.returns
 returns c =
