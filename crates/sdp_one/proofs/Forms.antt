@@ -1,5 +1,5 @@
--- The exceptions of docs/ONE-ANSWER.md whose proofs are walks by hand: their promises stand in specs/Walked.antt, and `..-said` ties each to the
--- source: it is what the clause of the contract says. Assumes nothing.
+-- The exceptions of docs/ONE-ANSWER.md whose promises are written out in specs/Walked.antt: `.._said` ties each to the source: it is what the
+-- clause of the contract says; `.._once` says the same of what a caller learns, as the toolchain reads it. Assumes nothing.
 use mathlib.Core.Path.{◌≡◌, refl}
 use mathlib.Core.List.{List, [], ◌∷◌}
 use Prim.Native.Nat.{ℕ}
@@ -23,6 +23,9 @@ use Rattle.sdp_cutter.specs.declared.Next.{Next}
 use Rattle.sdp_cutter.specs.contracts.Cutter as T
 use Rattle.sdp_cutter.specs.contracts.next_line as next
 use Rattle.sdp_cutter.specs.contracts.made as make
+use Rattle.sdp_cutter.proofs.next_line.Reads as nextReads
+use Rattle.sdp_cutter.proofs.made.Reads as madeReads
+use Rattle.sdp_one.specs.One.{OneAnswer, OneState}
 use Rattle.sdp_one.specs.Walked.{NextLine, Made}
 use Rattle.sdp_one.proofs.OneLaws.{same}
 
@@ -41,6 +44,9 @@ module _ {M : Type 1} {𝓤 : Ura M} (𝓛 : Logic 𝓤) (κs : Lfts 2) (mem : M
 
 pub sdp_cutter_next_line : (c : Cutter) (s : List ℕ) (r r' : Next) (z z' : Cutter) → NextLine c s r z → NextLine c s r' z' → (r ≡ r') × (z ≡ z')
 sdp_cutter_next_line c s r r' z z' p q = (same p.0 q.0, same p.1 q.1)
+
+pub next_line_once : OneState (λ κs e. e.0.now) nextReads.Learnt
+next_line_once κs a z z' e e' = sdp_cutter_next_line a.0.now a.1.0.now z z' e.0.now e'.0.now
 
 -- ---- made
 module _ {M : Type 1} {𝓤 : Ura M} (𝓛 : Logic 𝓤) (κs : Lfts 1) (mem : Memory → SProp 𝓤) (run : Routine → Fun 𝓤) where
@@ -61,3 +67,6 @@ module _ {M : Type 1} {𝓤 : Ura M} (𝓛 : Logic 𝓤) (κs : Lfts 1) (mem : M
 
 pub sdp_cutter_made : (n : LineNumber) (l : ℕ) (v : Bor (List ℕ)) (r r' : Line) → Made n l v r → Made n l v r' → r ≡ r'
 sdp_cutter_made n l v r r' p q = λ i. record { number = same p.0 q.0 i; letter = same p.1.0 q.1.0 i; value = same p.1.1 q.1.1 i }
+
+pub made_once : OneAnswer madeReads.Learnt
+made_once κs a z z' e e' = sdp_cutter_made a.0 a.1.0 a.1.1.0 z z'

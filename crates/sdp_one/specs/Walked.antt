@@ -1,5 +1,5 @@
--- The promises of public functions whose proofs are walks by hand, written out: the toolchain makes no `Learnt` of them. proofs/Forms.antt
--- ties each to the source.
+-- The promises of two public functions, over a lent struct and over a struct with a reference in it, written out. proofs/Forms.antt ties each to
+-- the source.
 use Rattle.std.specs.Prelude.{◌≡◌, List, ℕ}
 use Rattle.std.specs.Borrow.{Bor}
 use Rattle.sdp_lines.specs.declared.LineNumber.{LineNumber}
