@@ -1,14 +1,18 @@
 // Document 01, module 8: reads a text from standard input and prints its written form, or how it is refused.
+#![tactic(auto)]
+
 ghost use Rattle.std.specs.Prelude.{◌≤◌, length};
+ghost use Rattle.std.specs.Io.{ReadsAtMost, WritesAtMost};
 ghost use Rattle.sdp_area.specs.Columns.{area_size};
 ghost use Rattle.sdp_bound.specs.Bound.{room_of_any};
 ghost use Rattle.canon.specs.Canon.{Holds, refused_line, printed};
 
-use libc::{EINTR, STDIN_FILENO, STDOUT_FILENO};
 use sdp_lines::Answer;
 use sdp_put::{put_all, put_byte, put_number};
 use sdp_read::read;
 use sdp_write::{fill, length};
+use std::io;
+use std::io::{ErrorKind, Read, Stdin, Stdout, Write};
 
 // A call is made again while signals interrupt it, at most so many times.
 const TRIES: u64 = 1000000;
@@ -16,89 +20,83 @@ const TRIES: u64 = 1000000;
 // Behind a text that is too long, at most so many reads take what is left of the input.
 const READS: u64 = 65536;
 
-// How many bytes came in, and whether the input then ended or the buffer was full: else a read failed.
+// How many bytes came in, and whether the input then ended or the buffer was full: else why a read failed.
 #[derive(Drop)]
 pub struct Input {
     len: usize,
-    good: bool,
+    good: io::Result<()>,
 }
 
 // One read, made again while signals interrupt it.
-fn read_some(into: &mut [u8]) -> isize {
-    let mut got = libc::read(STDIN_FILENO, into);
-    let mut left = TRIES;
-    while left > 0 {
-        if got >= 0 {
-            break;
+fn read_some(stdin: &mut Stdin, into: &mut [u8]) -> io::Result<usize>
+    ensures { ReadsAtMost result into.new }
+{
+    for _ in 0..TRIES {
+        match stdin.read(into) {
+            Err(e) if e.kind() == ErrorKind::Interrupted => {}
+            got => return got,
         }
-        if os::errno() != EINTR {
-            break;
-        }
-        got = libc::read(STDIN_FILENO, into);
-        left -= 1;
     }
-    got
+    stdin.read(into)
 }
 
 // One write, made again while signals interrupt it.
-fn write_some(from: &[u8]) -> isize {
-    let mut got = libc::write(STDOUT_FILENO, from);
-    let mut left = TRIES;
-    while left > 0 {
-        if got >= 0 {
-            break;
+fn write_some(stdout: &mut Stdout, from: &[u8]) -> io::Result<usize>
+    ensures { WritesAtMost result from.now }
+{
+    for _ in 0..TRIES {
+        match stdout.write(from) {
+            Err(e) if e.kind() == ErrorKind::Interrupted => {}
+            got => return got,
         }
-        if os::errno() != EINTR {
-            break;
-        }
-        got = libc::write(STDOUT_FILENO, from);
-        left -= 1;
     }
-    got
+    stdout.write(from)
 }
 
 // Reads, in as many pieces as it takes, until the input ends or text is full.
-fn read_text(text: &mut [u8]) -> Input
+fn read_text(stdin: &mut Stdin, text: &mut [u8]) -> Input
     ensures { result.len ≤ length text.new }
 {
     let mut n: usize = 0;
     while n < text.len() {
-        let rest = &mut text[n..];
-        let got = read_some(rest);
-        let k = io::count(got, rest);
-        if k == 0 {
-            return Input {
+        match read_some(stdin, &mut text[n..]) {
+            Ok(0) => return Input {
                 len: n,
-                good: got == 0,
-            };
+                good: Ok(()),
+            },
+            Ok(k) => n += k,
+            Err(e) => return Input {
+                len: n,
+                good: Err(e),
+            },
         }
-        n += k;
     }
-    Input { len: n, good: true }
+    Input {
+        len: n,
+        good: Ok(()),
+    }
 }
 
-// Writes all of text, in as many pieces as it takes, and answers whether it could.
-fn write_text(text: &[u8]) -> bool {
+// Writes all of text, in as many pieces as it takes.
+fn write_text(stdout: &mut Stdout, text: &[u8]) -> io::Result<()> {
     let mut n: usize = 0;
     while n < text.len() {
-        let rest = &text[n..];
-        let k = io::count(write_some(rest), rest);
+        let k = write_some(stdout, &text[n..])?;
         if k == 0 {
-            return false;
+            return Err(io::Error::from(ErrorKind::WriteZero));
         }
         n += k;
     }
-    true
+    Ok(())
 }
 
 // Takes what is left of the input, so that a program that pipes in a long text is not stopped.
-fn read_on(into: &mut [u8]) {
-    let mut left = READS;
-    while left > 0 {
-        if read_some(into) <= 0 {
-            return;
+fn read_on(stdin: &mut Stdin, into: &mut [u8]) {
+    for _ in 0..READS {
+        match read_some(stdin, into) {
+            Ok(0) | Err(_) => return,
+            Ok(_) => {}
         }
-        left -= 1;
     }
 }
 
@@ -134,22 +132,22 @@ fn canon(text: &[u8], area: &mut [u8], out: &mut [u8]) -> usize
 
 // One byte more than a text may have tells that it is too long. The area has sdp_area's AREA_SIZE, and out the room that canon
 // asks for.
-fn main() {
+fn main(rt: HostRuntime) -> io::Result<()> {
+    let mut stdin = rt.stdin();
     let mut text = [0u8; 32769];
-    let input = read_text(&mut text);
-    if !input.good {
-        os::fail(b"canon: standard input");
-        return;
+    let input = read_text(&mut stdin, &mut text);
+    if let Err(e) = input.good {
+        return eprintln!(rt; "canon: standard input: {e}");
     }
     let n = input.len;
     let mut area = [0u8; 16938];
     let mut out = [0u8; 49152];
     let m = canon(&text[..n], &mut area, &mut out);
-    if !write_text(&out[..m]) {
-        os::fail(b"canon: standard output");
-        return;
+    if let Err(e) = write_text(&mut rt.stdout(), &out[..m]) {
+        return eprintln!(rt; "canon: standard output: {e}");
     }
     if n == 32769 {
-        read_on(&mut text);
+        read_on(&mut stdin, &mut text);
     }
+    Ok(())
 }

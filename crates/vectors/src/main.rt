@@ -3,9 +3,11 @@
 // c line cutting, r reading: the answer, the empty, ignored and kept lines, and how many rows each table then has; w writing:
 // these lines, the answers without room and with it, and what was written, or how reading refused; o and m a line's value, and
 // its record after `username` or `num_ports`.
-ghost use Rattle.std.specs.Prelude.{◌≤◌, length};
+#![tactic(auto)]
 
-use libc::{STDIN_FILENO, STDOUT_FILENO};
+ghost use Rattle.std.specs.Prelude.{◌≤◌, length};
+ghost use Rattle.std.specs.Io.{ReadsAtMost};
+
 use sdp_answers::{Numeral, Piece};
 use sdp_area::{MaybePorts, MaybeSpan};
 use sdp_builders::{Media, Origin};
@@ -14,48 +16,49 @@ use sdp_judge::Amount;
 use sdp_lines::{Answer, Cursor, Cut, Place, Span};
 use sdp_media_line::MediaRead;
 use sdp_order::Verdict;
+use std::io;
+use std::io::{Read, Stdin};
 
-fn letter_out(b: u8) {
-    io::write_all(STDOUT_FILENO, &[b]);
+fn letter_out(rt: &impl Print, b: u8) -> io::Result<()> {
+    rt.write_all(&[b])
 }
 
 // A space and a number.
-fn number_out(n: u64) {
-    io::write_all(STDOUT_FILENO, b" ");
-    io::print_decimal(STDOUT_FILENO, n);
+fn number_out(rt: &impl Print, n: u64) -> io::Result<()> {
+    print!(rt; " {n}")
 }
 
-fn line_out() {
-    io::write_all(STDOUT_FILENO, b"\n");
+fn line_out(rt: &impl Print) -> io::Result<()> {
+    rt.write_all(b"\n")
 }
 
-fn numeral_out(n: Numeral) {
-    number_out(n.number);
-    number_out(n.value);
-    line_out();
+fn numeral_out(rt: &impl Print, n: Numeral) -> io::Result<()> {
+    number_out(rt, n.number)?;
+    number_out(rt, n.value)?;
+    line_out(rt)
 }
 
-fn flag_out(b: bool) {
+fn flag_out(rt: &impl Print, b: bool) -> io::Result<()> {
     if b {
-        number_out(1);
+        number_out(rt, 1)
     } else {
-        number_out(0);
+        number_out(rt, 0)
     }
 }
 
-fn piece_out(p: Piece) {
-    letter_out(b'c');
-    number_out(p.kind);
-    number_out(p.number);
-    number_out(p.line);
-    number_out(p.letter);
-    number_out(p.place);
-    number_out(p.len);
-    line_out();
+fn piece_out(rt: &impl Print, p: Piece) -> io::Result<()> {
+    letter_out(rt, b'c')?;
+    number_out(rt, p.kind)?;
+    number_out(rt, p.number)?;
+    number_out(rt, p.line)?;
+    number_out(rt, p.letter)?;
+    number_out(rt, p.place)?;
+    number_out(rt, p.len)?;
+    line_out(rt)
 }
 
 // Every cut of a text. A line takes a byte at least, so there are no more cuts than bytes, and the end.
-fn cuts_out(s: &[u8]) {
+fn cuts_out(rt: &impl Print, s: &[u8]) -> io::Result<()> {
     let mut place: usize = 0;
     let mut line: usize = 1;
     let mut turns = s.len();
@@ -65,15 +68,14 @@ fn cuts_out(s: &[u8]) {
             break;
         }
         if p.kind == 3 {
-            piece_out(p);
-            return;
+            return piece_out(rt, p);
         }
         place = p.next_place as usize;
         line = p.next_line as usize;
-        piece_out(p);
+        piece_out(rt, p)?;
         turns -= 1;
     }
-    piece_out(sdp::sdp_cut(s, place, line));
+    piece_out(rt, sdp::sdp_cut(s, place, line))
 }
 
 fn wide(b: u8) -> u64
@@ -83,91 +85,91 @@ fn wide(b: u8) -> u64
 }
 
 // The count of the table at a place of the area.
-fn count_out(area: &[u8], at: usize) {
+fn count_out(rt: &impl Print, area: &[u8], at: usize) -> io::Result<()> {
     if at < area.len() {
         if at + 1 < area.len() {
-            number_out(wide(area[at]) + 256 * wide(area[at + 1]));
+            number_out(rt, wide(area[at]) + 256 * wide(area[at + 1]))?;
         }
     }
+    Ok(())
 }
 
-fn counts_out(area: &[u8]) {
-    count_out(area, 74);
-    count_out(area, 140);
-    count_out(area, 206);
-    count_out(area, 1104);
-    count_out(area, 2002);
-    count_out(area, 2516);
-    count_out(area, 3670);
-    count_out(area, 6232);
-    count_out(area, 7258);
-    count_out(area, 13404);
+fn counts_out(rt: &impl Print, area: &[u8]) -> io::Result<()> {
+    count_out(rt, area, 74)?;
+    count_out(rt, area, 140)?;
+    count_out(rt, area, 206)?;
+    count_out(rt, area, 1104)?;
+    count_out(rt, area, 2002)?;
+    count_out(rt, area, 2516)?;
+    count_out(rt, area, 3670)?;
+    count_out(rt, area, 6232)?;
+    count_out(rt, area, 7258)?;
+    count_out(rt, area, 13404)
 }
 
-fn answer_out(a: Answer) {
-    number_out(a.number);
-    number_out(a.line);
-    number_out(a.field);
-    number_out(a.place);
-    number_out(a.len);
+fn answer_out(rt: &impl Print, a: Answer) -> io::Result<()> {
+    number_out(rt, a.number)?;
+    number_out(rt, a.line)?;
+    number_out(rt, a.field)?;
+    number_out(rt, a.place)?;
+    number_out(rt, a.len)
 }
 
-fn read_out(s: &[u8]) {
+fn read_out(rt: &impl Print, s: &[u8]) -> io::Result<()> {
     let mut area = [0u8; 16938];
     let told = sdp::sdp_read(s, &mut area);
-    letter_out(b'r');
-    answer_out(told.answer);
-    number_out(told.counts.empty);
-    number_out(told.counts.ignored);
-    number_out(told.counts.kept);
-    counts_out(&area);
-    line_out();
+    letter_out(rt, b'r')?;
+    answer_out(rt, told.answer)?;
+    number_out(rt, told.counts.empty)?;
+    number_out(rt, told.counts.ignored)?;
+    number_out(rt, told.counts.kept)?;
+    counts_out(rt, &area)?;
+    line_out(rt)
 }
 
-fn part_out(s: &[u8], at: usize, len: usize) {
+fn part_out(rt: &impl Print, s: &[u8], at: usize, len: usize) -> io::Result<()> {
     if s.len() < at {
-        return;
+        return Ok(());
     }
     if s.len() - at < len {
-        return;
+        return Ok(());
     }
     let end = at + len;
-    io::write_all(STDOUT_FILENO, &s[at..end]);
+    rt.write_all(&s[at..end])
 }
 
 // The answers of the writer: its length, to an output without room and to one with room; and then what it wrote.
-fn both_out(s: &[u8], area: &[u8], out: &mut [u8]) {
-    answer_out(sdp::sdp_length(s, area));
+fn both_out(rt: &impl Print, s: &[u8], area: &[u8], out: &mut [u8]) -> io::Result<()> {
+    answer_out(rt, sdp::sdp_length(s, area))?;
     let mut short = [0u8; 1];
-    answer_out(sdp::sdp_fill(s, area, &mut short));
+    answer_out(rt, sdp::sdp_fill(s, area, &mut short))?;
     let a = sdp::sdp_fill(s, area, out);
     let n = a.len as usize;
-    answer_out(a);
-    line_out();
-    part_out(out, 0, n);
+    answer_out(rt, a)?;
+    line_out(rt)?;
+    part_out(rt, out, 0, n)
 }
 
-fn written_out(s: &[u8]) {
+fn written_out(rt: &impl Print, s: &[u8]) -> io::Result<()> {
     let mut area = [0u8; 16938];
     let told = sdp::sdp_read(s, &mut area);
-    letter_out(b'w');
-    number_out(told.counts.empty);
-    number_out(told.counts.ignored);
-    number_out(told.counts.kept);
+    letter_out(rt, b'w')?;
+    number_out(rt, told.counts.empty)?;
+    number_out(rt, told.counts.ignored)?;
+    number_out(rt, told.counts.kept)?;
     let a = told.answer;
     if a.number == 0 {
         let mut out = [0u8; 4096];
-        both_out(s, &area, &mut out);
-        return;
+        return both_out(rt, s, &area, &mut out);
     }
-    answer_out(a);
-    line_out();
+    answer_out(rt, a)?;
+    line_out(rt)
 }
 
-fn verdict_out(v: Verdict) {
-    number_out(v.number);
-    number_out(v.yes);
-    line_out();
+fn verdict_out(rt: &impl Print, v: Verdict) -> io::Result<()> {
+    number_out(rt, v.number)?;
+    number_out(rt, v.yes)?;
+    line_out(rt)
 }
 
 fn span_of(p: sdp_split::Piece) -> Span {
@@ -178,24 +180,24 @@ fn span_of(p: sdp_split::Piece) -> Span {
 }
 
 // A space and a string of s.
-fn string_out(s: &[u8], x: Span) {
-    io::write_all(STDOUT_FILENO, b" ");
-    part_out(s, x.at.0, x.len);
+fn string_out(rt: &impl Print, s: &[u8], x: Span) -> io::Result<()> {
+    rt.write_all(b" ")?;
+    part_out(rt, s, x.at.0, x.len)
 }
 
-fn origin_out(s: &[u8], o: Origin) {
-    flag_out(o.username.there);
-    string_out(s, o.username.span);
-    string_out(s, o.sess_id);
-    number_out(o.sess_version);
-    string_out(s, o.nettype);
-    string_out(s, o.addrtype);
-    string_out(s, o.unicast_address);
+fn origin_out(rt: &impl Print, s: &[u8], o: Origin) -> io::Result<()> {
+    flag_out(rt, o.username.there)?;
+    string_out(rt, s, o.username.span)?;
+    string_out(rt, s, o.sess_id)?;
+    number_out(rt, o.sess_version)?;
+    string_out(rt, s, o.nettype)?;
+    string_out(rt, s, o.addrtype)?;
+    string_out(rt, s, o.unicast_address)
 }
 
 // The address of an o line becomes its username.
-fn username_out(s: &[u8]) {
-    letter_out(b'o');
+fn username_out(rt: &impl Print, s: &[u8]) -> io::Result<()> {
+    letter_out(rt, b'o')?;
     if let OriginRead::Got(o) = sdp_fields::Origin::parse(s) {
         let address = o.unicast_address;
         let new = Span {
@@ -213,18 +215,18 @@ fn username_out(s: &[u8]) {
             addrtype: span_of(o.addrtype),
             unicast_address: span_of(address),
         };
-        origin_out(s, before.username(new));
+        origin_out(rt, s, before.username(new))?;
     }
-    line_out();
+    line_out(rt)
 }
 
-fn media_out(s: &[u8], m: Media) {
-    string_out(s, m.media);
-    number_out(m.port as u64);
-    flag_out(m.num_ports.there);
-    number_out(m.num_ports.value as u64);
-    string_out(s, m.proto);
-    string_out(s, m.fmt);
+fn media_out(rt: &impl Print, s: &[u8], m: Media) -> io::Result<()> {
+    string_out(rt, s, m.media)?;
+    number_out(rt, m.port as u64)?;
+    flag_out(rt, m.num_ports.there)?;
+    number_out(rt, m.num_ports.value as u64)?;
+    string_out(rt, s, m.proto)?;
+    string_out(rt, s, m.fmt)
 }
 
 // The number at a place of s, 0 if none of 16 bits stands there.
@@ -238,8 +240,8 @@ fn ports_at(s: &[u8], at: usize) -> u16 {
 }
 
 // The first format of an m line becomes its number of ports.
-fn num_ports_out(s: &[u8]) {
-    letter_out(b'm');
+fn num_ports_out(rt: &impl Print, s: &[u8]) -> io::Result<()> {
+    letter_out(rt, b'm')?;
     if let MediaRead::Got(m) = sdp_media_line::Media::parse_m_line(s) {
         let new = ports_at(s, m.fmt.at);
         let before = Media {
@@ -252,38 +254,38 @@ fn num_ports_out(s: &[u8]) {
             proto: span_of(m.proto),
             fmt: span_of(m.fmt),
         };
-        media_out(s, before.num_ports(new));
+        media_out(rt, s, before.num_ports(new))?;
     }
-    line_out();
+    line_out(rt)
 }
 
-fn answer(kind: u8, s: &[u8]) {
+fn answer(rt: &impl Print, kind: u8, s: &[u8]) -> io::Result<()> {
     match kind {
-        b'c' => cuts_out(s),
-        b'r' => read_out(s),
-        b'w' => written_out(s),
-        b'o' => username_out(s),
-        b'm' => num_ports_out(s),
-        _ => leaf_out(kind, s),
+        b'c' => cuts_out(rt, s),
+        b'r' => read_out(rt, s),
+        b'w' => written_out(rt, s),
+        b'o' => username_out(rt, s),
+        b'm' => num_ports_out(rt, s),
+        _ => leaf_out(rt, kind, s),
     }
 }
 
-fn leaf_out(kind: u8, s: &[u8]) {
-    letter_out(kind);
+fn leaf_out(rt: &impl Print, kind: u8, s: &[u8]) -> io::Result<()> {
+    letter_out(rt, kind)?;
     match kind {
         b'u' => {
-            number_out(sdp::sdp_utf8_end(s) as u64);
-            line_out();
+            number_out(rt, sdp::sdp_utf8_end(s) as u64)?;
+            line_out(rt)
         }
         b't' => {
-            flag_out(sdp::sdp_is_token(s));
-            line_out();
+            flag_out(rt, sdp::sdp_is_token(s))?;
+            line_out(rt)
         }
-        b'p' => numeral_out(sdp::sdp_number16(s)),
-        b'n' => numeral_out(sdp::sdp_number64(s)),
-        b'd' => numeral_out(sdp::sdp_typed_time(s)),
-        b'l' => verdict_out(sdp::sdp_letter_order(s)),
-        _ => line_out(),
+        b'p' => numeral_out(rt, sdp::sdp_number16(s)),
+        b'n' => numeral_out(rt, sdp::sdp_number64(s)),
+        b'd' => numeral_out(rt, sdp::sdp_typed_time(s)),
+        b'l' => verdict_out(rt, sdp::sdp_letter_order(s)),
+        _ => line_out(rt),
     }
 }
 
@@ -313,31 +315,30 @@ fn unhex(s: &[u8], out: &mut [u8]) -> usize
     n
 }
 
-fn vector(kind: u8, text: &[u8], at: usize, len: usize) {
+fn vector(rt: &impl Print, kind: u8, text: &[u8], at: usize, len: usize) -> io::Result<()> {
     if text.len() < at {
-        return;
+        return Ok(());
     }
     if text.len() - at < len {
-        return;
+        return Ok(());
     }
     let end = at + len;
     let mut bytes = [0u8; 2048];
     let n = unhex(&text[at..end], &mut bytes);
-    answer(kind, &bytes[..n]);
+    answer(rt, kind, &bytes[..n])
 }
 
 // The list's own lines are cut by the cutter that it tests.
-fn vectors(text: &[u8]) {
+fn vectors(rt: &impl Print, text: &[u8]) -> io::Result<()> {
     let mut c = Cursor::new();
     let mut turns = text.len();
     while turns > 0 {
         match c.cut(text) {
             Cut::End => {
-                return;
+                return Ok(());
             }
-            Cut::Refused { fault, line } => {
-                io::write_all(STDOUT_FILENO, b"bad line in the list\n");
-                return;
+            Cut::Refused { fault: _, line: _ } => {
+                return rt.write_all(b"bad line in the list\n");
             }
             Cut::Empty { next } => {
                 c = next;
@@ -347,16 +348,32 @@ fn vectors(text: &[u8]) {
                 value,
                 next,
             } => {
-                vector(letter, text, value.at.0, value.len);
+                vector(rt, letter, text, value.at.0, value.len)?;
                 c = next;
             }
         }
         turns -= 1;
     }
+    Ok(())
 }
 
-fn main() {
-    let mut text = io::large_buffer();
-    let n = io::read_full(STDIN_FILENO, &mut text);
-    vectors(&text[..n]);
+// Reads until buf is full or the input ends, and answers how many bytes came in.
+fn read_full(stdin: &mut Stdin, buf: &mut [u8]) -> io::Result<usize>
+    ensures { ReadsAtMost result buf.new }
+{
+    let mut n: usize = 0;
+    while n < buf.len() {
+        let k = stdin.read(&mut buf[n..])?;
+        if k == 0 {
+            break;
+        }
+        n += k;
+    }
+    Ok(n)
+}
+
+fn main(rt: HostRuntime) -> io::Result<()> {
+    let mut text = [0u8; 65536];
+    let n = read_full(&mut rt.stdin(), &mut text)?;
+    vectors(&rt, &text[..n])
 }
