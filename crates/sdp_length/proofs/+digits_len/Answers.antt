@@ -1,4 +1,4 @@
--- `sdp_length::digits_len` calls itself with v / 10000, for all digits but the last four. Assumes nothing.
+-- `sdp_length::digits_len` meets its contract. Assumes nothing.
 use Prim.Native.Nat.{◌<◌, ◌^◌}
 use native.Mathlib.Omega.{arith}
 use Rattle.sdp_length.proofs.NumberLaws.{one-digit, two_digits, three-digits, some_digits, more_digits}

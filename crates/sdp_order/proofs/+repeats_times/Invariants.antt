@@ -1,4 +1,5 @@
--- The measure is what is left of the hand-overs, and not of the text: it bounds how deep the calls are in each other.
+-- `sdp_order::repeats` and `sdp_order::times`. The measure is what is left of the hand-overs, and not of the text: it bounds
+-- how deep the calls are in each other. Assumes nothing.
 use Prim.Native.Nat.{◌+◌, ◌*◌}
 use Rattle.sdp_order.proofs.+repeats_times.Given as goal
 

@@ -1,4 +1,4 @@
--- `sdp_tables::first_of` calls itself with a half of the rows. Assumes nothing.
+-- `sdp_tables::first_of` meets its contract. Assumes nothing.
 use native.Mathlib.Omega.{arith}
 use Rattle.sdp_tables.proofs.OwnerLaws.{none_left, right_half, left_half, half_inside}
 use Rattle.sdp_tables.proofs.+first_of.Goals as goal

@@ -1,4 +1,4 @@
--- `sdp_tables::first_of` calls itself with a half of the rows.
+-- `sdp_tables::first_of` calls itself with a half of the rows. The measure is hi - lo. Assumes nothing.
 use Prim.Native.Nat.{◌-◌}
 use Rattle.sdp_tables.proofs.+first_of.Given as goal
 
