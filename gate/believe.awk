@@ -17,21 +17,21 @@ function cut_words(text, out) {
     gsub(/[(){};,]/, " & ", text)
     return split(text, out, " ")
 }
-# where a name says its place in a sentence by _, each word of it stands for the name
+# where a name says its places in a sentence by ◌, each word of it stands for the name
 function add_parts(m, name,    w, n, k) {
-    if (name !~ /_/ || name == "_") return
-    n = split(name, w, "_")
+    if (name !~ /◌/) return
+    n = split(name, w, "◌")
     for (k = 1; k <= n; k++) if (w[k] != "") part[m, w[k]] = part[m, w[k]] " " name
 }
 # what the name of an import means: K kit, T type of Rattle, V a variant of one, S a name of a file of specs, X unknown
 function target(path, name,    crate, rest) {
-    if (path ~ /^(mathlib|lib|Prim|borrow|native|denote)\./) return "K " path " " name
-    if (!sub(/^Rattle·/, "", path)) return "X " path " " name
-    if (!match(path, /(·specs)?\.specs\./)) return "X " path " " name
-    crate = substr(path, 1, RSTART - 1)
+    if (path ~ /^(mathlib|lib|Prim|borrow|native|denote|Rattle\.std)\./) return "K " path " " name
+    if (!sub(/^Rattle\./, "", path)) return "X " path " " name
+    if (!match(path, /^[a-z0-9_]+\.specs\./)) return "X " path " " name
+    crate = substr(path, 1, index(path, ".") - 1)
     rest = substr(path, RSTART + RLENGTH)
     if (sub(/^declared\./, "", rest)) {
-        if (sub(/\.the-variants$/, "", rest)) return "V " crate ":" rest " " name
+        if (sub(/\.TheVariants$/, "", rest)) return "V " crate ":" rest " " name
         return rest == name ? "T " crate ":" rest : "X " path " " name
     }
     return rest ~ /[.]/ ? "X " path " " name : "S " crate "/" rest " " name
@@ -176,7 +176,26 @@ function load(m,    path, line, got, now, deep, body, headed, w, n, k, name, ope
 }
 
 # ---- reading the types declared in Rattle
-function load_source(file,    crate, line, got, w, n, id, opened, attributes) {
+# use crate::{Type, other as Type};
+function bring(file, text,    w, n, k, names, crate, name, as) {
+    sub(/^(pub )?use /, "", text)
+    sub(/;$/, "", text)
+    crate = text
+    sub(/::.*/, "", crate)
+    names = text
+    if (!sub(/^[^{]*::[{]/, "", names)) sub(/.*::/, "", names)
+    else if (!sub(/[}]$/, "", names)) fail("an import that is not understood in " file ": " text)
+    if (names ~ /[{}]|::/) fail("an import that is not understood in " file ": " text)
+    n = split(names, w, ",")
+    for (k = 1; k <= n; k++) {
+        name = w[k]
+        gsub(/^ +| +$/, "", name)
+        as = name
+        if (name ~ / as /) { sub(/.* as /, "", as); sub(/ as .*/, "", name) }
+        if (as ~ /^[A-Z][A-Za-z0-9_]*$/) brought[file, as] = crate ":" name
+    }
+}
+function load_source(file,    crate, line, got, w, n, id, opened, attributes, using) {
     crate = file
     sub(/^crates\//, "", crate)
     sub(/\/.*/, "", crate)
@@ -184,12 +203,11 @@ function load_source(file,    crate, line, got, w, n, id, opened, attributes) {
         sub(/ *\/\/.*/, "", line)
         if (line ~ /^ *$/) continue
         if (line ~ /^#\[/) { attributes++; continue }
-        if (line ~ /extern "C" fn / && file != top) fail("an exported function elsewhere than in " top ": " file)
-        if (line ~ /^(pub )?use /) {
-            sub(/^(pub )?use /, "", line)
-            sub(/;$/, "", line)
-            n = split(line, w, "::")
-            if (w[n] ~ /^[A-Z][A-Za-z0-9_]*$/) brought[file, w[n]] = w[1] ":" w[n]
+        if (line ~ /extern "C" fn / && file != top && file != library) fail("an exported function elsewhere than in " top ": " file)
+        if (using != "" || line ~ /^(pub )?use /) {
+            using = using line
+            if (line ~ /;$/) { bring(file, using); using = "" }
+            continue
         }
         if (line ~ /^(pub )?(struct|enum) /) {
             sub(/^pub /, "", line)
@@ -368,12 +386,24 @@ function scan(m, from, last, head,    i, t, end) {
                 else bind(t)
             }
             if (i > last) fail("a λ that is not understood in " m)
-        } else if (t ~ /^\../) use_field(substr(t, 2))
+        } else if (t ~ /^\../) use_fields(substr(t, 2))
         else if (t ~ /^[0-9]/ || t == "_" || t == "→" || t == "record") continue
         else if (head && (t == ":" || t == "where")) continue
         else if (t == "=" || t == ":") fail("a " t " that is not understood in " m " by " tok[i - 1])
-        else refer(m, t)
+        else use_word(m, t)
     }
+}
+# a name, or the fields of one: x.f.g
+function use_word(m, t,    dot, first) {
+    dot = index(t, ".")
+    first = substr(t, 1, dot - 1)
+    if (dot < 2 || !(bound[first] > 0) && (m, first) in alias) { refer(m, t); return }
+    refer(m, first)
+    use_fields(substr(t, dot + 1))
+}
+function use_fields(text,    w, n, k) {
+    n = split(text, w, ".")
+    for (k = 1; k <= n; k++) if (w[k] == "") fail("a field that is not understood: " text); else use_field(w[k])
 }
 # the name of a field in record { .. }, behind tok[i]
 function take_field(m, i) {
@@ -388,7 +418,7 @@ function use_field(name) {
 }
 # the patterns of a clause; says where its = is
 function patterns(m, id, last,    i, t, deep, self, to, mixed) {
-    mixed = name_of[id] ~ /_/
+    mixed = name_of[id] ~ /◌/
     for (i = 1; i <= last; i++) {
         t = tok[i]
         if (t ~ /^[({]$/) deep++
@@ -397,7 +427,7 @@ function patterns(m, id, last,    i, t, deep, self, to, mixed) {
         else if (t == "record" || t == ":" || t == "=" || t ~ /^\./) fail("a pattern that is not understood in " m ": " t)
         else if (t ~ /^[0-9]/ || t == "_") continue
         else if (!mixed && i == 1 && t == name_of[id]) self = 1
-        else if (mixed && index("_" name_of[id] "_", "_" t "_")) self = 1
+        else if (mixed && index("◌" name_of[id] "◌", "◌" t "◌")) self = 1
         else {
             to = lookup(m, t)
             if (to ~ /^[CVK]/) found[to]
@@ -408,22 +438,21 @@ function patterns(m, id, last,    i, t, deep, self, to, mixed) {
     if (!self || i > last) fail("a clause that is not of " name_of[id] " in " m ": " tok[1])
     return i
 }
-# open R t using (x, y as z): t is a record R, and the names are those of its fields
+# open t use {x, y as z}: t is a record, and the names are those of its fields
 function take_open(m, line,    w, n, k, last, name, as) {
     last = cut_words(line, tok)
-    for (k = 3; k <= last; k++) if (tok[k] == "using") break
-    if (k < 4 || tok[k + 1] != "(" || tok[last] != ")") { fail("an open that is not understood in " m ": " line); return }
-    refer(m, tok[2])
-    scan(m, 3, k - 1, 0)
-    sub(/.* using \(/, "", line)
-    sub(/\).*/, "", line)
+    for (k = 2; k <= last; k++) if (tok[k] == "use") break
+    if (k < 3 || tok[k + 1] != "{" || tok[last] != "}") { fail("an open that is not understood in " m ": " line); return }
+    scan(m, 2, k - 1, 0)
+    sub(/.* use [{]/, "", line)
+    sub(/[}].*/, "", line)
     n = split(line, w, ",")
     for (k = 1; k <= n; k++) {
         name = w[k]
         gsub(/^ +| +$/, "", name)
         as = name
         if (name ~ / as /) { sub(/.* as /, "", as); sub(/ as .*/, "", name) }
-        if (name ~ / / || lookup(m, as) != "") fail("an open that is not understood in " m ": " name)
+        if (name ~ /[ .{]/ || lookup(m, as) != "") fail("an open that is not understood in " m ": " name)
         use_field(name)
         bind(as)
     }
@@ -467,7 +496,7 @@ function uses_of(what,    w, k) {
 }
 
 # ---- the contracts
-# crates/sdp/src/lib.rt: imports, and for each exported function its parameters, types, and promises
+# crates/sdp_c/src/lib.rt: imports, and for each exported function its parameters, types, and promises
 function load_contracts(    line, got, name, text) {
     while ((got = (getline line < top)) > 0) {
         sub(/ *\/\/.*/, "", line)
@@ -496,7 +525,7 @@ function scan_contract(name,    text, head, params, k, last, at) {
     text = substr(text, at)
     sub(/.*extern "C" fn [A-Za-z0-9_]*/, "", head)
     gsub(/->/, " ", head)
-    rattle_types(top, head, "sdp")
+    rattle_types(top, head, "sdp_c")
     names_n = 0
     split("", bound)
     deepness = 0
@@ -505,9 +534,14 @@ function scan_contract(name,    text, head, params, k, last, at) {
         bind(substr(params, RSTART, RLENGTH - 1))
         params = substr(params, RSTART + RLENGTH)
     }
+    bind("result")
     last = cut_words(text, tok)
     deepness = 1
-    for (k = 1; k <= last; k++) if (tok[k] ~ /^(ensures|requires)$/) tok[k] = "_"
+    for (k = 1; k <= last; k++) if (tok[k] ~ /^(ensures|requires)$/) {
+        tok[k] = "_"
+        # the clause's name
+        if (tok[k + 1] != "{") tok[++k] = "_"
+    }
     scan("contracts", 1, last, 0)
 }
 
@@ -529,7 +563,7 @@ function close_over(name,    todo, n, k, w, i, what, any) {
         for (; i > 1; i--) todo[++n] = w[i]
     }
     # every field that is named is one of a record that was found
-    split("entry exit", w, " ")
+    split("now old new", w, " ")
     split("", any)
     for (k in w) any[w[k]]
     for (what in seen) {
@@ -615,12 +649,12 @@ function page_list(name,    k, i, path, out) {
     return out
 }
 BEGIN {
-    top = "crates/sdp/src/lib.rt"
+    top = "crates/sdp_c/src/lib.rt"
+    # says the same to Rattle: gate/check-public holds the one to the other
+    library = "crates/sdp/src/lib.rt"
     # words that need no import
     split("Type × ⊎ ⊥ Unit", w, " ")
     for (k in w) language[w[k]] = "language"
-    split("now ⌜ ⌝", w, " ")
-    for (k in w) language[w[k]] = "contracts"
     n = split(sources, w, " ")
     for (k = 1; k <= n; k++) load_source(w[k])
     load_contracts()
