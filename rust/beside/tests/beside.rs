@@ -496,7 +496,7 @@ fn the_bad_byte_is_marked() {
 
 // ---- the program
 
-/// As cargo runs the tests: under the kit's emulator where the program is x86-64 and the machine is not.
+/// As cargo runs the tests: under an emulator where the program is x86-64 and the machine is not.
 const RUNNER: &str = concat!(env!("CARGO_MANIFEST_DIR"), "/../../gate/run-x86");
 const PROGRAM: &str = env!("CARGO_BIN_EXE_beside");
 

@@ -16,7 +16,7 @@ fn program() -> PathBuf {
     let here = env!("CARGO_MANIFEST_DIR");
     let folder = std::env::var("RATTLE_BIN").unwrap_or(format!("{here}/../../target/bin"));
     let path = Path::new(&folder).join("canon");
-    assert!(path.is_file(), "there is no program {}: rt check canon makes it", path.display());
+    assert!(path.is_file(), "there is no program {}: ./canon makes it", path.display());
     path.canonicalize().unwrap()
 }
 
@@ -35,7 +35,7 @@ impl Run {
 
     /// With more in its environment.
     fn start_with(more: &[(&str, &str)]) -> Self {
-        // as cargo runs the tests: on x86-64 directly, else under the kit's emulator
+        // as cargo runs the tests: on x86-64 directly, else under an emulator
         let runner = concat!(env!("CARGO_MANIFEST_DIR"), "/../../gate/run-x86");
         let mut child = Command::new(runner)
             .arg(program())

@@ -10,7 +10,7 @@ fn start(words: &[&str]) -> Child {
     start_into(Stdio::piped(), words)
 }
 
-/// As cargo runs the tests: under the kit's emulator where the program is x86-64 and the machine is not.
+/// As cargo runs the tests: under an emulator where the program is x86-64 and the machine is not.
 fn start_into(out: Stdio, words: &[&str]) -> Child {
     let runner = concat!(env!("CARGO_MANIFEST_DIR"), "/../../gate/run-x86");
     let mut command = Command::new(runner);

@@ -1,4 +1,4 @@
-//! Programs, those in C compiled with the archive, run as cargo runs the tests: under the kit's emulator where they are x86-64
+//! Programs, those in C compiled with the archive, run as cargo runs the tests: under an emulator where they are x86-64
 //! and the machine is not.
 #![allow(dead_code)] // each test file takes what it needs
 use crate::page::path;
