@@ -3,7 +3,7 @@
  * rust/sdp/examples/announce.rs does. The text comes from a file or from standard input. The exit status is 0, or 1 for a
  * text that is refused, or 2 where something can't be read or written. From the root of the repository:
  *
- *     rt staticlib sdp && cc -std=c11 -Ic -o target/example c/example.c target/staticlib/libsdp.a
+ *     ./archive && cc -std=c11 -Ic -o target/example c/example.c target/staticlib/libsdp.a
  *     target/example FILE
  */
 #include "sdp.h"
