@@ -18,8 +18,8 @@ slice_bounds-fill-end c =
     len_fits c.args.text.now c.args.area.now _ (ap answer c.read-told.ensures.value) c.if-a-ne0.false _ c.read-told.ensures.area_after _ c.length-n.ensures c.args.out.now c.requires.1
 
 pub slice_bounds-fill-end-2 : goal.slice_bounds-fill-end-2
-slice_bounds-fill-end-2 c = sym (length-take-le _ _ (slice_bounds-fill-end _))
+slice_bounds-fill-end-2 c = sym (length-take-le _ _ (len_fits c.args.text.now c.args.area.now _ (ap answer c.read-told.ensures.value) c.if-a-ne0.false _ c.read-told.ensures.area_after _ c.length-n.ensures c.args.out.now c.requires.1))
 
 pub returns : goal.returns
 returns c =
-    all_written c.args.text.now c.args.area.now _ (ap answer c.read-told.ensures.value) c.if-a-ne0.false _ c.read-told.ensures.area_after _ c.length-n.ensures c.args.out.now _ _ refl (slice_bounds-fill-end _) c.fill.ensures.out_after
+    all_written c.args.text.now c.args.area.now _ (ap answer c.read-told.ensures.value) c.if-a-ne0.false _ c.read-told.ensures.area_after _ c.length-n.ensures c.args.out.now _ _ refl (len_fits c.args.text.now c.args.area.now _ (ap answer c.read-told.ensures.value) c.if-a-ne0.false _ c.read-told.ensures.area_after _ c.length-n.ensures c.args.out.now c.requires.1) c.fill.ensures.out_after
