@@ -108,7 +108,8 @@ pub extern "C" fn sdp_letter_order(text: &[u8]) -> Verdict
 pub extern "C" fn sdp_starts(text: &[u8], area: &[u8], from: u64, to: u64) -> Starts
     ensures { result ≡ returned (starts_text text.now area.now from to) }
 {
-    sdp::sdp_starts(text, area, from, to)
+    // by way of `sdp` the list, 6,160 bytes, would stand on the stack once more
+    sdp_starts::starts_in(text, area, from, to)
 }
 
 // The size of the record area in bytes.

@@ -152,7 +152,7 @@ fn the_definition_has_the_decoder_s_tables() {
     let due: Vec<_> = PARTS[6..].iter().map(|part| (part.rows, part.width)).collect();
     assert_eq!(tables, due);
     for part in &PARTS {
-        assert_eq!(after(&format!("{}At", constant(part).to_lowercase())), part.at);
+        assert_eq!(after(&format!("{}_at", constant(part).to_lowercase())), part.at);
     }
 }
 
@@ -166,11 +166,11 @@ fn the_definition_has_the_decoder_s_columns() {
     let mut cells = 0;
     for column in &COLUMNS {
         let name = column.name.strip_prefix("media ").unwrap_or(column.name);
-        assert_eq!((after(&format!("{name}Cell")), column.at), (cells, SESSION + 2 * cells), "{name}");
+        assert_eq!((after(&format!("{name}_cell")), column.at), (cells, SESSION + 2 * cells), "{name}");
         cells += column.cells;
     }
-    assert_eq!((after("cells"), after("areaSize")), (cells, SIZE));
-    assert!(definition.contains("\ncellAt i = size + i * 2\n"));
+    assert_eq!((after("cells"), after("area_size")), (cells, SIZE));
+    assert!(definition.contains("\ncell_at i = size + i * 2\n"));
 }
 
 /// A session with something in every part, and also absent fields. Its keys are those of an area that was kept, with lines.

@@ -13,7 +13,7 @@ const SMALL: usize = 16_384;
 
 /// The functions that the archive exports, by its source.
 fn exported() -> BTreeSet<String> {
-    let source = page::file("crates/sdp/src/lib.rt");
+    let source = page::file("crates/sdp_c/src/lib.rt");
     let behind = source.split("extern \"C\" fn ").skip(1);
     behind.map(|rest| rest.split('(').next().unwrap().to_string()).collect()
 }

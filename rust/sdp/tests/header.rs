@@ -45,7 +45,7 @@ fn function(signature: &str) -> Function {
 
 /// All that the archive exports.
 fn exported() -> Vec<Function> {
-    let source = file("crates/sdp/src/lib.rt");
+    let source = file("crates/sdp_c/src/lib.rt");
     // a contract follows the signature on a line of its own
     let signatures = source.split("pub extern \"C\" fn ").skip(1).map(|rest| {
         let end = rest.find("\n    ensures").or(rest.find("\n{")).expect("a contract or a body");
@@ -79,11 +79,16 @@ fn no_output_is_read() {
 
 /// The fields of a struct that crosses to C, by the source: u64, arrays of it, or another such struct.
 fn source_fields(name: &str) -> Vec<(String, String)> {
-    let head = format!("#[repr(C)]\npub struct {name} {{");
+    let head = format!("\npub struct {name} {{");
     let mut all = Vec::new();
     for crate_name in ["sdp_answers", "sdp_counts", "sdp_lines", "sdp_order", "sdp_read", "sdp_starts"] {
         let source = file(&format!("crates/{crate_name}/src/lib.rt"));
-        all.extend(found(&source, &head, &['}']).iter().map(|body| named(body)));
+        for (at, _) in source.match_indices(&head) {
+            let mut attributes = source[..at].lines().rev().take_while(|line| line.starts_with("#["));
+            if attributes.any(|line| line == "#[repr(C)]") {
+                all.push(named(source[at + head.len()..].split('}').next().unwrap()));
+            }
+        }
     }
     assert_eq!(all.len(), 1, "the source has one struct {name}");
     all.remove(0)
@@ -272,10 +277,10 @@ fn constant(words: &str) -> String {
 #[test]
 fn the_theorem_s_room() {
     let definitions = file("crates/sdp_bound/specs/Bound.antt");
-    assert!(definitions.lines().any(|line| line == format!("roomOfAny = {ROOM}")), "{definitions}");
+    assert!(definitions.lines().any(|line| line == format!("room_of_any = {ROOM}")), "{definitions}");
     let laws = file("crates/sdp_bound/proofs/RoomLaws.antt");
     let theorem = laws.lines().find(|line| line.starts_with("pub room : ")).expect("the theorem room");
-    assert!(theorem.ends_with("readText t a .answer .number ≡ 0 → Enough roomOfAny t a"), "{theorem}");
+    assert!(theorem.ends_with("(read_text t a).answer.number ≡ 0 → Enough room_of_any t a"), "{theorem}");
 }
 
 /// Every function through the header, from C, answers what it answers through ffi.rs.
