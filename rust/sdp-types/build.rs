@@ -1,5 +1,6 @@
-//! Lays the crate's own files (as links, so that they are compiled unchanged) and our stand-ins side by side.
-use std::{fs, os::unix::fs::symlink, path::Path};
+//! Lays copies of the crate's own files, unchanged, and of our stand-ins side by side. (Links would do, but rt ci refuses a link
+//! anywhere in the checkout.)
+use std::{fs, path::Path};
 
 /// Compiled as they are; `parser.rs` is included by the stand-in of that name.
 const PUBLISHED: [(&str, &str); 4] = [
@@ -10,14 +11,15 @@ const PUBLISHED: [(&str, &str); 4] = [
 ];
 const STAND_INS: [&str; 4] = ["attributes.rs", "builders.rs", "clock_signalling.rs", "parser.rs"];
 
-fn link(from: &Path, to: &Path) {
+fn copy(from: &Path, to: &Path) {
     let from = fs::canonicalize(from).unwrap_or_else(|e| panic!("{}: {e}", from.display()));
     println!("cargo:rerun-if-changed={}", from.display());
     println!("cargo:rerun-if-changed={}", to.display());
-    // a link that is right stays, so that its time doesn't change
-    if fs::read_link(to).ok().as_deref() != Some(from.as_path()) {
+    let text = fs::read(&from).unwrap_or_else(|e| panic!("{}: {e}", from.display()));
+    // a copy that is right stays, so that its time doesn't change
+    if fs::symlink_metadata(to).map_or(true, |found| !found.is_file()) || fs::read(to).ok() != Some(text.clone()) {
         let _ = fs::remove_file(to);
-        symlink(&from, to).unwrap_or_else(|e| panic!("{}: {e}", to.display()));
+        fs::write(to, text).unwrap_or_else(|e| panic!("{}: {e}", to.display()));
     }
 }
 
@@ -28,9 +30,9 @@ fn main() {
     let folder = here.join("../target/sdp-types");
     fs::create_dir_all(&folder).unwrap();
     for (published, name) in PUBLISHED {
-        link(&source.join(published), &folder.join(name));
+        copy(&source.join(published), &folder.join(name));
     }
     for stand_in in STAND_INS {
-        link(&here.join("stand-ins").join(stand_in), &folder.join(stand_in));
+        copy(&here.join("stand-ins").join(stand_in), &folder.join(stand_in));
     }
 }
