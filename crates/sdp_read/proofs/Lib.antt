@@ -3,3 +3,4 @@ pub mod TallyLaws
 pub mod RestLaws
 pub mod LoopLaws
 pub mod ReadLaws
+pub mod AgainLaws
