@@ -5,6 +5,7 @@
 # - A parameter of more than two words lies on the stack (`byval`). On Arm a pointer to it comes instead.
 # - All else is passed alike: numbers, pointers, and structs of one or two words as long as they are in registers. The words
 #   of a struct are those without `noundef`. No number is said to be extended by the caller, which Arm's C doesn't do.
+# Data may only be constant bytes that nobody else sees, as texts in the code are.
 # Whatever it doesn't know ends it with status 1.
 function unknown(why) {
     print "arm.awk: " why ": " $0 > "/dev/stderr"
@@ -64,11 +65,15 @@ function exported(name, answer, parameters,    each, n, k, list, word) {
     print "  ret void"
     next
 }
+/^@static\.[0-9]+ = private unnamed_addr constant \[[0-9]+ x i8\] c"[^"]*", align 1$/ {
+    print
+    next
+}
 /^(@|module asm)/ || / asm / || /@llvm\.x86/ { unknown("only for x86-64, or data for others") }
 {
     # names of Rattle's own functions stand in quotes
     names = $0
-    gsub(/@llvm\./, "", names)
+    gsub(/@llvm\.|@static\.[0-9]+/, "", names)
     if (names ~ /@[A-Za-z_]/) unknown("a call of C, or of what C calls")
     print
 }
