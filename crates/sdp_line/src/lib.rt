@@ -1,4 +1,4 @@
-// Document 01, module 4: one line, taken from plain parameters. Whoever calls these needs no walk by hand.
+// Document 01, module 4: one line, taken from plain parameters.
 #![tactic(auto)]
 
 ghost use Rattle.std.specs.Prelude.{◌≡◌, ◌+◌, ◌≤◌, length};
