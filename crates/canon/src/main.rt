@@ -2,7 +2,7 @@
 #![tactic(auto)]
 
 ghost use Rattle.std.specs.Prelude.{◌≤◌, length};
-ghost use Rattle.std.specs.Io.{ReadsAtMost, WritesAtMost};
+ghost use Rattle.std.specs.Io.{ReadsAtMost};
 ghost use Rattle.sdp_area.specs.Columns.{area_size};
 ghost use Rattle.sdp_bound.specs.Bound.{room_of_any};
 ghost use Rattle.canon.specs.Canon.{Holds, refused_line, printed};
@@ -12,20 +12,13 @@ use sdp_put::{put_all, put_byte, put_number};
 use sdp_read::read;
 use sdp_write::{fill, length};
 use std::io;
-use std::io::{ErrorKind, Read, Stdin, Stdout, Write};
+use std::io::{ErrorKind, Read, Stdin, Write};
 
 // A call is made again while signals interrupt it, at most so many times.
 const TRIES: u64 = 1000000;
 
 // Behind a text that is too long, at most so many reads take what is left of the input.
 const READS: u64 = 65536;
-
-// How many bytes came in, and whether the input then ended or the buffer was full: else why a read failed.
-#[derive(Drop)]
-pub struct Input {
-    len: usize,
-    good: io::Result<()>,
-}
 
 // One read, made again while signals interrupt it.
 fn read_some(stdin: &mut Stdin, into: &mut [u8]) -> io::Result<usize>
@@ -40,54 +33,19 @@ fn read_some(stdin: &mut Stdin, into: &mut [u8]) -> io::Result<usize>
     stdin.read(into)
 }
 
-// One write, made again while signals interrupt it.
-fn write_some(stdout: &mut Stdout, from: &[u8]) -> io::Result<usize>
-    ensures { WritesAtMost result from.now }
-{
-    for _ in 0..TRIES {
-        match stdout.write(from) {
-            Err(e) if e.kind() == ErrorKind::Interrupted => {}
-            got => return got,
-        }
-    }
-    stdout.write(from)
-}
-
-// Reads, in as many pieces as it takes, until the input ends or text is full.
-fn read_text(stdin: &mut Stdin, text: &mut [u8]) -> Input
-    ensures { result.len ≤ length text.new }
+// Reads, in as many pieces as it takes, until the input ends or text is full, and answers how many bytes came in.
+fn read_text(stdin: &mut Stdin, text: &mut [u8]) -> io::Result<usize>
+    ensures { ReadsAtMost result text.new }
 {
     let mut n: usize = 0;
+    // by hand: how many reads it takes shows only when they are made
     while n < text.len() {
-        match read_some(stdin, &mut text[n..]) {
-            Ok(0) => return Input {
-                len: n,
-                good: Ok(()),
-            },
-            Ok(k) => n += k,
-            Err(e) => return Input {
-                len: n,
-                good: Err(e),
-            },
+        match read_some(stdin, &mut text[n..])? {
+            0 => break,
+            k => n += k,
         }
     }
-    Input {
-        len: n,
-        good: Ok(()),
-    }
-}
-
-// Writes all of text, in as many pieces as it takes.
-fn write_text(stdout: &mut Stdout, text: &[u8]) -> io::Result<()> {
-    let mut n: usize = 0;
-    while n < text.len() {
-        let k = write_some(stdout, &text[n..])?;
-        if k == 0 {
-            return Err(io::Error::from(ErrorKind::WriteZero));
-        }
-        n += k;
-    }
-    Ok(())
+    Ok(n)
 }
 
 // Takes what is left of the input, so that a program that pipes in a long text is not stopped.
@@ -135,15 +93,14 @@ fn canon(text: &[u8], area: &mut [u8], out: &mut [u8]) -> usize
 fn main(rt: HostRuntime) -> io::Result<()> {
     let mut stdin = rt.stdin();
     let mut text = [0u8; 32769];
-    let input = read_text(&mut stdin, &mut text);
-    if let Err(e) = input.good {
-        return eprintln!(rt; "canon: standard input: {e}");
-    }
-    let n = input.len;
+    let n = match read_text(&mut stdin, &mut text) {
+        Ok(n) => n,
+        Err(e) => return eprintln!(rt; "canon: standard input: {e}"),
+    };
     let mut area = [0u8; 16938];
     let mut out = [0u8; 49152];
     let m = canon(&text[..n], &mut area, &mut out);
-    if let Err(e) = write_text(&mut rt.stdout(), &out[..m]) {
+    if let Err(e) = rt.stdout().write_all(&out[..m]) {
         return eprintln!(rt; "canon: standard output: {e}");
     }
     if n == 32769 {
