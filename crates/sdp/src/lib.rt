@@ -103,7 +103,7 @@ pub extern "C" fn sdp_fill(text: &[u8], area: &[u8], out: &mut [u8]) -> Answer
 pub extern "C" fn sdp_letter_order(text: &[u8]) -> Verdict
     ensures { result ≡ verdict_of (order_of text.now) }
 {
-    sdp_order::verdict_of(sdp_order::letter_order(text))
+    Verdict::from(sdp_order::letter_order(text))
 }
 
 // When the session of a record area starts, within a window: from included, to excluded.

@@ -111,7 +111,7 @@ use Rattle.sdp_window.proofs.run_in_part.Reads as sdpWindowRunInPart
 use Rattle.sdp_listing.proofs.put_run.Reads as sdpListingPutRun
 use Rattle.sdp_starts.proofs.starts_in.Reads as sdpStartsStartsIn
 use Rattle.sdp_order.proofs.letter_order.Reads as sdpOrderLetterOrder
-use Rattle.sdp_order.proofs.verdict_of.Reads as sdpOrderVerdictOf
+use Rattle.sdp_order.proofs.VerdictFromResultBoolRefusal.from.Reads as sdpOrderVerdictOf
 use Rattle.sdp_builders.proofs.Origin.username.Reads as sdpBuildersOriginUsername
 use Rattle.sdp_builders.proofs.Media.num_ports.Reads as sdpBuildersMediaNumPorts
 use Rattle.sdp_answers.proofs.numeral_of.Reads as sdpAnswersNumeralOf

@@ -1,26 +1,29 @@
 -- The answer by the text's length, and by whether its lines run as the grammar says.
 -- Assumes nothing.
 use Prim.Native.Nat.{ℕ, ◌<◌, ◌≤◌}
-use mathlib.Core.Path.{◌≡◌}
-use mathlib.Core.Bool.{true, false}
+use mathlib.Core.Path.{◌≡◌, sym, ◌∙◌}
+use mathlib.Core.Bool.{Bool, false}
 use mathlib.Core.List.{List}
 use lib.ListN.{length}
 use borrow.Author.Tests.{lt-ltb, le-ltb}
+use Rattle.std.specs.Prelude.{Option, Some, None, Ok, Err, MatchOption}
 use Rattle.sdp_lines.specs.Lines.{start}
+use Rattle.sdp_lines.specs.declared.Cursor.{Cursor}
 use Rattle.sdp_order.specs.Order.{grammar, order_of}
-use Rattle.sdp_order.specs.From.{run_from}
-use Rattle.sdp_order.specs.declared.Order.TheVariants.{InOrder, OutOfOrder, TooLong}
+use Rattle.sdp_order.specs.Expression.{empty}
+use Rattle.sdp_order.specs.From.{run_from, Leads}
+use Rattle.sdp_order.specs.declared.Refusal.TheVariants.{TooLong}
 
 module _ (s : List ℕ) where
-  pub too_long : 32768 < length s → TooLong ≡ order_of s
+  pub too_long : 32768 < length s → Err TooLong ≡ order_of s
   unfolding order_of
   too_long h = rw (lt-ltb 32768 (length s) h)
 
-  module _ (h : length s ≤ 32768) where
-    pub in_order_lem : run_from s start grammar ≡ true → InOrder ≡ order_of s
-    unfolding order_of run_from
-    in_order_lem e = rw (le-ltb 32768 (length s) h, e)
+  -- by the lines' end, if they have one, and whether nothing is behind it
+  pub ends_or_not : (P : Cursor → Type 0) (r : Option Cursor) (b : Bool) → Leads s grammar empty start r → MatchOption r (b ≡ false) P → ((c : Cursor) → P c → b ≡ run_from s c empty) → run_from s start grammar ≡ b
+  ends_or_not P (Some c) b h e f = h ∙ sym (f c e)
+  ends_or_not P None b h e f = h ∙ sym e
 
-    pub out_of_order : run_from s start grammar ≡ false → OutOfOrder ≡ order_of s
-    unfolding order_of run_from
-    out_of_order e = rw (le-ltb 32768 (length s) h, e)
+  pub judged : length s ≤ 32768 → (b : Bool) → run_from s start grammar ≡ b → Ok b ≡ order_of s
+  unfolding order_of run_from
+  judged h b e = rw (le-ltb 32768 (length s) h, e)

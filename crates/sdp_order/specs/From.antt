@@ -1,13 +1,10 @@
 -- The lines from a cursor on: what the recognisers promise.
-use Rattle.std.specs.Prelude.{ℕ, zero, suc, ◌<◌, ◌≤◌, ◌≡◌, Bool, false, ◌&&◌, ◌||◌, cond, List, eqb, length, drop}
+use Rattle.std.specs.Prelude.{ℕ, zero, suc, ◌<◌, ◌≤◌, ◌≡◌, Bool, false, ◌&&◌, ◌||◌, cond, List, eqb, length, drop, Option, Some, None, Result, Ok, Err}
 use Rattle.sdp_lines.specs.Lines.{split}
 use Rattle.sdp_lines.specs.declared.Cursor.{Cursor}
+use Rattle.sdp_lines.specs.declared.Fault.{Fault}
 use Rattle.sdp_order.specs.Expression.{Expr, nothing, empty, letter, ◌·◌, ◌or◌, ◌*, ◌⁇, maybe_empty, after}
 use Rattle.sdp_order.specs.Order.{repeat_description, time_description, media_description, grammar, letters, run}
-use Rattle.sdp_order.specs.declared.Next.{Next}
-use Rattle.sdp_order.specs.declared.Next.TheVariants.{Good, Bad, End}
-use Rattle.sdp_order.specs.declared.Found.{Found}
-use Rattle.sdp_order.specs.declared.Found.TheVariants.{Past, Not}
 use Rattle.sdp_order.specs.declared.Stop.{Stop}
 use Rattle.sdp_order.specs.declared.Stop.TheVariants.{Through, AtRepeats}
 
@@ -31,16 +28,16 @@ pub record Behind (s : List ℕ) (c d : Cursor) : Type 0 where
 
 -- the next line from c on that is not empty: it has the letter l, and the others stand behind it; or its form is bad, and
 -- nothing runs; or there is none
-abbrev pub Follows : List ℕ → Cursor → Next → Type 0
-Follows s c (Good l d) = Behind s c d × ((x : Expr) → run_from s c x ≡ run_from s d (after l x))
-Follows s c Bad = (x : Expr) → run_from s c x ≡ false
-Follows s c End = (x : Expr) → run_from s c x ≡ maybe_empty x
+abbrev pub Follows : List ℕ → Cursor → Result (Option (ℕ × Cursor)) Fault → Type 0
+Follows s c (Ok (Some (l, d))) = Behind s c d × ((x : Expr) → run_from s c x ≡ run_from s d (after l x))
+Follows s c (Err f) = (x : Expr) → run_from s c x ≡ false
+Follows s c (Ok None) = (x : Expr) → run_from s c x ≡ maybe_empty x
 
 -- whether the next letter from c on is l. It is, and the others stand behind it; or it is not, and then an x that can
 -- begin with l alone is not there: what is due after it is due at c
-abbrev pub Finds : List ℕ → ℕ → Cursor → Found → Type 0
-Finds s l c (Past d) = Behind s c d × ((x : Expr) → run_from s c x ≡ run_from s d (after l x))
-Finds s l c Not = (x y : Expr) → ((k : ℕ) → eqb k l ≡ false → begins k x ≡ false) → run_from s c (x · y) ≡ maybe_empty x && run_from s c y
+abbrev pub Finds : List ℕ → ℕ → Cursor → Option Cursor → Type 0
+Finds s l c (Some d) = Behind s c d × ((x : Expr) → run_from s c x ≡ run_from s d (after l x))
+Finds s l c None = (x y : Expr) → ((k : ℕ) → eqb k l ≡ false → begins k x ≡ false) → run_from s c (x · y) ≡ maybe_empty x && run_from s c y
 
 -- the lines from c on run as x where those from d on run as y; d is not before c
 pub record Passes (s : List ℕ) (x y : Expr) (c d : Cursor) : Type 0 where
@@ -48,9 +45,9 @@ pub record Passes (s : List ℕ) (x y : Expr) (c d : Cursor) : Type 0 where
   pub rest : run_from s c x ≡ run_from s d y
 
 -- the same where there may be no such d: then no lines from c on run as x
-abbrev pub Leads : List ℕ → Expr → Expr → Cursor → Found → Type 0
-Leads s x y c (Past d) = run_from s c x ≡ run_from s d y
-Leads s x y c Not = run_from s c x ≡ false
+abbrev pub Leads : List ℕ → Expr → Expr → Cursor → Option Cursor → Type 0
+Leads s x y c (Some d) = run_from s c x ≡ run_from s d y
+Leads s x y c None = run_from s c x ≡ false
 
 -- the same where the way to y may stop behind a line: then w is due there
 abbrev pub Halts : List ℕ → Expr → Expr → Expr → Cursor → Stop → Type 0

@@ -1,5 +1,5 @@
 -- Document 01, "Letter order", with the zones' place by document 02, P6: the grammar of RFC 8866, section 9.
-use Rattle.std.specs.Prelude.{ℕ, Bool, false, cond, List, [], ◌∷◌, length, ltb}
+use Rattle.std.specs.Prelude.{ℕ, Bool, true, false, cond, List, [], ◌∷◌, length, ltb, Result, Ok, Err}
 use Rattle.std.proofs.Math.Option.{Option, none, some}
 use Rattle.sdp_numbers.specs.Refusals as refusals
 use Rattle.sdp_numbers.specs.Refusals.{longest_text}
@@ -8,8 +8,8 @@ use Rattle.sdp_lines.specs.declared.Form.{Form}
 use Rattle.sdp_lines.specs.declared.Form.TheVariants.{Blank, Good, Bad}
 use Rattle.sdp_order.specs.Expression.{Expr, letter, ◌·◌, ◌*, ◌⁇, ◌+, matches}
 use Rattle.sdp_order.specs.declared.Verdict.{Verdict}
-use Rattle.sdp_order.specs.declared.Order.{Order}
-use Rattle.sdp_order.specs.declared.Order.TheVariants.{InOrder, OutOfOrder, TooLong}
+use Rattle.sdp_order.specs.declared.Refusal.{Refusal}
+use Rattle.sdp_order.specs.declared.Refusal.TheVariants.{TooLong}
 
 -- ---- the letters of document 01, as bytes
 abbrev v : Expr
@@ -95,11 +95,10 @@ run x none = false
 run x (some ls) = matches x ls
 
 -- "Yes exactly when every non-empty line has good form and the letters run .."; "a text over 32,768 bytes is refused with 1"
-unfoldable pub order_of : List ℕ → Order
-order_of text = cond (ltb longest_text (length text)) TooLong (cond (run grammar (letters (split text))) InOrder OutOfOrder)
+unfoldable pub order_of : List ℕ → Result Bool Refusal
+order_of text = cond (ltb longest_text (length text)) (Err TooLong) (Ok (run grammar (letters (split text))))
 
 -- the answer in the paper's numbers: "1 text over 32,768 bytes", else 0; and 1 for yes, 0 for no
-abbrev pub verdict_of : Order → Verdict
-verdict_of InOrder = record { number = 0; yes = 1 }
-verdict_of OutOfOrder = record { number = 0; yes = 0 }
-verdict_of TooLong = record { number = refusals.text_too_long; yes = 0 }
+abbrev pub verdict_of : Result Bool Refusal → Verdict
+verdict_of (Ok in_order) = record { number = 0; yes = cond in_order 1 0 }
+verdict_of (Err TooLong) = record { number = refusals.text_too_long; yes = 0 }

@@ -7,72 +7,44 @@ ghost use Rattle.sdp_order.specs.Expression.{Expr, empty, letter, ◌·◌, ◌*
 ghost use Rattle.sdp_order.specs.Order.{time_description, grammar, order_of, verdict_of};
 ghost use Rattle.sdp_order.specs.From.{run_from, begins, Follows, Finds, Passes, Leads, Halts, from_title, from_times, from_repeats, from_key, from_media, in_media};
 
-use sdp_lines::{Cursor, Cut};
+use sdp_lines::{Cursor, Cut, Fault};
 
-// Whether a text's letters are in order.
-#[derive(Drop)]
-pub enum Order {
-    InOrder,
-    OutOfOrder,
+// Why a text is not judged.
+#[derive(Clone, Copy, Debug, PartialEq, Eq)]
+pub enum Refusal {
     TooLong,
 }
 
 // The answer in numbers: 0, or the refusal 1; and 1 for yes, 0 for no.
 #[repr(C)]
-#[derive(Drop)]
+#[derive(Clone, Copy, Debug, PartialEq, Eq)]
 pub struct Verdict {
     pub number: u64,
     pub yes: u64,
-}
-
-// The next line that is not empty: its letter and where the line after it is due, or that its form is bad.
-#[derive(Drop)]
-pub enum Next {
-    Good { letter: u8, past: Cursor },
-    Bad,
-    End,
-}
-
-// Where the next line is due, or that a line is not as it should be.
-#[derive(Drop)]
-pub enum Found {
-    Past(Cursor),
-    Not,
 }
 
 // `times` hands over to `repeats` this often, and then stops: so the calls are never deep, whatever the text.
 const HAND_OVERS: u8 = 16;
 
 // Where `times` or `repeats` stopped: behind the last of them all; or behind a time's line, where its repeats may come.
-#[derive(Drop)]
+// No Result: neither way is a failure, and `time_lines` goes on from both.
+#[derive(Clone, Copy)]
 pub enum Stop {
     Through(Cursor),
     AtRepeats(Cursor),
 }
 
-// The next line that is not empty.
-fn next_line(text: &[u8], from: Cursor) -> Next
+// The next line that is not empty, if one is left: its letter and where the line after it is due; or that its form is bad.
+fn next_line(text: &[u8], from: Cursor) -> Result<Option<(u8, Cursor)>, Fault>
     ensures { Follows text.now from result }
 {
     let mut c = from;
     loop {
         match c.cut(text) {
-            Cut::End => {
-                return Next::End;
-            }
-            Cut::Refused { fault, line } => {
-                return Next::Bad;
-            }
-            Cut::Empty { next } => {
-                c = next;
-            }
-            Cut::Line {
-                letter,
-                value,
-                next,
-            } => {
-                return Next::Good { letter, past: next };
-            }
+            Cut::End => return Ok(None),
+            Cut::Refused { fault, .. } => return Err(fault),
+            Cut::Empty { next } => c = next,
+            Cut::Line { letter, next, .. } => return Ok(Some((letter, next))),
         }
     }
 }
@@ -82,25 +54,20 @@ fn ended(text: &[u8], c: Cursor) -> bool
     ensures { result ≡ run_from text.now c empty }
 {
     match next_line(text, c) {
-        Next::End => true,
-        Next::Bad => false,
-        Next::Good { letter, past } => false,
+        Ok(None) => true,
+        Ok(Some(_)) => false,
+        Err(_) => false,
     }
 }
 
-// The next line that is not empty, if it has the letter l.
-fn line_with(text: &[u8], c: Cursor, l: u8) -> Found
+// Behind the next line that is not empty, if it has the letter l.
+fn line_with(text: &[u8], c: Cursor, l: u8) -> Option<Cursor>
     ensures { Finds text.now l c result }
 {
     match next_line(text, c) {
-        Next::End => Found::Not,
-        Next::Bad => Found::Not,
-        Next::Good { letter, past } => {
-            if letter == l {
-                return Found::Past(past);
-            }
-            Found::Not
-        }
+        Ok(Some((letter, past))) => (letter == l).then_some(past),
+        Ok(None) => None,
+        Err(_) => None,
     }
 }
 
@@ -108,10 +75,7 @@ fn line_with(text: &[u8], c: Cursor, l: u8) -> Found
 fn maybe(text: &[u8], c: Cursor, l: u8) -> Cursor
     ensures { (y : Expr) → begins l y ≡ false → Passes text.now (letter l ⁇ · y) y c result }
 {
-    match line_with(text, c, l) {
-        Found::Past(next) => next,
-        Found::Not => c,
-    }
+    line_with(text, c, l).unwrap_or(c)
 }
 
 // Any number of lines with this letter.
@@ -119,28 +83,18 @@ fn many(text: &[u8], from: Cursor, l: u8) -> Cursor
     ensures { (y : Expr) → begins l y ≡ false → Passes text.now (letter l * · y) y from result }
 {
     let mut c = from;
-    loop {
-        match line_with(text, c, l) {
-            Found::Past(next) => {
-                c = next;
-            }
-            Found::Not => {
-                return c;
-            }
-        }
+    while let Some(next) = line_with(text, c, l) {
+        c = next;
     }
+    c
 }
 
 // v o s
-fn first_lines(text: &[u8]) -> Found
+fn first_lines(text: &[u8]) -> Option<Cursor>
     ensures { Leads text.now grammar from_title start result }
 {
-    let Found::Past(o) = line_with(text, Cursor::new(), b'v') else {
-        return Found::Not;
-    };
-    let Found::Past(s) = line_with(text, o, b'o') else {
-        return Found::Not;
-    };
+    let o = line_with(text, Cursor::new(), b'v')?;
+    let s = line_with(text, o, b'o')?;
     line_with(text, s, b's')
 }
 
@@ -162,13 +116,13 @@ fn times(text: &[u8], c: Cursor, left: u8) -> Stop
     ensures { Halts text.now (time_description * · from_key) from_repeats from_key c result }
 {
     match line_with(text, c, b't') {
-        Found::Past(next) => {
+        Some(next) => {
             if left == 0 {
                 return Stop::AtRepeats(next);
             }
             repeats(text, next, left - 1)
         }
-        Found::Not => Stop::Through(c),
+        None => Stop::Through(c),
     }
 }
 
@@ -178,31 +132,24 @@ fn repeats(text: &[u8], from: Cursor, left: u8) -> Stop
     ensures { Halts text.now from_repeats from_repeats from_key from result }
 {
     match line_with(text, from, b'r') {
-        Found::Past(next) => {
+        Some(next) => {
             let z = many(text, next, b'r');
             let t = maybe(text, z, b'z');
             times(text, t, left)
         }
-        Found::Not => times(text, from, left),
+        None => times(text, from, left),
     }
 }
 
 // One or more of (t, then optionally (r+ z?)).
-fn time_lines(text: &[u8], from: Cursor) -> Found
+fn time_lines(text: &[u8], from: Cursor) -> Option<Cursor>
     ensures { Leads text.now from_times from_key from result }
 {
-    let Found::Past(first) = line_with(text, from, b't') else {
-        return Found::Not;
-    };
-    let mut c = first;
+    let mut c = line_with(text, from, b't')?;
     loop {
         match repeats(text, c, HAND_OVERS) {
-            Stop::Through(next) => {
-                return Found::Past(next);
-            }
-            Stop::AtRepeats(next) => {
-                c = next;
-            }
+            Stop::Through(next) => return Some(next),
+            Stop::AtRepeats(next) => c = next,
         }
     }
 }
@@ -231,47 +178,44 @@ fn medias(text: &[u8], from: Cursor) -> Cursor
     ensures { run_from text.now from from_media ≡ run_from text.now result empty }
 {
     let mut c = from;
-    loop {
-        match line_with(text, c, b'm') {
-            Found::Past(next) => {
-                c = media_lines(text, next);
-            }
-            Found::Not => {
-                return c;
-            }
-        }
+    while let Some(next) = line_with(text, c, b'm') {
+        c = media_lines(text, next);
     }
+    c
+}
+
+// Behind the lines that the grammar describes, if those that must come are there.
+fn all_lines(text: &[u8]) -> Option<Cursor>
+    ensures { Leads text.now grammar empty start result }
+{
+    let i = first_lines(text)?;
+    let t = session_lines(text, i);
+    let k = time_lines(text, t)?;
+    let m = last_lines(text, k);
+    Some(medias(text, m))
 }
 
 // Whether the letters of a text are in order.
-pub fn letter_order(text: &[u8]) -> Order
+pub fn letter_order(text: &[u8]) -> Result<bool, Refusal>
     ensures { result ≡ order_of text.now }
 {
     if 32768 < text.len() {
-        return Order::TooLong;
+        return Err(Refusal::TooLong);
     }
-    let Found::Past(i) = first_lines(text) else {
-        return Order::OutOfOrder;
-    };
-    let t = session_lines(text, i);
-    let Found::Past(k) = time_lines(text, t) else {
-        return Order::OutOfOrder;
-    };
-    let m = last_lines(text, k);
-    let end = medias(text, m);
-    if ended(text, end) {
-        return Order::InOrder;
-    }
-    Order::OutOfOrder
+    Ok(all_lines(text).is_some_and(|end| ended(text, end)))
 }
 
 // The answer in the numbers of document 01; yes is 1.
-pub fn verdict_of(o: Order) -> Verdict
-    ensures { result ≡ verdict_of o }
-{
-    match o {
-        Order::InOrder => Verdict { number: 0, yes: 1 },
-        Order::OutOfOrder => Verdict { number: 0, yes: 0 },
-        Order::TooLong => Verdict { number: 1, yes: 0 },
+impl From<Result<bool, Refusal>> for Verdict {
+    ghost from_gives = { λ o verdict. verdict ≡ verdict_of o };
+
+    fn from(o: Result<bool, Refusal>) -> Verdict {
+        match o {
+            Ok(in_order) => Verdict {
+                number: 0,
+                yes: u64::from(in_order),
+            },
+            Err(Refusal::TooLong) => Verdict { number: 1, yes: 0 },
+        }
     }
 }

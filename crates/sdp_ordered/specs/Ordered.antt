@@ -1,12 +1,11 @@
 -- Document 02, P6: "the writer's order stays the crate's, so a written text within 32,768 bytes passes if it has no zones, and otherwise
 -- exactly when its last time has a repeat."
-use Rattle.std.specs.Prelude.{ℕ, ◌≤◌, ◌≡◌, Bool, true, false, ◌||◌, cond, List, [], ◌∷◌, length, eqb}
+use Rattle.std.specs.Prelude.{ℕ, ◌≤◌, ◌≡◌, Bool, true, false, ◌||◌, List, [], ◌∷◌, length, eqb, Ok}
 use Rattle.sdp_numbers.specs.Refusals.{longest_text}
 use Rattle.sdp_area.specs.Session.{Time, Repeat, Zone, Session}
 use Rattle.sdp_decode.specs.Decode.{decode}
 use Rattle.sdp_write.specs.Write.{wrote, fill_text}
 use Rattle.sdp_order.specs.Order.{order_of}
-use Rattle.sdp_order.specs.declared.Order.TheVariants.{InOrder, OutOfOrder}
 
 -- the time with the number n has a repeat
 unfoldable pub has_repeat : ℕ → List Repeat → Bool
@@ -32,4 +31,4 @@ abbrev pub WrittenOrder : List ℕ → List ℕ → List ℕ → Type 0
 WrittenOrder t a o =
     (fill_text t a o).answer.number ≡ 0
     → length (wrote (fill_text t a o)) ≤ longest_text
-    → order_of (wrote (fill_text t a o)) ≡ cond (zones_fit (decode a)) InOrder OutOfOrder
+    → order_of (wrote (fill_text t a o)) ≡ Ok (zones_fit (decode a))

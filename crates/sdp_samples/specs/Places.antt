@@ -1,7 +1,6 @@
 -- Document 02, P6: zones in their place and out of it, and what reading says of a second z line.
-use Rattle.std.specs.Prelude.{ℕ, ◌≡◌, List, [], ◌∷◌}
+use Rattle.std.specs.Prelude.{ℕ, ◌≡◌, true, false, List, [], ◌∷◌, Ok}
 use Rattle.sdp_order.specs.Order.{order_of}
-use Rattle.sdp_order.specs.declared.Order.TheVariants.{InOrder, OutOfOrder}
 use Rattle.sdp_samples.specs.Samples.{«V», T, some_origin, ◌next◌, five, Refuses}
 
 -- `s=`
@@ -23,11 +22,11 @@ opened x = «V» next some_origin next no_name next x
 -- texts in order and out of it, and one that is in order and yet refused
 pub record ZonePlaces : Type 0 where
   -- "z directly after the r lines of a time that has any, at most once for each such time"
-  pub each_time : order_of (opened (T next R next Z next T next R next Z)) ≡ InOrder
-  pub first_time : order_of (opened (T next R next R next Z next T)) ≡ InOrder
+  pub each_time : order_of (opened (T next R next Z next T next R next Z)) ≡ Ok true
+  pub first_time : order_of (opened (T next R next R next Z next T)) ≡ Ok true
   -- but behind a time without r lines; a second one of one time; behind the next time's line
-  pub no_repeat : order_of (opened (T next Z)) ≡ OutOfOrder
-  pub twice : order_of (opened (T next R next Z next Z)) ≡ OutOfOrder
-  pub another_time : order_of (opened (T next R next T next Z)) ≡ OutOfOrder
+  pub no_repeat : order_of (opened (T next Z)) ≡ Ok false
+  pub twice : order_of (opened (T next R next Z next Z)) ≡ Ok false
+  pub another_time : order_of (opened (T next R next T next Z)) ≡ Ok false
   -- "The reader still refuses a second z"
   pub second_refused : Refuses (opened (T next R next Z next T next R next Z)) (five 17 9 0 0 0)

@@ -4,12 +4,9 @@ use Rattle.sdp_order.specs.Expression.{empty, maybe_empty}
 use Rattle.sdp_order.proofs.FindLaws.{good_more}
 use Rattle.sdp_order.proofs.ended.Goals as goal
 
-pub returns-in-End : goal.returns-in-End
+pub returns-in-Ok-None : goal.returns-in-Ok-None
 unfolding maybe_empty
-returns-in-End c = sym ((rw c.in-End.is at c.next_line.ensures) empty)
+returns-in-Ok-None c = sym ((rw c.in-Ok-None.field-0-is at c.in-Ok-None.ensures) empty)
 
-pub returns-in-Bad : goal.returns-in-Bad
-returns-in-Bad c = sym ((rw c.in-Bad.is at c.next_line.ensures) empty)
-
-pub returns-in-Good : goal.returns-in-Good
-returns-in-Good c = sym (good_more _ _ _ _ (rw c.in-Good.is at c.next_line.ensures))
+pub returns-in-Ok-Some : goal.returns-in-Ok-Some
+returns-in-Ok-Some c = sym (good_more _ _ _ _ (rw c.in-Ok-Some.field-0-is at c.in-Ok-Some.ensures))
