@@ -3,6 +3,7 @@
 use mathlib.Core.Path.{refl}
 use Rattle.sdp_one.specs.One.{OneAnswer, OneState, OnePut}
 use Rattle.sdp_one.proofs.OneLaws.{same, same_put}
+use Rattle.sdp_unfit.proofs.UnfitLaws.{refusal_tells}
 use Rattle.sdp_listing.specs.Columns.{columns}
 use Rattle.sdp_bytes.proofs.runs.eight.Reads as sdpBytesRunsEight
 use Rattle.sdp_bytes.proofs.runs.run_len.Reads as sdpBytesRunsRunLen
@@ -408,7 +409,7 @@ sdp_stamp_valid_lines_fine κs a z z' e e' p q = same p q
 
 -- ---- sdp_unfit
 pub sdp_unfit_unfit : OneAnswer sdpUnfitUnfit.Learnt
-sdp_unfit_unfit κs a z z' e e' p q = same p q
+sdp_unfit_unfit κs a z z' e e' p q = refusal_tells z z' (same p q)
 
 -- ---- sdp_room
 pub sdp_room_room_for : OneAnswer sdpRoomRoomFor.Learnt

@@ -421,9 +421,8 @@ fn refused(number: u64) -> Starts
 pub fn starts_in(text: &[u8], area: &[u8], from: u64, to: u64) -> Starts
     ensures { result ≡ returned (starts_text text.now area.now from to) }
 {
-    let number = unfit(text, area);
-    if number != 0 {
-        return refused(number);
+    if let Err(why) = unfit(text, area) {
+        return refused(why.into());
     }
     if !zones_rise(area) {
         return refused(28);

@@ -1,13 +1,14 @@
 -- The answers of `unfit` by cases, and what a session that fits has. Assumes nothing.
-use mathlib.Core.Path.{◌≡◌, refl}
+use mathlib.Core.Path.{◌≡◌, refl, sym, ap, ◌∙◌}
 use mathlib.Core.Bool.{Bool, true, false, ◌&&◌, and-false, cond}
 use mathlib.Core.List.{List}
 use Prim.Native.Nat.{ℕ, ◌≤◌, ◌<◌}
 use native.Mathlib.Omega.{arith}
 use lib.ListN.{length}
-use lib.Dec.{ltb}
+use lib.Dec.{ltb, eqb}
 use borrow.Author.Tests.{lt-ltb, le-ltb, ltb-false}
 use Rattle.sdp_bytes.proofs.ScanLaws.{and_left, and_right}
+use Rattle.std.specs.Prelude.{Result, Ok, Err}
 use Rattle.sdp_numbers.specs.Refusals.{longest_text}
 use Rattle.sdp_area.specs.Area.{size}
 use Rattle.sdp_area.specs.Columns.{area_size}
@@ -17,6 +18,29 @@ use Rattle.sdp_valid.specs.Counted.{Counted}
 use Rattle.sdp_valid.proofs.JudgeLaws.{counts_known}
 use Rattle.sdp_stamp_valid.specs.Fine.{fine_lines}
 use Rattle.sdp_unfit.specs.Unfit.{unfit}
+use Rattle.sdp_unfit.specs.Number.{number_of, refusal}
+use Rattle.sdp_unfit.specs.declared.Misfit.{Misfit}
+use Rattle.sdp_unfit.specs.declared.Misfit.TheVariants.{AreaTooShort, TextTooLong, BadSession}
+
+-- no refusal has the number 0
+pub numbered : (n : ℕ) (why : Misfit) → n ≡ number_of why → n ≡ 0 → ⊥
+numbered n AreaTooShort e z = omega (arith, e, z)
+numbered n TextTooLong e z = omega (arith, e, z)
+numbered n BadSession e z = omega (arith, e, z)
+
+-- the number tells a refusal
+refused_by : ℕ → Result Unit Misfit
+refused_by n = cond (eqb n 2) (Err AreaTooShort) (cond (eqb n 1) (Err TextTooLong) (cond (eqb n 23) (Err BadSession) (Ok tt)))
+
+refused_by-refusal : (r : Result Unit Misfit) → refused_by (refusal r) ≡ r
+unfolding refused_by
+refused_by-refusal (Ok u) = refl
+refused_by-refusal (Err AreaTooShort) = refl
+refused_by-refusal (Err TextTooLong) = refl
+refused_by-refusal (Err BadSession) = refl
+
+pub refusal_tells : (r r' : Result Unit Misfit) → refusal r ≡ refusal r' → r ≡ r'
+refusal_tells r r' e = sym (refused_by-refusal r) ∙ ap refused_by e ∙ refused_by-refusal r'
 
 module _ (t a : List ℕ) where
   -- the rows of a session that is well formed lie in the area

@@ -3,26 +3,44 @@
 
 ghost use Rattle.std.specs.Prelude.{◌≡◌};
 ghost use Rattle.sdp_unfit.specs.Unfit.{unfit};
+ghost use Rattle.sdp_unfit.specs.Number.{number_of, refusal};
 
 use sdp_area::AREA_SIZE;
 use sdp_stamp_valid::lines_fine;
 use sdp_valid::judge;
 
-// The number of the refusal, or 0.
-pub fn unfit(text: &[u8], area: &[u8]) -> u64
-    ensures { result ≡ unfit text.now area.now }
+/// Why not. Its number is that of the refusal.
+#[derive(Clone, Copy, Debug, PartialEq, Eq)]
+pub enum Misfit {
+    AreaTooShort,
+    TextTooLong,
+    BadSession,
+}
+
+impl From<Misfit> for u64 {
+    ghost from_gives = { λ why n. n ≡ number_of why };
+
+    fn from(why: Misfit) -> u64 {
+        match why {
+            Misfit::AreaTooShort => 2,
+            Misfit::TextTooLong => 1,
+            Misfit::BadSession => 23,
+        }
+    }
+}
+
+pub fn unfit(text: &[u8], area: &[u8]) -> Result<(), Misfit>
+    ensures { refusal result ≡ unfit text.now area.now }
 {
     if area.len() < AREA_SIZE {
-        return 2;
+        return Err(Misfit::AreaTooShort);
     }
     if 32768 < text.len() {
-        return 1;
+        return Err(Misfit::TextTooLong);
     }
-    if !judge(text, area) {
-        return 23;
+    if judge(text, area) && lines_fine(area) {
+        Ok(())
+    } else {
+        Err(Misfit::BadSession)
     }
-    if !lines_fine(area) {
-        return 23;
-    }
-    0
 }

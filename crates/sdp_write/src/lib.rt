@@ -60,9 +60,8 @@ fn told(number: u64, len: usize) -> Answer
 pub fn length(text: &[u8], area: &[u8]) -> Answer
     ensures { result ≡ length_text text.now area.now }
 {
-    let number = unfit(text, area);
-    if number != 0 {
-        return told(number, 0);
+    if let Err(why) = unfit(text, area) {
+        return told(why.into(), 0);
     }
     told(0, length_of(text, area))
 }
@@ -88,9 +87,8 @@ pub fn fill(text: &[u8], area: &[u8], out: &mut [u8]) -> Answer
     ensures value { result ≡ (fill_text text.now area.now out.old).answer }
     ensures out_after { out.new ≡ (fill_text text.now area.now out.old).out }
 {
-    let number = unfit(text, area);
-    if number != 0 {
-        return told(number, 0);
+    if let Err(why) = unfit(text, area) {
+        return told(why.into(), 0);
     }
     let full = out.len();
     let n = above(text, area, full);

@@ -1,17 +1,18 @@
 -- `sdp_starts::starts_in` meets its contract. Assumes nothing.
-use mathlib.Core.Path.{sym, ◌∙◌}
+use mathlib.Core.Path.{refl, sym, ◌∙◌}
 use mathlib.Core.List.{[]}
+use Rattle.sdp_unfit.proofs.UnfitLaws.{numbered}
 use Rattle.sdp_starts.proofs.ToldLaws.{refused_as, none_held, zeros_roomy, told-unfit, told_fall, told_many, told_list}
 use Rattle.sdp_starts.proofs.starts_in.Goals as goal
 
-pub returns-then-number-ne0 : goal.returns-then-number-ne0
-returns-then-number-ne0 c =
-    refused_as _ _ _ c.refused.ensures (told-unfit _ _ _ _ _ c.unfit-number.ensures c.if-number-ne0.true)
+pub returns-in-Err : goal.returns-in-Err
+returns-in-Err c =
+    refused_as _ _ _ c.refused.ensures (told-unfit _ _ _ _ _ (c.into.ensures ∙ c.in-Err.ensures) (numbered _ _ c.into.ensures))
 
 pub returns-then-not-zones_rise : goal.returns-then-not-zones_rise
 returns-then-not-zones_rise c =
     refused_as _ _ _ c.refused-then-not-zones_rise.ensures
-    (told_fall _ _ _ _ _ c.unfit-number.ensures c.if-number-ne0.false (sym c.zones_rise.ensures ∙ c.if-not-zones_rise.true))
+    (told_fall _ _ _ _ _ c.in_default.ensures refl (sym c.zones_rise.ensures ∙ c.if-not-zones_rise.true))
 
 pub put_times-n-requires : goal.put_times-n-requires
 put_times-n-requires c = (zeros_roomy, sym c.zones_rise.ensures ∙ c.if-not-zones_rise.false)
@@ -19,8 +20,8 @@ put_times-n-requires c = (zeros_roomy, sym c.zones_rise.ensures ∙ c.if-not-zon
 pub returns-then-n-gt-MOST : goal.returns-then-n-gt-MOST
 returns-then-n-gt-MOST c =
     refused_as _ _ _ c.refused-then-n-gt-MOST.ensures
-    (told_many _ _ _ _ _ c.unfit-number.ensures c.if-number-ne0.false (sym c.zones_rise.ensures ∙ c.if-not-zones_rise.false) _ _ (c.put_times-n.ensures.holds [] none_held) c.if-n-gt-MOST.true)
+    (told_many _ _ _ _ _ c.in_default.ensures refl (sym c.zones_rise.ensures ∙ c.if-not-zones_rise.false) _ _ (c.put_times-n.ensures.holds [] none_held) c.if-n-gt-MOST.true)
 
 pub returns : goal.returns
 returns c =
-    told_list _ _ _ _ _ c.unfit-number.ensures c.if-number-ne0.false (sym c.zones_rise.ensures ∙ c.if-not-zones_rise.false) _ _ (c.put_times-n.ensures.holds [] none_held) c.if-n-gt-MOST.false
+    told_list _ _ _ _ _ c.in_default.ensures refl (sym c.zones_rise.ensures ∙ c.if-not-zones_rise.false) _ _ (c.put_times-n.ensures.holds [] none_held) c.if-n-gt-MOST.false
