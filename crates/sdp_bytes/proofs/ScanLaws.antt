@@ -6,10 +6,14 @@ use native.Mathlib.Omega.{arith}
 use mathlib.Core.Path.{◌≡◌, refl, sym, ap, ◌∙◌}
 use mathlib.Core.Bool.{Bool, true, false, ◌&&◌, not, and-false, false≢true, cond}
 use mathlib.Core.List.{List, [], ◌∷◌}
-use borrow.Author.Tests.{not-true, not-false}
-use lib.Dec.{eqb}
+use borrow.Author.Tests.{not-true, not-false, ltb-false}
+use lib.Dec.{eqb, ltb}
 use lib.ListN.{length, get_or, take, drop, drop_of_length-le, length-drop}
 use lib.Seq.{drop-cons, drop-drop, take_all}
+use Rattle.std.specs.List.{position_or_len, position}
+use Rattle.std.specs.Prelude.{Some, None}
+use Rattle.std.specs.Option.{unwrap_or}
+use Rattle.std.proofs.lemmas.List.Recursion.{is_position_or_len}
 use Rattle.sdp_bytes.specs.Runs.{index_of, run, run_len}
 
 pub and_left : (a b : Bool) → (a && b) ≡ true → a ≡ true
@@ -130,6 +134,10 @@ pub index_until : (b : ℕ) → Until (λ x. eqb x b) (index_of b)
 unfolding index_of
 index_until b = record { next = λ x s e. rw e; here = λ x s e. rw e; none = refl }
 
+pub index-position : (b : ℕ) (s : List ℕ) → index_of b s ≡ position_or_len (λ x. eqb x b) s
+unfolding index_of
+index-position b s = is_position_or_len (index_of b) (λ x. eqb x b) refl (λ x xs. let e : suc (index_of b xs) ≡ 1 + index_of b xs = omega arith in ap (cond (eqb x b) 0) e) s
+
 pub index_le : (b : ℕ) (s : List ℕ) → index_of b s ≤ length s
 unfolding index_of
 index_le b [] = omega arith
@@ -138,3 +146,11 @@ index_le b (x ∷ s) = go (eqb x b) (index_le b s)
     go : (t : Bool) → index_of b s ≤ length s → cond t 0 (suc (index_of b s)) ≤ suc (length s)
     go true h = omega arith
     go false h = omega arith
+
+-- as the code finds it: where it is found, or else at the length
+pub index-found : (b : ℕ) (s : List ℕ) → unwrap_or (position (λ x. eqb x b) s) (length s) ≡ index_of b s
+index-found b s = rw (← index-position b s) (go (ltb (index_of b s) (length s)) refl)
+  where
+    go : (t : Bool) → ltb (index_of b s) (length s) ≡ t → unwrap_or (cond t (Some (index_of b s)) None) (length s) ≡ index_of b s
+    go true e = refl
+    go false e = omega (arith, index_le b s, ltb-false _ _ e)

@@ -1,18 +1,17 @@
 -- The paper's ranges of token characters are the RFC's list; token characters are below 80 hexadecimal; all_token over the rest of a
 -- list from an index. Assumes nothing.
-use Prim.Native.Nat.{ℕ, zero, suc, ◌+◌, ◌<◌, ◌≤◌}
+use Prim.Native.Nat.{ℕ, zero, suc, ◌<◌, ◌≤◌}
 use native.Mathlib.Decide.{dec_lt}
-use native.Mathlib.Numerals.{add-one}
 use native.Mathlib.Omega.{arith}
-use mathlib.Core.Path.{◌≡◌, refl, sym, subst, ◌∙◌}
-use mathlib.Core.Bool.{Bool, true, false, ◌&&◌, ◌||◌, beq, and-false, or_assoc, or-false, false≢true}
+use mathlib.Core.Path.{◌≡◌, refl, sym, ap, subst, ◌∙◌}
+use mathlib.Core.Bool.{Bool, true, false, ◌&&◌, not, beq, and-false, false≢true}
 use mathlib.Core.List.{List, [], ◌∷◌}
-use borrow.Author.Tests.{ne_eqb, lt-leb, ltb-true}
+use borrow.Author.Tests.{ne_eqb, lt-ltb, lt-leb, ltb-true}
 use lib.Dec.{ltb, leb, eqb}
-use lib.ListN.{length, get_or, drop, drop_of_length-le}
-use lib.Seq.{drop-cons}
-use Rattle.sdp_bytes.specs.Ranges.{Range, within, in_some}
-use Rattle.sdp_bytes.specs.Token.{token_char, token_ranges, all_token}
+use lib.ListN.{length}
+use Rattle.std.specs.List.{list_all}
+use Rattle.sdp_bytes.specs.Ranges.{in_some}
+use Rattle.sdp_bytes.specs.Token.{token_char, token_ranges, all_token, is_token}
 use Rattle.sdp_bytes.proofs.ScanLaws.{and_left, and_right}
 
 beq_true : (a b : Bool) → beq a b ≡ true → a ≡ b
@@ -57,31 +56,18 @@ ranges_are_token b = elim (dec_lt b 0x80) [
   | no h ↦ not_in_ranges b (omega arith) ∙ sym (not_token b (omega arith))
 ]
 
--- tests joined from the left, as code joins them, t being what was joined so far
-unfoldable pub joined : Bool → List Range → ℕ → Bool
-joined t [] b = t
-joined t (r ∷ rs) b = joined (t || within r b) rs b
-
-joined_is : (t : Bool) (rs : List Range) (b : ℕ) → joined t rs b ≡ (t || in_some rs b)
-unfolding joined in_some
-joined_is t [] b = sym (or-false t)
-joined_is t (r ∷ rs) b = joined_is (t || within r b) rs b ∙ or_assoc t (within r b) (in_some rs b)
-
-pub joined_token : (b : ℕ) → joined false token_ranges b ≡ token_char b
-joined_token b = joined_is false token_ranges b ∙ ranges_are_token b
-
 pub token_small : (b : ℕ) → token_char b ≡ true → b < 0x80
 token_small b e = elim (dec_lt b 0x80) [ yes h ↦ h | no h ↦ absurd (false≢true (sym (not_token b (omega arith)) ∙ e)) ]
 
-module _ (s : List ℕ) (i : ℕ) where
-  pub token_next : i < length s → token_char (get_or s i 0) ≡ true → all_token (drop i s) ≡ all_token (drop (i + 1) s)
-  unfolding all_token
-  token_next h e = rw (add-one, drop-cons s i 0, e)
+-- a token, as the code asks it: of a list with a byte whether all are
+all-list : (s : List ℕ) → all_token s ≡ list_all token_char s
+unfolding all_token
+all-list [] = refl
+all-list (b ∷ s) = ap (λ (t : Bool). token_char b && t) (all-list s)
 
-  pub token_stop : i < length s → token_char (get_or s i 0) ≡ false → all_token (drop i s) ≡ false
-  unfolding all_token
-  token_stop h e = rw (drop-cons s i 0, e)
-
-  pub token_done : length s ≤ i → all_token (drop i s) ≡ true
-  unfolding all_token
-  token_done h = rw (drop_of_length-le s h)
+pub token-is : (s : List ℕ) → is_token s ≡ (not (eqb (length s) 0) && list_all token_char s)
+unfolding is_token
+token-is [] = refl
+token-is (b ∷ s) =
+    let l : 0 < length (b ∷ s) = omega arith in
+    rw (lt-ltb 0 (length (b ∷ s)) l, ne_eqb (length (b ∷ s)) 0 (λ e. omega arith)) (all-list (b ∷ s))

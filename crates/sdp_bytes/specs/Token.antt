@@ -1,5 +1,5 @@
 -- RFC 8866, section 9: token = 1*(token-char).
-use Rattle.std.specs.Prelude.{ℕ, Bool, true, false, ◌&&◌, ◌||◌, List, [], ◌∷◌, length, ltb, eqb}
+use Rattle.std.specs.Prelude.{ℕ, Bool, true, ◌&&◌, ◌||◌, List, [], ◌∷◌, length, ltb, eqb}
 use Rattle.sdp_bytes.specs.Ranges.{Range, ◌to◌, within}
 
 -- RFC 5234, appendix B.1: ALPHA = %x41-5A / %x61-7A

@@ -6,8 +6,8 @@ ghost use Rattle.sdp_bytes.specs.Runs.{run, run_len};
 
 use sdp_cells::get8;
 
-// Whether b is one of lo..=hi.
-pub(crate) fn inside(b: u8, lo: u8, hi: u8) -> bool
+// Whether b is one of lo..=hi. By hand: the test of a `RangeInclusive` looks first whether the range is used up.
+fn inside(b: u8, lo: u8, hi: u8) -> bool
     ensures { result ≡ within (lo to hi) b }
 {
     (lo <= b) & (b <= hi)
@@ -46,6 +46,7 @@ fn eights(s: &[u8], lo: u8, hi: u8) -> usize
     if hi < 127 {
         return 0;
     }
+    // by hand: a turn passes eight bytes, and an iterator over bytes one
     let mut i = 0;
     while eight(&s[i..], lo, hi) {
         i += 8;
@@ -57,12 +58,10 @@ fn eights(s: &[u8], lo: u8, hi: u8) -> usize
 pub fn run_len(s: &[u8], lo: u8, hi: u8) -> usize
     ensures { result ≡ run_len (within (lo to hi)) s.now }
 {
-    let mut i = eights(s, lo, hi);
-    while i < s.len() {
+    for i in eights(s, lo, hi)..s.len() {
         if !inside(s[i], lo, hi) {
             return i;
         }
-        i += 1;
     }
-    i
+    s.len()
 }

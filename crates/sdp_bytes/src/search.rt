@@ -6,12 +6,5 @@ ghost use Rattle.sdp_bytes.specs.Runs.{index_of};
 pub fn index_of(s: &[u8], b: u8) -> usize
     ensures { result ≡ index_of b s.now }
 {
-    let mut i = 0;
-    while i < s.len() {
-        if s[i] == b {
-            return i;
-        }
-        i += 1;
-    }
-    i
+    s.iter().position(|x| *x == b).unwrap_or(s.len())
 }

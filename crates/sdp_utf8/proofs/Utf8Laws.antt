@@ -1,12 +1,12 @@
 -- Laws of char_len and utf8_end: one step of a loop over the characters, and of its quick way.
 -- Assumes nothing.
-use Prim.Native.Nat.{ℕ, zero, suc, ◌+◌, ◌-◌, ◌<◌, ◌≤◌}
+use Prim.Native.Nat.{ℕ, zero, suc, ◌+◌, ◌<◌, ◌≤◌}
 use native.Mathlib.Nat.{add-zero}
 use native.Mathlib.Numerals.{add-one}
 use native.Mathlib.Decide.{dec_lt}
 use native.Mathlib.Omega.{arith}
 use mathlib.Core.Path.{◌≡◌, refl, sym, ap, ◌∙◌}
-use mathlib.Core.Bool.{Bool, true, false, ◌&&◌, ◌||◌, not, and-true, and-false, false≢true, cond}
+use mathlib.Core.Bool.{Bool, true, false, ◌&&◌, ◌||◌, not, and-false, false≢true, cond}
 use mathlib.Core.List.{List, [], ◌∷◌}
 use borrow.Author.Tests.{lt-ltb, le-ltb, le-leb, lt-leb, leb-true}
 use lib.Dec.{leb}
@@ -21,9 +21,13 @@ or_elim : (a b : Bool) {P : Type 0} → (a ≡ true → P) → (b ≡ true → P
 or_elim true b p q e = p refl
 or_elim false b p q e = q e
 
+not_true : (b : Bool) → (b ≡ true → ⊥) → b ≡ false
+not_true true h = absurd (h refl)
+not_true false h = refl
+
 -- ---- the ranges by their places
 -- a byte of each range stands from place i on
-abbrev fits_at : List Range → List ℕ → ℕ → Bool
+abbrev pub fits_at : List Range → List ℕ → ℕ → Bool
 fits_at [] s i = true
 fits_at (r ∷ rs) s i = in_at r s i && fits_at rs s (i + 1)
 
@@ -36,14 +40,8 @@ fits_at_lem (r ∷ rs) s i = go (dec_lt i (length s)) (fits_at_lem rs s (i + 1))
     go (yes h) e = rw (drop-cons s i 0, lt-ltb i (length s) h, ← e, add-one)
     go (no h) e = let l : length s ≤ i = omega arith in rw (drop_of_length-le s l, le-ltb i (length s) l)
 
-pub fits2 : (s : List ℕ) (a b : Range) → (in_at a s 0 && in_at b s 1) ≡ fits (a ∷ b ∷ []) s
-fits2 s a b = rw (fits_at_lem (a ∷ b ∷ []) s 0, and-true)
-
-pub fits3 : (s : List ℕ) (a b c : Range) → (in_at a s 0 && (in_at b s 1 && in_at c s 2)) ≡ fits (a ∷ b ∷ c ∷ []) s
-fits3 s a b c = rw (fits_at_lem (a ∷ b ∷ c ∷ []) s 0, and-true)
-
-pub fits4 : (s : List ℕ) (a b c d : Range) → (in_at a s 0 && (in_at b s 1 && (in_at c s 2 && in_at d s 3))) ≡ fits (a ∷ b ∷ c ∷ d ∷ []) s
-fits4 s a b c d = rw (fits_at_lem (a ∷ b ∷ c ∷ d ∷ []) s 0, and-true)
+pub fits_places : (rs : List Range) (s : List ℕ) → fits rs s ≡ fits_at rs s 0
+fits_places rs s = fits_at_lem rs s 0
 
 -- ---- which rows of the table the first byte leaves
 below_out : (lo hi b : ℕ) (rs : List Range) (s : List ℕ) → b < lo → fits (lo to hi ∷ rs) (b ∷ s) ≡ false
@@ -129,6 +127,9 @@ unfolding fits
 fits_le [] s e = omega arith
 fits_le (r ∷ rs) [] e = absurd (false≢true e)
 fits_le (r ∷ rs) (b ∷ s) e = let h = fits_le rs s (and_right (within r b) (fits rs s) e) in omega arith
+
+pub fits_short : (rs : List Range) (s : List ℕ) → length s < length rs → fits rs s ≡ false
+fits_short rs s h = not_true (fits rs s) (λ e. omega (arith, fits_le rs s e))
 
 pick_le : (a b c d : Bool) (n : ℕ) → (a ≡ true → 1 ≤ n) → (b ≡ true → 2 ≤ n) → (c ≡ true → 3 ≤ n) → (d ≡ true → 4 ≤ n)
     → cond a 1 (cond b 2 (cond c 3 (cond d 4 0))) ≤ n

@@ -1,7 +1,7 @@
 -- What the UTF-8 test answers, in terms of Text, a concatenation of well_formed_lem characters: is_utf8 says yes exactly to a Text, and
 -- utf8_end is the end of the longest beginning that is one.
 -- Assumes nothing.
-use Prim.Native.Nat.{ℕ, zero, suc, ◌+◌, ◌-◌, ◌<◌, ◌≤◌}
+use Prim.Native.Nat.{ℕ, zero, suc, ◌+◌, ◌<◌, ◌≤◌}
 use native.Mathlib.Nat.{add-zero}
 use native.Mathlib.Omega.{arith}
 use mathlib.Core.Path.{◌≡◌, refl, sym, ap, ◌∙◌}
@@ -10,10 +10,9 @@ use mathlib.Core.Bool.{Bool, true, false, cond}
 use mathlib.Core.List.{List, [], ◌∷◌, ◌++◌, append_assoc, append-nil}
 use lib.ListN.{length, take, drop, length-append, length-drop, take-append-drop}
 use lib.Seq.{drop_at, length-take-le, take-add, take-length}
-use lib.Dec.{eqb}
 use borrow.Author.Tests.{eq-eqb, eqb-true}
 use Rattle.sdp_bytes.specs.Ranges.{Range, fits}
-use Rattle.sdp_utf8.specs.Utf8.{char1, char2, char3, char4, char_len, end_from, utf8_end, is_utf8, Char, Text, none, more}
+use Rattle.sdp_utf8.specs.Utf8.{char1, char2, char3, char4, char_len, end_from, utf8_end, is_utf8, Text, none, more}
 use Rattle.sdp_utf8.proofs.Utf8Laws.{char_len-le, utf8_next, utf8_stop}
 
 fits_prefix : (rs : List Range) (c t : List ℕ) → length rs ≤ length c → fits rs c ≡ fits rs (c ++ t)

@@ -8,84 +8,53 @@ ghost use Rattle.sdp_utf8.specs.Utf8.{tail, char2, char3, char4, char_len, ascii
 
 use sdp_bytes::runs::run_len;
 
-// Whether a byte of lo..=hi stands at place i of s.
-fn in_at(s: &[u8], i: usize, lo: u8, hi: u8) -> bool
-    ensures { result ≡ in_at (lo to hi) s.now i }
-{
-    if i < s.len() {
-        let b = s[i];
-        (lo <= b) & (b <= hi)
-    } else {
-        false
-    }
-}
-
-// n where a test holds, else 0.
-fn len_if(ok: bool, n: usize) -> usize
-    ensures { result ≡ cond ok n 0 }
-{
-    if ok { n } else { 0 }
-}
-
-// Whether s begins with a byte of lo..=hi, one of lo2..=hi2 and a tail byte.
-fn three(s: &[u8], lo: u8, hi: u8, lo2: u8, hi2: u8) -> bool
-    ensures { result ≡ fits (lo to hi ∷ lo2 to hi2 ∷ tail ∷ []) s.now }
-{
-    in_at(s, 0, lo, hi) & (in_at(s, 1, lo2, hi2) & in_at(s, 2, 0x80, 0xbf))
-}
-
-// Whether s begins with a byte of lo..=hi, one of lo2..=hi2 and two tail bytes.
-fn four(s: &[u8], lo: u8, hi: u8, lo2: u8, hi2: u8) -> bool
-    ensures { result ≡ fits (lo to hi ∷ lo2 to hi2 ∷ tail ∷ tail ∷ []) s.now }
-{
-    in_at(s, 0, lo, hi)
-        & (in_at(s, 1, lo2, hi2) & (in_at(s, 2, 0x80, 0xbf) & in_at(s, 3, 0x80, 0xbf)))
-}
-
 // Whether s begins with a character of two bytes.
+#[tactic(auto, using(crate::proofs::Utf8Laws::fits_places, crate::proofs::Utf8Laws::fits_short, std::proofs::lemmas::Bool::Decides::nat_tests))]
 fn is_two(s: &[u8]) -> bool
     ensures { result ≡ char2 s.now }
 {
-    in_at(s, 0, 0xc2, 0xdf) & in_at(s, 1, 0x80, 0xbf)
+    matches!(s, [0xc2..=0xdf, 0x80..=0xbf, ..])
 }
 
 // Whether s begins with a character of three bytes.
+#[tactic(auto, using(crate::proofs::Utf8Laws::fits_places, crate::proofs::Utf8Laws::fits_short, std::proofs::lemmas::Bool::Decides::nat_tests))]
 fn is_three(s: &[u8]) -> bool
     ensures { result ≡ char3 s.now }
 {
-    three(s, 0xe0, 0xe0, 0xa0, 0xbf)
-        | three(s, 0xe1, 0xec, 0x80, 0xbf)
-        | three(s, 0xed, 0xed, 0x80, 0x9f)
-        | three(s, 0xee, 0xef, 0x80, 0xbf)
+    matches!(
+        s,
+        [0xe0, 0xa0..=0xbf, 0x80..=0xbf, ..]
+            | [0xe1..=0xec, 0x80..=0xbf, 0x80..=0xbf, ..]
+            | [0xed, 0x80..=0x9f, 0x80..=0xbf, ..]
+            | [0xee..=0xef, 0x80..=0xbf, 0x80..=0xbf, ..]
+    )
 }
 
 // Whether s begins with a character of four bytes.
+#[tactic(auto, using(crate::proofs::Utf8Laws::fits_places, crate::proofs::Utf8Laws::fits_short, std::proofs::lemmas::Bool::Decides::nat_tests))]
 fn is_four(s: &[u8]) -> bool
     ensures { result ≡ char4 s.now }
 {
-    four(s, 0xf0, 0xf0, 0x90, 0xbf)
-        | four(s, 0xf1, 0xf3, 0x80, 0xbf)
-        | four(s, 0xf4, 0xf4, 0x80, 0x8f)
+    matches!(
+        s,
+        [0xf0, 0x90..=0xbf, 0x80..=0xbf, 0x80..=0xbf, ..]
+            | [0xf1..=0xf3, 0x80..=0xbf, 0x80..=0xbf, 0x80..=0xbf, ..]
+            | [0xf4, 0x80..=0x8f, 0x80..=0xbf, 0x80..=0xbf, ..]
+    )
 }
 
 // The length of the character that s begins with, 0 where it begins with none. The first byte tells which rows can fit.
+#[tactic(auto, using(crate::proofs::Utf8Laws::none_len, crate::proofs::Utf8Laws::one_len, crate::proofs::Utf8Laws::two_len, crate::proofs::Utf8Laws::three_len, crate::proofs::Utf8Laws::four_len))]
 fn char_len(s: &[u8]) -> usize
     ensures { result ≡ char_len s.now }
 {
-    if s.len() == 0 {
-        return 0;
+    match s {
+        [] => 0,
+        [0x00..=0x7f, ..] => 1,
+        [0x80..=0xdf, ..] => if is_two(s) { 2 } else { 0 },
+        [0xe0..=0xef, ..] => if is_three(s) { 3 } else { 0 },
+        _ => if is_four(s) { 4 } else { 0 },
     }
-    let b = s[0];
-    if b < 0x80 {
-        return 1;
-    }
-    if b < 0xe0 {
-        return len_if(is_two(s), 2);
-    }
-    if b < 0xf0 {
-        return len_if(is_three(s), 3);
-    }
-    len_if(is_four(s), 4)
 }
 
 // How many ASCII bytes s begins with.
@@ -117,6 +86,7 @@ fn step_len(s: &[u8]) -> usize
 pub fn utf8_end(s: &[u8]) -> usize
     ensures { result ≡ utf8_end s.now }
 {
+    // by hand: a turn passes a character and the ASCII after it, and an iterator over bytes one byte
     let mut i = plain_len(s);
     while i < s.len() {
         let n = step_len(&s[i..]);

@@ -1,10 +1,6 @@
 -- `sdp_utf8::utf8_end` meets its contract. The invariant: the whole list's end is i and the end of the rest from i.
 -- Assumes nothing.
-use Prim.Native.Nat.{◌-◌}
-use mathlib.Core.Path.{◌≡◌}
 use native.Mathlib.Omega.{arith}
-use lib.ListN.{drop}
-use Rattle.sdp_utf8.specs.Utf8.{step_len}
 use Rattle.sdp_utf8.proofs.Utf8Laws.{plain_on, utf8_steps}
 use Rattle.sdp_bytes.proofs.ScanLaws.{rest_from, step_on, step_here, step_done}
 use Rattle.sdp_utf8.proofs.utf8_end.Goals as goal

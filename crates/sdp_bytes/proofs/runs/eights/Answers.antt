@@ -1,6 +1,5 @@
 -- `sdp_bytes::runs::eights` meets its contract. The invariant: the whole list's run is i and the run of the rest from i.
 -- Assumes nothing.
-use Prim.Native.Nat.{◌-◌}
 use mathlib.Core.Path.{sym, ◌∙◌}
 use native.Mathlib.Omega.{arith}
 use Rattle.sdp_bytes.proofs.ScanLaws.{rest_from, run_on}

@@ -1,6 +1,6 @@
 -- `sdp_bytes::runs::run_len` meets its contract. The invariant: the whole list's run is i and the run of the rest from i.
 -- Assumes nothing.
-use Prim.Native.Nat.{◌-◌}
+use native.Mathlib.Omega.{arith}
 use mathlib.Core.Path.{sym, ap, ◌∙◌}
 use mathlib.Core.Bool.{not}
 use Rattle.sdp_bytes.proofs.ScanLaws.{until_next, until_here, until_done, run-until, run_passed, run_pass}
@@ -18,4 +18,6 @@ loop-i-preserved c =
     until_next (run-until _) _ _ c.loop-i.invariant c.loop-i-test.true (ap not (sym c.inside.ensures ∙ c.if-not-inside.false))
 
 pub returns : goal.returns
-returns c = until_done (run-until _) _ _ c.loop-i.invariant c.loop-i-test.false
+returns c =
+    let e = until_done (run-until _) _ _ c.loop-i.invariant c.loop-i-test.false in
+    omega (arith, e, c.loop-i.invariant)

@@ -1,23 +1,16 @@
--- `sdp_bytes::is_token` meets its contract. The invariant: whether all of s are token characters is what it is for the rest from i.
--- Assumes nothing.
-use Prim.Native.Nat.{◌-◌}
-use mathlib.Core.Path.{sym, ◌∙◌}
-use mathlib.Core.Bool.{and-true, and-false}
-use borrow.Author.Rules.{rules}
-use Rattle.sdp_bytes.specs.Token.{is_token}
-use Rattle.sdp_bytes.proofs.TokenLaws.{token_next, token_stop, token_done}
+-- `sdp_bytes::token::is_token` meets its contract. Assumes nothing.
+use Rattle.std.proofs.Common.{rules, refl}
+use Rattle.std.proofs.lemmas.Iterator.{YieldsList-from_slice}
+use Rattle.std.proofs.lemmas.Iterator.Search.{all_from_yields_List}
+use borrow.Author.Tests.{tests}
+use Rattle.sdp_bytes.specs.Token.{token_char}
+use Rattle.sdp_bytes.proofs.TokenLaws.{token-is}
 use Rattle.sdp_bytes.proofs.token.is_token.Goals as goal
 
-pub returns-then-not-token_char : goal.returns-then-not-token_char
-unfolding is_token
-returns-then-not-token_char c =
-    let e = sym c.token_char.ensures ∙ c.if-not-token_char.true in
-    rw (c.loop-i.invariant.1, token_stop _ _ c.loop-i-test.true e, and-false)
+pub returns-then-not-is_empty : goal.returns-then-not-is_empty
+returns-then-not-is_empty c =
+    let e = all_from_yields_List token_char _ _ c.all.result c.all.ensures.ran (YieldsList-from_slice c.args.s.now cc) (λ x b q k. search (rules, tests)) in
+    rw (token-is, ← c.is_empty.ensures, c.if-not-is_empty.true) e
 
-pub loop-i-preserved : goal.loop-i-preserved
-loop-i-preserved c =
-    (search rules, c.loop-i.invariant.1 ∙ token_next _ _ c.loop-i-test.true (sym c.token_char.ensures ∙ c.if-not-token_char.false))
-
-pub returns : goal.returns
-unfolding is_token
-returns c = rw (c.loop-i.invariant.1, token_done _ _ c.loop-i-test.false, and-true)
+pub returns-else-not-is_empty : goal.returns-else-not-is_empty
+returns-else-not-is_empty c = rw (token-is, ← c.is_empty.ensures, c.if-not-is_empty.false) refl
