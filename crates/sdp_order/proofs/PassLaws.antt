@@ -6,7 +6,7 @@ use mathlib.Core.Path.{◌≡◌, sym, ◌∙◌}
 use mathlib.Core.Bool.{false}
 use mathlib.Core.List.{List}
 use Rattle.std.specs.Prelude.{Option, Some, None}
-use Rattle.core.specs.Option.{unwrap_or}
+use Rattle.std.specs.Option.{unwrap_or}
 use Rattle.sdp_lines.specs.declared.Cursor.{Cursor}
 use Rattle.sdp_order.specs.Expression.{Expr, empty, letter, ◌·◌, ◌*, ◌⁇, ◌+, maybe_empty, after}
 use Rattle.sdp_order.specs.From.{run_from, begins, Finds, Passes, Leads, Halts}
