@@ -7,10 +7,9 @@ use mathlib.Core.List.{List, [], ◌∷◌}
 use lib.Dec.{ltb, eqb}
 use lib.ListN.{length, drop}
 use Rattle.sdp_numbers.specs.Refusals.{longest_text}
-use Rattle.sdp_lines.specs.Lines.{Raw, split, content, width, form_of}
+use Rattle.sdp_lines.specs.Lines.{Raw, split, content, width, form_of, Form}
 use Rattle.sdp_lines.specs.declared.Span.{Span}
-use Rattle.sdp_lines.specs.declared.Form.{Form}
-use Rattle.sdp_lines.specs.declared.Form.TheVariants.{Blank, Good, Bad}
+use Rattle.std.specs.Prelude.{Some, None, Ok, Err}
 use Rattle.sdp_area.specs.Session.{Session}
 use Rattle.sdp_area.specs.Columns.{area_size}
 use Rattle.sdp_roles.specs.Roles.{role_at}
@@ -34,9 +33,9 @@ kind_once other = refl
 -- an accepted line is not of bad form
 module _ (s : Session Span) (ρ : Reading Span) (n p : ℕ) (l : List ℕ) (k : Reading Span → Verdict Span) where
   line-once : (m : ℕ) (f : Form) → after span_at (step_form span_at ρ p l f) n (p + 2) k ≡ accepted s → blanks f + idles m f + uses (role_of m f) ≡ 1
-  line-once m Blank e = refl
-  line-once m (Good c) e = omega (arith, kind_once (kind_of (role_at m c)))
-  line-once m (Bad f) e = absurd (let z : ◌≡◌ {A = ℕ} 0 1 = cc in omega arith)
+  line-once m (Ok None) e = refl
+  line-once m (Ok (Some c)) e = omega (arith, kind_once (kind_of (role_at m c)))
+  line-once m (Err f) e = absurd (let z : ◌≡◌ {A = ℕ} 0 1 = cc in omega arith)
 
 goes_on : (s : Session Span) (n p : ℕ) (k : Reading Span → Verdict Span) (σ : Stepped Span) → after span_at σ n p k ≡ accepted s → (τ : Reading Span) × (k τ ≡ accepted s)
 goes_on s n p k (goes τ) e = (τ, e)
@@ -72,9 +71,9 @@ begin-once (r ∷ rs) s n p e = form (form_of (content r)) (begin-once rs s (n +
     form : (f : Form) → (begin span_at (n + 1) (p + width r) rs ≡ accepted s → empty_lines rs + ignored_lines rs + kept_lines rs ≡ length rs)
         → begin_form span_at n p (content r) f (begin span_at (n + 1) (p + width r) rs) later ≡ accepted s
         → blanks f + empty_lines rs + from_version f (ignored_lines rs) (ignored_from 0 rs) + from_version f (kept_lines rs) (1 + used_from 0 rs) ≡ suc (length rs)
-    form Blank ih e = omega (arith, ih e)
-    form (Good c) ih e = omega (arith, run-once rs 0 s fresh (n + 1) (p + width r) (version_on s n (p + 2) (drop 2 (content r)) c later e))
-    form (Bad f) ih e = absurd (let z : ◌≡◌ {A = ℕ} 0 1 = cc in omega arith)
+    form (Ok None) ih e = omega (arith, ih e)
+    form (Ok (Some c)) ih e = omega (arith, run-once rs 0 s fresh (n + 1) (p + width r) (version_on s n (p + 2) (drop 2 (content r)) c later e))
+    form (Err f) ih e = absurd (let z : ◌≡◌ {A = ℕ} 0 1 = cc in omega arith)
 
 lines-once : (t : List ℕ) (s : Session Span) → lines span_at t ≡ accepted s → all_of (counts_of t) ≡ line_count t
 unfolding Run.lines

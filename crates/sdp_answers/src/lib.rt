@@ -94,7 +94,7 @@ pub fn piece_of(line: usize, c: Cut) -> Piece
         },
         Cut::Refused { fault, line } => Piece {
             kind: 3,
-            number: sdp_lines::fault_number(fault),
+            number: fault.number(),
             line: line.0 as u64,
             letter: 0,
             place: 0,

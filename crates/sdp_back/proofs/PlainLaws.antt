@@ -9,9 +9,8 @@ use lib.ListN.{length, get_or, take, drop}
 use lib.Dec.{ltb, leb, eqb}
 use Rattle.sdp_bytes.proofs.ScanLaws.{and_left, and_right}
 use Rattle.sdp_lines.specs.Lines as cutter
-use Rattle.sdp_lines.specs.Lines.{Raw, onto, split, content, width, has_nul_or_cr, plain_form, form_of}
-use Rattle.sdp_lines.specs.declared.Form.{Form}
-use Rattle.sdp_lines.specs.declared.Form.TheVariants.{Blank, Good, Bad}
+use Rattle.sdp_lines.specs.Lines.{Raw, onto, split, content, width, has_nul_or_cr, plain_form, form_of, Form}
+use Rattle.std.specs.Prelude.{Some, None, Ok, Err}
 use Rattle.sdp_lines.specs.declared.Fault.TheVariants.{NulOrCr}
 use Rattle.sdp_split.specs.Split.{part}
 use Rattle.sdp_judge.specs.Read.{Read, got, refused, whole_of}
@@ -181,11 +180,11 @@ bare_line (b ∷ l) h e = go (eqb b 0) (eqb b 13) (eqb b 10) e (and_left (not (e
     go false true z e q ih = sym e
     go true y z e q ih = sym e
 
-good_bare : (l : List ℕ) (c : ℕ) → lacks 10 l ≡ true → form_of l ≡ Good c → bare l ≡ true
+good_bare : (l : List ℕ) (c : ℕ) → lacks 10 l ≡ true → form_of l ≡ Ok (Some c) → bare l ≡ true
 unfolding cutter.form_of
 good_bare l c h e = go (has_nul_or_cr l) refl e
   where
-    go : (b : Bool) → has_nul_or_cr l ≡ b → cond b (Bad NulOrCr) (plain_form l) ≡ Good c → bare l ≡ true
+    go : (b : Bool) → has_nul_or_cr l ≡ b → cond b (Err NulOrCr) (plain_form l) ≡ Ok (Some c) → bare l ≡ true
     go true q e = absurd (let z : ◌≡◌ {A = ℕ} 0 1 = cc in omega arith)
     go false q e = bare_line l h q
 
@@ -194,9 +193,9 @@ Whole (accepted s) = Plain s
 Whole (refused x) = Unit {0}
 
 form_plain : (ρ : Reading (List ℕ)) (p : ℕ) (l : List ℕ) → lacks 10 l ≡ true → Plain ρ.session → (g : Form) → form_of l ≡ g → Going (λ τ. Plain τ.session) (step_form bytes_at ρ p l g)
-form_plain ρ p l b h Blank e = on (λ τ. Plain τ.session) ρ h
-form_plain ρ p l b h (Bad f) e = off (λ τ. Plain τ.session) _
-form_plain ρ p l b h (Good c) e = step-plain ρ (drop 2 l) (every_drop (λ b. not (dropped b)) 2 l (good_bare l c b e)) h (role_at (length ρ.session.tables.medias) c)
+form_plain ρ p l b h (Ok None) e = on (λ τ. Plain τ.session) ρ h
+form_plain ρ p l b h (Err f) e = off (λ τ. Plain τ.session) _
+form_plain ρ p l b h (Ok (Some c)) e = step-plain ρ (drop 2 l) (every_drop (λ b. not (dropped b)) 2 l (good_bare l c b e)) h (role_at (length ρ.session.tables.medias) c)
 
 run-plain : (rs : List Raw) → Each (λ r. lacks 10 r.body ≡ true) rs → (ρ : Reading (List ℕ)) (n p : ℕ) → Plain ρ.session → Whole (run bytes_at ρ n p rs)
 unfolding reader.run
@@ -226,9 +225,9 @@ begin-plain (r ∷ rs) b n p = form (form_of (content r)) (begin-plain rs b.1 (n
 
     form : (g : Form) → Whole (begin bytes_at (n + 1) (p + width r) rs) → Whole (run bytes_at fresh (n + 1) (p + width r) rs)
         → Whole (begin_form bytes_at n p (content r) g (begin bytes_at (n + 1) (p + width r) rs) (run bytes_at fresh (n + 1) (p + width r) rs))
-    form Blank i j = i
-    form (Bad f) i j = tt
-    form (Good c) i j = start (eqb c 0x76) (is_zero (drop 2 (content r))) _ j
+    form (Ok None) i j = i
+    form (Err f) i j = tt
+    form (Ok (Some c)) i j = start (eqb c 0x76) (is_zero (drop 2 (content r))) _ j
 
 pub read_plain : (t : List ℕ) (s : Session (List ℕ)) → lines bytes_at t ≡ accepted s → Plain s
 unfolding reader.lines

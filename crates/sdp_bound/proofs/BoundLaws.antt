@@ -9,9 +9,8 @@ use lib.Dec.{eqb}
 use borrow.Author.Tests.{eqb-true}
 use Rattle.sdp_bytes.proofs.ScanLaws.{and_left}
 use Rattle.sdp_lines.specs.Lines
-use Rattle.sdp_lines.specs.Lines.{Raw, onto, split, content, width, form_of}
-use Rattle.sdp_lines.specs.declared.Form.{Form}
-use Rattle.sdp_lines.specs.declared.Form.TheVariants.{Blank, Good, Bad}
+use Rattle.sdp_lines.specs.Lines.{Raw, onto, split, content, width, form_of, Form}
+use Rattle.std.specs.Prelude.{Some, None, Ok, Err}
 use Rattle.sdp_lines.proofs.LineLaws.{good_form}
 use Rattle.sdp_area.specs.Session.{Session, empty}
 use Rattle.sdp_roles.specs.Roles.{role_at}
@@ -69,9 +68,9 @@ module _ (ρ : Reading (List ℕ)) (p : ℕ) (r : Raw) where
   medias = length ρ.session.tables.medias
 
   line-grown : (f : Form) → form_of (content r) ≡ f → Going (Grown (length r.body + 1 + uses (role_of medias f)) ρ) (step_form bytes_at ρ p (content r) f)
-  line-grown Blank e = on _ ρ (omega arith)
-  line-grown (Bad f) e = off _ _
-  line-grown (Good l) e = λ τ q.
+  line-grown (Ok None) e = on _ ρ (omega arith)
+  line-grown (Err f) e = off _ _
+  line-grown (Ok (Some l)) e = λ τ q.
       omega (arith, step-grown ρ (drop 2 (content r)) (role_at medias l) τ q, content-short r, good_form (content r) l e, length-drop 2 (content r))
 
 run_cost : (rs : List Raw) (s : Session (List ℕ)) (ρ : Reading (List ℕ)) (n p : ℕ) → run bytes_at ρ n p rs ≡ accepted s
@@ -119,9 +118,9 @@ begin_cost (r ∷ rs) s n p e = form (form_of (content r)) (begin_cost rs s (n +
     form : (f : Form) → (begin bytes_at (n + 1) (p + width r) rs ≡ accepted s → cost id s ≤ bodies rs + kept_lines rs + 35)
         → begin_form bytes_at n p (content r) f (begin bytes_at (n + 1) (p + width r) rs) later ≡ accepted s
         → cost id s ≤ length r.body + 1 + bodies rs + from_version f (kept_lines rs) (1 + used_from 0 rs) + 35
-    form Blank ih e = omega (arith, ih e)
-    form (Bad f) ih e = absurd (let z : ◌≡◌ {A = ℕ} 0 1 = cc in omega arith)
-    form (Good c) ih e = zero (eqb c 0x76) (is_zero (drop 2 (content r))) refl e
+    form (Ok None) ih e = omega (arith, ih e)
+    form (Err f) ih e = absurd (let z : ◌≡◌ {A = ℕ} 0 1 = cc in omega arith)
+    form (Ok (Some c)) ih e = zero (eqb c 0x76) (is_zero (drop 2 (content r))) refl e
 
 -- "An accepted text's written form is at most its length plus its kept lines (v= and all with a use) plus 36 bytes."
 pub written-bound : (t : List ℕ) (s : Session (List ℕ)) → lines bytes_at t ≡ accepted s → length (written id s) ≤ bound t

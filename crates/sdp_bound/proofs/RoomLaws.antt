@@ -4,9 +4,8 @@ use mathlib.Core.List.{List, [], ◌∷◌}
 use Prim.Native.Nat.{ℕ, ◌+◌, ◌*◌, ◌≤◌}
 use native.Mathlib.Omega.{arith}
 use lib.ListN.{length}
-use Rattle.sdp_lines.specs.Lines.{Raw, split, content, form_of}
-use Rattle.sdp_lines.specs.declared.Form.{Form}
-use Rattle.sdp_lines.specs.declared.Form.TheVariants.{Blank, Good, Bad}
+use Rattle.sdp_lines.specs.Lines.{Raw, split, content, form_of, Form}
+use Rattle.std.specs.Prelude.{Some, None, Ok, Err}
 use Rattle.sdp_lines.proofs.LineLaws.{good_form}
 use Rattle.sdp_roles.specs.Roles.{role_at}
 use Rattle.sdp_roles.specs.Kinds.{Kind, unused, media, other, kind_of, by_kind}
@@ -29,9 +28,9 @@ line-three : (r : Raw) (medias : ℕ) → uses (role_of medias (form_of (content
 line-three r medias = go (form_of (content r)) refl
   where
     go : (f : Form) → form_of (content r) ≡ f → uses (role_of medias f) * 3 ≤ length r.body + 1
-    go Blank e = omega arith
-    go (Bad f) e = omega arith
-    go (Good l) e = omega (arith, uses-once (kind_of (role_at medias l)), good_form (content r) l e, content-short r)
+    go (Ok None) e = omega arith
+    go (Err f) e = omega arith
+    go (Ok (Some l)) e = omega (arith, uses-once (kind_of (role_at medias l)), good_form (content r) l e, content-short r)
 
 used_few : (rs : List Raw) (medias : ℕ) → used_from medias rs * 3 ≤ bodies rs
 unfolding Count.sum_from SumLaws.sum
@@ -46,9 +45,9 @@ kept_few [] = omega arith
 kept_few (r ∷ rs) = go (form_of (content r)) (kept_few rs)
   where
     go : (f : Form) → kept_lines rs * 3 ≤ bodies rs + 2 → from_version f (kept_lines rs) (1 + used_from 0 rs) * 3 ≤ length r.body + 1 + bodies rs + 2
-    go Blank ih = omega arith
-    go (Good l) ih = omega (arith, used_few rs 0)
-    go (Bad f) ih = omega (arith, used_few rs 0)
+    go (Ok None) ih = omega arith
+    go (Ok (Some l)) ih = omega (arith, used_few rs 0)
+    go (Err f) ih = omega (arith, used_few rs 0)
 
 -- of any accepted text
 pub room : (t a : List ℕ) → (read_text t a).answer.number ≡ 0 → Enough room_of_any t a

@@ -12,12 +12,11 @@ use Rattle.sdp_numbers.specs.Refusals.{longest_text}
 use Rattle.sdp_utf8.specs.Utf8.{utf8_end}
 use Rattle.sdp_utf8.proofs.Utf8Text.{utf8_sound, utf8_longest}
 use Rattle.sdp_utf8.proofs.BreakLaws.{utf8_short}
-use Rattle.sdp_lines.specs.Lines.{Raw, split, content, width, form_of}
+use Rattle.sdp_lines.specs.Lines.{Raw, split, content, width, form_of, Form}
 use Rattle.sdp_lines.specs.declared.Span.{Span}
 use Rattle.sdp_lines.specs.declared.Fault.{Fault}
 use Rattle.sdp_lines.specs.declared.Fault.TheVariants as fault
-use Rattle.sdp_lines.specs.declared.Form.{Form}
-use Rattle.sdp_lines.specs.declared.Form.TheVariants.{Blank, Good, Bad}
+use Rattle.std.specs.Prelude.{Some, None, Ok, Err}
 use Rattle.sdp_lines.specs.Answers.{fault_number}
 use Rattle.sdp_lines.proofs.LineLaws.{good_form}
 use Rattle.sdp_split.specs.Split.{part}
@@ -69,7 +68,7 @@ module _ (t : List ℕ) where
   other number line field h = record { byte = λ e. absurd (h e); none = λ e f. refl }
 
   -- the refused line, of good form
-  line-told : (above rs : List Raw) (r : Raw) (n p : ℕ) → Reached above (r ∷ rs) n p → (c : ℕ) → form_of (content r) ≡ Good c → (w : Wrong) → Blames c (value_of r) w → w.number ≡ 8
+  line-told : (above rs : List Raw) (r : Raw) (n p : ℕ) → Reached above (r ∷ rs) n p → (c : ℕ) → form_of (content r) ≡ Ok (Some c) → (w : Wrong) → Blames c (value_of r) w → w.number ≡ 8
       → NamesByte t (wrong_at n (p + 2) w)
   line-told above rs r n p h c f w b e =
       let v = value_of r in
@@ -114,7 +113,7 @@ module _ (t : List ℕ) where
   run-told [] above ρ n p h = tt
   run-told (r ∷ rs) above ρ n p h = form (form_of (content r)) refl (λ τ. run-told rs (above ++ (r ∷ [])) τ (n + 1) (p + width r) (past above rs r n p h))
     where
-      stepped : (c : ℕ) → form_of (content r) ≡ Good c → (σ : Stepped Span) → step (span_at (p + 2) (value_of r)) ρ (value_of r) c ≡ σ
+      stepped : (c : ℕ) → form_of (content r) ≡ Ok (Some c) → (σ : Stepped Span) → step (span_at (p + 2) (value_of r)) ρ (value_of r) c ≡ σ
           → ((τ : Reading Span) → Told (run span_at τ (n + 1) (p + width r) rs)) → Told (after span_at σ n (p + 2) (λ τ. run span_at τ (n + 1) (p + width r) rs))
       stepped c f (goes τ) q ih = ih τ
       stepped c f (stops w) q ih = record {
@@ -124,9 +123,9 @@ module _ (t : List ℕ) where
 
       form : (g : Form) → form_of (content r) ≡ g → ((τ : Reading Span) → Told (run span_at τ (n + 1) (p + width r) rs))
           → Told (after span_at (step_form span_at ρ p (content r) g) n (p + 2) (λ τ. run span_at τ (n + 1) (p + width r) rs))
-      form Blank f ih = ih ρ
-      form (Bad x) f ih = rw (fault_told n (p + 2) x) (other (fault_number x) n 0 (fault_other x))
-      form (Good c) f ih = stepped c f (step (span_at (p + 2) (value_of r)) ρ (value_of r) c) refl ih
+      form (Ok None) f ih = ih ρ
+      form (Err x) f ih = rw (fault_told n (p + 2) x) (other (fault_number x) n 0 (fault_other x))
+      form (Ok (Some c)) f ih = stepped c f (step (span_at (p + 2) (value_of r)) ρ (value_of r) c) refl ih
 
   -- ---- and before it: 3 to 7
   version-told : (n p : ℕ) (v : List ℕ) (c : ℕ) (k : Verdict Span) → Told k → Told (version span_at n p v c k)
@@ -143,9 +142,9 @@ module _ (t : List ℕ) where
   begin-told (r ∷ rs) above n p h = form (form_of (content r)) (begin-told rs (above ++ (r ∷ [])) (n + 1) (p + width r) (past above rs r n p h))
     where
       form : (g : Form) → Told (begin span_at (n + 1) (p + width r) rs) → Told (begin_form span_at n p (content r) g (begin span_at (n + 1) (p + width r) rs) (run span_at fresh (n + 1) (p + width r) rs))
-      form Blank ih = ih
-      form (Bad x) ih = other (fault_number x) n 0 (fault_other x)
-      form (Good c) ih = version-told n (p + 2) (value_of r) c _ (run-told rs (above ++ (r ∷ [])) fresh (n + 1) (p + width r) (past above rs r n p h))
+      form (Ok None) ih = ih
+      form (Err x) ih = other (fault_number x) n 0 (fault_other x)
+      form (Ok (Some c)) ih = version-told n (p + 2) (value_of r) c _ (run-told rs (above ++ (r ∷ [])) fresh (n + 1) (p + width r) (past above rs r n p h))
 
   lines-told : Told (lines span_at t)
   unfolding reader.lines

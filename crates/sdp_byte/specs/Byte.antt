@@ -1,11 +1,10 @@
 -- Document 02, P2: "The UTF-8 test shall answer with the end of the longest well_formed_lem beginning, and every field reader passes this on as a
 -- place in the whole text. Refusal 8 now returns that place besides line and field."
-use Rattle.std.specs.Prelude.{ℕ, ◌+◌, ◌≤◌, ◌<◌, ◌≡◌, List, [], ◌∷◌, ◌++◌, length, take, drop}
+use Rattle.std.specs.Prelude.{ℕ, ◌+◌, ◌≤◌, ◌<◌, ◌≡◌, List, [], ◌∷◌, ◌++◌, length, take, drop, Some, Ok}
 use Rattle.sdp_numbers.specs.Refusals as refusals
 use Rattle.sdp_utf8.specs.Utf8.{Text, utf8_end}
 use Rattle.sdp_lines.specs.Lines.{Raw, split, content, width, form_of}
 use Rattle.sdp_lines.specs.declared.Answer.{Answer}
-use Rattle.sdp_lines.specs.declared.Form.TheVariants.{Good}
 use Rattle.sdp_split.specs.Split.{part, Inside}
 use Rattle.sdp_split.specs.declared.Piece.{Piece}
 use Rattle.sdp_blame.specs.Field.{FieldOf}
@@ -28,7 +27,7 @@ pub record NamesByte (t : List ℕ) (x : Answer) : Type 0 where
   pub cut : split t ≡ above ++ (line ∷ below)
   pub number : x.line ≡ length above + 1
   pub letter : ℕ
-  pub form : form_of (content line) ≡ Good letter
+  pub form : form_of (content line) ≡ Ok (Some letter)
   -- the refused field of its value, by letter and number, and where it stands in t
   pub piece : Piece
   pub field : FieldOf (value_of line) letter x.field piece

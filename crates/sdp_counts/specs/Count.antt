@@ -1,9 +1,7 @@
 -- Document 02, P11: "three counts: empty lines, ignored lines, kept lines. Each is defined from the text alone". Document 01, "Lines": "every
 -- other line is ignored, a later `v=` too"; "Writing": "its kept lines (v= and all with a use)".
-use Rattle.std.specs.Prelude.{ℕ, ◌+◌, cond, List, [], ◌∷◌, eqb}
-use Rattle.sdp_lines.specs.Lines.{Raw, split, content, form_of}
-use Rattle.sdp_lines.specs.declared.Form.{Form}
-use Rattle.sdp_lines.specs.declared.Form.TheVariants.{Blank, Good, Bad}
+use Rattle.std.specs.Prelude.{ℕ, ◌+◌, cond, List, [], ◌∷◌, eqb, Some, None, Ok, Err}
+use Rattle.sdp_lines.specs.Lines.{Raw, split, content, form_of, Form}
 use Rattle.sdp_roles.specs.Roles.{role_at}
 use Rattle.sdp_roles.specs.Kinds.{kind_of, by_kind}
 use Rattle.sdp_roles.specs.declared.Role.{Role}
@@ -13,9 +11,9 @@ use Rattle.sdp_counts.specs.declared.Counts.{Counts}
 -- ---- one line, by its form
 -- the role of a line, after that many medias; a line that is empty or of bad form has none
 abbrev pub role_of : ℕ → Form → Role
-role_of medias Blank = Nothing
-role_of medias (Good l) = role_at medias l
-role_of medias (Bad f) = Nothing
+role_of medias (Ok None) = Nothing
+role_of medias (Ok (Some l)) = role_at medias l
+role_of medias (Err f) = Nothing
 
 -- 1 for a use
 abbrev pub uses : Role → ℕ
@@ -27,15 +25,15 @@ opens x = by_kind (kind_of x) 0 1 0
 
 -- 1 for an empty line
 abbrev pub blanks : Form → ℕ
-blanks Blank = 1
-blanks (Good l) = 0
-blanks (Bad f) = 0
+blanks (Ok None) = 1
+blanks (Ok (Some l)) = 0
+blanks (Err f) = 0
 
 -- 1 for a well_formed_lem line without use, after that many medias
 abbrev pub idles : ℕ → Form → ℕ
-idles medias Blank = 0
-idles medias (Good l) = by_kind (kind_of (role_at medias l)) 1 0 0
-idles medias (Bad f) = 0
+idles medias (Ok None) = 0
+idles medias (Ok (Some l)) = by_kind (kind_of (role_at medias l)) 1 0 0
+idles medias (Err f) = 0
 
 -- ---- lines
 -- the empty ones
@@ -58,9 +56,9 @@ ignored_from medias rs = sum_from (λ m f. idles m f) medias rs
 
 -- a choice by the form of a line: past an empty one, or here
 abbrev pub from_version : {A : Type 0} → Form → A → A → A
-from_version Blank skip here = skip
-from_version (Good l) skip here = here
-from_version (Bad f) skip here = here
+from_version (Ok None) skip here = skip
+from_version (Ok (Some l)) skip here = here
+from_version (Err f) skip here = here
 
 -- the version line, which is the first that is not empty, and the lines with a use after it
 unfoldable pub kept_lines : List Raw → ℕ

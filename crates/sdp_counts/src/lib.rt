@@ -3,7 +3,7 @@
 
 // How many lines are empty, how many are ignored, how many are kept.
 #[repr(C)]
-#[derive(Drop)]
+#[derive(Clone, Copy, Debug, Default, PartialEq, Eq)]
 pub struct Counts {
     pub empty: u64,
     pub ignored: u64,

@@ -14,15 +14,15 @@ pub struct Line<'a> {
     pub value: &'a [u8],
 }
 
-// The cutter: where the next line is due, and its number.
+// The cutter: where the next line is due, and its number. Not Copy: a copy would stay behind the one that moves on.
 #[derive(Drop)]
 pub struct Cutter {
     pub at: Place,
     pub line: LineNumber,
 }
 
-// What the cutter finds.
-#[derive(Drop)]
+// What the cutter finds: `Cut` without the cursors, which the cutter keeps, and with the number of a line, which a reader needs.
+#[derive(Clone, Copy)]
 pub enum Next {
     Found {
         number: LineNumber,
@@ -38,7 +38,7 @@ pub enum Next {
 }
 
 // What it found, and where it stands then.
-#[derive(Drop)]
+#[derive(Clone, Copy)]
 pub struct Moved {
     pub next: Next,
     pub at: Place,

@@ -7,7 +7,7 @@ use native.Mathlib.Omega.{arith}
 use lib.Dec.{eqb}
 use Rattle.sdp_bytes.specs.Runs
 use Rattle.sdp_lines.specs.Lines
-use Rattle.sdp_lines.specs.declared.Form.TheVariants.{Good}
+use Rattle.std.specs.Prelude.{Some, Ok}
 use Rattle.sdp_roles.specs.Roles
 use Rattle.sdp_roles.specs.Roles.{before_media, from_media}
 use Rattle.sdp_roles.specs.declared.Role.TheVariants.{Nothing}
@@ -54,7 +54,7 @@ unfolding Lines.content Lines.chop Lines.form_of Lines.has_nul_or_cr Lines.plain
 time_used h = let z : ◌≡◌ {A = ℕ} 0 1 = cc in omega arith
 
 -- document 02, P4: "k joins demand 3's letters without use", before the first media and from it on
-pub key_idle : (medias : ℕ) → Idle medias (Good 0x6b)
+pub key_idle : (medias : ℕ) → Idle medias (Ok (Some 0x6b))
 unfolding Roles.before_media Roles.from_media
 key_idle medias = go (eqb medias 0)
   where

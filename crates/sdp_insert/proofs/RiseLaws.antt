@@ -5,9 +5,8 @@ use Prim.Native.Nat.{ℕ, ◌+◌}
 use native.Mathlib.Omega.{arith}
 use Rattle.sdp_bytes.specs.Runs
 use Rattle.sdp_lines.specs.Lines
-use Rattle.sdp_lines.specs.Lines.{split, form_of}
-use Rattle.sdp_lines.specs.declared.Form.{Form}
-use Rattle.sdp_lines.specs.declared.Form.TheVariants.{Blank, Good, Bad}
+use Rattle.sdp_lines.specs.Lines.{split, form_of, Form}
+use Rattle.std.specs.Prelude.{Some, None, Ok, Err}
 use Rattle.sdp_roles.specs.Kinds.{kind_of, by_kind}
 use Rattle.sdp_roles.specs.declared.Role.{Role}
 use Rattle.sdp_counts.specs.Count
@@ -22,11 +21,11 @@ record Unused (medias : ℕ) (f : Form) : Type 0 where
   once : blanks f + idles medias f ≡ 1
 
 unused : (medias : ℕ) (f : Form) → Idle medias f → Unused medias f
-unused medias Blank u = record { used = refl; opened = refl; once = refl }
-unused medias (Good c) u =
-    let e : idles medias (Good c) ≡ 1 = ap (λ (x : Role). by_kind {A = ℕ} (kind_of x) 1 0 0) u in
+unused medias (Ok None) u = record { used = refl; opened = refl; once = refl }
+unused medias (Ok (Some c)) u =
+    let e : idles medias (Ok (Some c)) ≡ 1 = ap (λ (x : Role). by_kind {A = ℕ} (kind_of x) 1 0 0) u in
     record { used = ap uses u; opened = ap opens u; once = omega (arith, e) }
-unused medias (Bad f) u = absurd u
+unused medias (Err f) u = absurd u
 
 -- ---- after the version line
 record RiseFrom {medias : ℕ} {t t' : List ℕ} (i : InsertedFrom medias t t') : Type 0 where
@@ -62,7 +61,7 @@ pub text-rise : {t t' : List ℕ} (i : Inserted t t') → Rise i (counts_of t) (
 unfolding Count.empty_lines Count.ignored_lines Count.kept_lines Lines.form_of Lines.has_nul_or_cr Lines.plain_form Runs.index_of
 text-rise (blank {t = t} {t' = t'} l h e i) =
     let ih = text-rise i in
-    let f : ended_form l ≡ Blank = ap form_of e in
+    let f : ended_form l ≡ Ok None = ap form_of e in
     record {
       empty = rw (split-line l t h, split-line l t' h) (omega (arith, ih.empty));
       ignored = rw (split-line l t h, split-line l t' h, f) ih.ignored;
@@ -71,7 +70,7 @@ text-rise (blank {t = t} {t' = t'} l h e i) =
     }
 text-rise (begun {t = t} {t' = t'} l h e i) =
     let r = from_rise i in
-    let f : ended_form l ≡ Good 0x76 = ap form_of e in
+    let f : ended_form l ≡ Ok (Some 0x76) = ap form_of e in
     record {
       empty = rw (split-line l t h, split-line l t' h) (omega (arith, r.empty));
       ignored = rw (split-line l t h, split-line l t' h, f) r.ignored;

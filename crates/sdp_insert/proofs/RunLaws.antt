@@ -6,9 +6,8 @@ use Prim.Native.Nat.{ℕ, suc, ◌+◌}
 use native.Mathlib.Omega.{arith}
 use lib.ListN.{length, drop}
 use Rattle.sdp_lines.specs.Lines
-use Rattle.sdp_lines.specs.Lines.{Raw, split, content, width, form_of}
-use Rattle.sdp_lines.specs.declared.Form.{Form}
-use Rattle.sdp_lines.specs.declared.Form.TheVariants.{Blank, Good, Bad}
+use Rattle.sdp_lines.specs.Lines.{Raw, split, content, width, form_of, Form}
+use Rattle.std.specs.Prelude.{Some, None, Ok, Err}
 use Rattle.sdp_area.specs.Session.{Session}
 use Rattle.sdp_step.specs.Step
 use Rattle.sdp_step.specs.Step.{Reading, Stepped, goes, stops, step_role}
@@ -89,16 +88,16 @@ line_follows (stops w) σ' q n d p c f g f' g' j j' z z' e e' h =
 
 -- strings as bytes look at no place
 any_place : (ρ : Reading (List ℕ)) (p q : ℕ) (l : List ℕ) (f : Form) → step_form bytes_at ρ p l f ≡ step_form bytes_at ρ q l f
-any_place ρ p q l Blank = refl
-any_place ρ p q l (Good c) = refl
-any_place ρ p q l (Bad f) = refl
+any_place ρ p q l (Ok None) = refl
+any_place ρ p q l (Ok (Some c)) = refl
+any_place ρ p q l (Err f) = refl
 
 -- a line without use
 idle_goes : (ρ : Reading (List ℕ)) (p : ℕ) (l : List ℕ) (f : Form) → Idle (length ρ.session.tables.medias) f → step_form bytes_at ρ p l f ≡ goes ρ
 unfolding Step.step_role
-idle_goes ρ p l Blank h = refl
-idle_goes ρ p l (Good c) h = ap (step_role (bytes_at (p + 2) (drop 2 l)) ρ (drop 2 l)) h
-idle_goes ρ p l (Bad f) h = absurd h
+idle_goes ρ p l (Ok None) h = refl
+idle_goes ρ p l (Ok (Some c)) h = ap (step_role (bytes_at (p + 2) (drop 2 l)) ρ (drop 2 l)) h
+idle_goes ρ p l (Err f) h = absurd h
 
 -- a line with its LF
 ended-width : (l : List ℕ) → width (ended l) ≡ length l + 1

@@ -2,13 +2,11 @@
 -- lines or well_formed_lem lines whose letter has no use at that place. If both texts are within 32,768 bytes, the answer is demand 2's answer for
 -- the first text: the same session, or the same refusal with its line moved down by the insertions above it." Document 02, P2: "In demand 3
 -- the place moves by the inserted bytes above it." P11: "with insertions, empty and ignored rise by exactly the lines inserted and kept stays".
-use Rattle.std.specs.Prelude.{◌≡◌, ◌⊎◌, Bool, true, false, ◌||◌, List, [], ◌∷◌, ◌++◌, ℕ, zero, suc, ◌+◌, ◌≤◌, ◌<◌, length, eqb}
+use Rattle.std.specs.Prelude.{◌≡◌, ◌⊎◌, Bool, true, false, ◌||◌, List, [], ◌∷◌, ◌++◌, ℕ, zero, suc, ◌+◌, ◌≤◌, ◌<◌, length, eqb, Some, None, Ok, Err}
 use Rattle.sdp_numbers.specs.Refusals as refusals
-use Rattle.sdp_lines.specs.Lines.{Raw, content, form_of}
+use Rattle.sdp_lines.specs.Lines.{Raw, content, form_of, Form}
 use Rattle.sdp_lines.specs.Strings.{bytes_of}
 use Rattle.sdp_lines.specs.declared.Span.{Span}
-use Rattle.sdp_lines.specs.declared.Form.{Form}
-use Rattle.sdp_lines.specs.declared.Form.TheVariants.{Blank, Good, Bad}
 use Rattle.sdp_area.specs.Session.{Session}
 use Rattle.sdp_area.specs.Columns.{area_size}
 use Rattle.sdp_roles.specs.Roles.{role_at}
@@ -35,9 +33,9 @@ ended_form l = form_of (content (ended l))
 
 -- "empty lines or well-formed lines whose letter has no use at that place": after that many medias
 abbrev pub Idle : ℕ → Form → Type 0
-Idle medias Blank = Unit
-Idle medias (Good c) = role_at medias c ≡ Nothing
-Idle medias (Bad f) = ⊥
+Idle medias (Ok None) = Unit
+Idle medias (Ok (Some c)) = role_at medias c ≡ Nothing
+Idle medias (Err f) = ⊥
 
 -- ---- texts
 -- t' is t with lines put in, from a line's first byte on, after the version line and that many medias

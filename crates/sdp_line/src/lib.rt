@@ -12,13 +12,6 @@ use sdp_lines::{Answer, LineNumber, Place};
 use sdp_step::{Marks, Taken};
 use sdp_take::take_line;
 
-// What the first line that is not empty says.
-#[derive(Drop)]
-pub enum Opening {
-    Zero,
-    Refused(Answer),
-}
-
 // A line is taken apart, and what it says goes into the area.
 fn take_of<'t>(area: &mut [u8], at: Place, marks: Marks, line: Line<'t>) -> Taken
     requires { (size ≤ length area.old) × (at.0 + length line.value.now ≤ longest_text) }
@@ -43,42 +36,36 @@ pub fn take(
     take_of(area, at, marks, made(number, letter, value))
 }
 
-// What the first line that is not empty says; it must be v=0. Its value stands at a place of the text.
-fn opening_at(at: Place, number: LineNumber, letter: u8, value: &[u8]) -> Opening
+// Whether the first line that is not empty says v=0, as it must. Its value stands at a place of the text.
+fn opening_at(at: Place, number: LineNumber, letter: u8, value: &[u8]) -> Result<(), Answer>
     ensures { result ≡ opening_of number.0 at.0 letter value.now }
 {
     if letter != b'v' {
-        return Opening::Refused(Answer {
-            number: 6,
-            line: 0,
-            field: 0,
-            place: 0,
-            len: 0,
-        });
+        return Err(Answer::plain(6));
     }
-    if value.len() == 1 {
-        if value[0] == b'0' {
-            return Opening::Zero;
-        }
-    }
-    Opening::Refused(Answer {
-        number: 7,
-        line: number.0 as u64,
-        field: 0,
+    let bad = Answer {
         place: at.0 as u64,
         len: value.len() as u64,
-    })
+        ..Answer::on_line(7, number, 0)
+    };
+    if value.len() != 1 {
+        return Err(bad);
+    }
+    if value[0] == b'0' {
+        return Ok(());
+    }
+    Err(bad)
 }
 
 // The same of a line, which is taken apart.
-fn opening_of<'t>(at: Place, line: Line<'t>) -> Opening
+fn opening_of<'t>(at: Place, line: Line<'t>) -> Result<(), Answer>
     ensures { result ≡ opening_of line.entry.number.0 at.0 line.entry.letter line.entry.value.now }
 {
     opening_at(at, line.number, line.letter, line.value)
 }
 
 // The same from plain parameters, as `take`.
-pub fn opening_line(at: Place, number: LineNumber, letter: u8, value: &[u8]) -> Opening
+pub fn opening_line(at: Place, number: LineNumber, letter: u8, value: &[u8]) -> Result<(), Answer>
     ensures { result ≡ opening_of number.0 at.0 letter value.now }
 {
     opening_of(at, made(number, letter, value))

@@ -15,8 +15,7 @@ use Rattle.sdp_lines.specs.Lines.{Raw, split, chop, content, width, has_nul_or_c
 use Rattle.sdp_lines.specs.Quick.{stop_index, crlf_at, first_raw, first_of, equals_second}
 use Rattle.sdp_lines.specs.declared.Fault.TheVariants as fault
 use Rattle.sdp_lines.specs.declared.Fault.TheVariants.{NoEquals, NotSecond}
-use Rattle.sdp_lines.specs.declared.Form.TheVariants.{Blank, Good, Bad}
-use Rattle.sdp_lines.specs.declared.First.TheVariants.{Whole, NulOrCr}
+use Rattle.std.specs.Prelude.{Some, None, Ok, Err}
 use Rattle.sdp_lines.proofs.StopLaws.{stop_le, stop-before, stop_here, bad_none, bad_at, index_from, index_at, index_found, crlf_yes}
 
 -- ---- bounds
@@ -180,11 +179,11 @@ module _ (s : List ℕ) where
   lf_from = index_from 10 s (stop_index s) (stop_le s) (λ i h. (stop-before s i h).lf)
 
   -- the answer where the line's content is a clear front
-  whole_is : (k w : ℕ) → content (first_raw s) ≡ take k s → k ≤ stop_index s → width (first_raw s) ≡ w → Whole k w ≡ first_of s
+  whole_is : (k w : ℕ) → content (first_raw s) ≡ take k s → k ≤ stop_index s → width (first_raw s) ≡ w → Ok (k, w) ≡ first_of s
   unfolding first_of
   whole_is k w e h v = let q = stop_le s in rw (e, front_clear k h, v, length-take-le k s (omega arith))
 
-  pub first_last : (k : ℕ) → k ≡ stop_index s → length s ≤ k → Whole k k ≡ first_of s
+  pub first_last : (k : ℕ) → k ≡ stop_index s → length s ≤ k → Ok (k, k) ≡ first_of s
   first_last k e h =
       let l = lf_from in
       let i : index_of 10 s ≡ k = omega (arith, index_le 10 s, stop_le s) in
@@ -199,7 +198,7 @@ module _ (s : List ℕ) where
       (stop-before s k (omega arith)).cr (sym (front_end s k (omega arith)) ∙ (rw n at e))
 
   module _ (k : ℕ) (e : k ≡ stop_index s) (h : k < length s) where
-    pub first_lf : get_or s k 0 ≡ 10 → Whole k (k + 1) ≡ first_of s
+    pub first_lf : get_or s k 0 ≡ 10 → Ok (k, k + 1) ≡ first_of s
     first_lf b =
         let l = lf_from in
         let m = index_at 10 s k h b in
@@ -217,7 +216,7 @@ module _ (s : List ℕ) where
               let q : i ≡ k = omega (arith, ltb-false i k p) in
               λ z. b (sym (ap (λ (n : ℕ). get_or s n 0) q) ∙ z)
 
-      pub first_crlf : crlf_at s k ≡ true → Whole k (k + 2) ≡ first_of s
+      pub first_crlf : crlf_at s k ≡ true → Ok (k, k + 2) ≡ first_of s
       unfolding crlf_at
       first_crlf c =
           let r = ltb-true (k + 1) (length s) (and_left _ _ c) in
@@ -262,26 +261,26 @@ module _ (s : List ℕ) where
             let z : get_or s k 0 ≡ get_or s (stop_index s) 0 = ap (λ (n : ℕ). get_or s n 0) e in
             rw (q, z) (stop_here s (omega arith) (λ y. b (z ∙ y)))
 
-        pub first_bad : NulOrCr ≡ first_of s
+        pub first_bad : Err fault.NulOrCr ≡ first_of s
         unfolding first_of
         first_bad = rw (bad_at (content (first_raw s)) k (reaches (ltb (index_of 10 s) (length s)) refl) stop_in)
 
 -- ---- the forms by their tests
 module _ (l : List ℕ) where
-  pub form_blank : length l ≡ 0 → plain_form l ≡ Blank
+  pub form_blank : length l ≡ 0 → plain_form l ≡ Ok None
   unfolding plain_form
   form_blank h = rw (eq-eqb _ _ h)
 
   module _ (n : length l ≡ 0 → ⊥) (e : ℕ) (i : e ≡ index_of 0x3d l) where
-    pub form_none : e ≡ length l → plain_form l ≡ Bad NoEquals
+    pub form_none : e ≡ length l → plain_form l ≡ Err NoEquals
     unfolding plain_form
     form_none h = rw (ne_eqb _ _ n, ← i, eq-eqb _ _ h)
 
-    form_good : (e ≡ length l → ⊥) → e ≡ 1 → plain_form l ≡ Good (get_or l 0 0)
+    form_good : (e ≡ length l → ⊥) → e ≡ 1 → plain_form l ≡ Ok (Some (get_or l 0 0))
     unfolding plain_form
     form_good h k = rw (ne_eqb _ _ n, ← i, ne_eqb _ _ h, eq-eqb _ _ k)
 
-    form_far : (e ≡ length l → ⊥) → (e ≡ 1 → ⊥) → plain_form l ≡ Bad NotSecond
+    form_far : (e ≡ length l → ⊥) → (e ≡ 1 → ⊥) → plain_form l ≡ Err NotSecond
     unfolding plain_form
     form_far h k = rw (ne_eqb _ _ n, ← i, ne_eqb _ _ h, ne_eqb _ _ k)
 
@@ -302,14 +301,14 @@ second_is (a ∷ b ∷ l) h = rw (lt-ltb 1 (length (a ∷ b ∷ l)) (omega arith
     go false false = sym (ne_eqb (suc (suc (index_of 0x3d l))) 1 (λ (e : suc (suc (index_of 0x3d l)) ≡ 1). omega arith))
 
 module _ (l : List ℕ) where
-  pub form_second : equals_second l ≡ true → plain_form l ≡ Good (get_or l 0 0)
+  pub form_second : equals_second l ≡ true → plain_form l ≡ Ok (Some (get_or l 0 0))
   unfolding equals_second
   form_second e =
       let a = ltb-true 1 (length l) (and_left (ltb 1 (length l)) (eqb (index_of 0x3d l) 1) e) in
       let b = eqb-true (index_of 0x3d l) 1 (and_right (ltb 1 (length l)) (eqb (index_of 0x3d l) 1) e) in
       form_good l (λ (h : length l ≡ 0). omega arith) (index_of 0x3d l) refl (λ (h : index_of 0x3d l ≡ length l). omega arith) b
 
-  pub form_later : equals_second l ≡ false → (length l ≡ 0 → ⊥) → (e : ℕ) → e ≡ index_of 0x3d l → (e ≡ length l → ⊥) → plain_form l ≡ Bad NotSecond
+  pub form_later : equals_second l ≡ false → (length l ≡ 0 → ⊥) → (e : ℕ) → e ≡ index_of 0x3d l → (e ≡ length l → ⊥) → plain_form l ≡ Err NotSecond
   unfolding equals_second
   form_later f n e i h =
       let a = index_le 0x3d l in
@@ -317,21 +316,21 @@ module _ (l : List ℕ) where
       (λ (k : e ≡ 1). false≢true (sym f ∙ rw (lt-ltb 1 (length l) (omega arith), eq-eqb (index_of 0x3d l) 1 (omega arith))))
 
 -- a line of good form has two bytes at least
-pub good_long : (l : List ℕ) (c : ℕ) → plain_form l ≡ Good c → 2 ≤ length l
+pub good_long : (l : List ℕ) (c : ℕ) → plain_form l ≡ Ok (Some c) → 2 ≤ length l
 unfolding plain_form
 good_long l c = go (eqb (length l) 0) (eqb (index_of 0x3d l) (length l)) (eqb (index_of 0x3d l) 1) refl refl
   where
     go : (t₁ t₂ t₃ : Bool) → eqb (index_of 0x3d l) (length l) ≡ t₂ → eqb (index_of 0x3d l) 1 ≡ t₃
-        → cond t₁ Blank (cond t₂ (Bad NoEquals) (cond t₃ (Good (get_or l 0 0)) (Bad NotSecond))) ≡ Good c → 2 ≤ length l
+        → cond t₁ (Ok None) (cond t₂ (Err NoEquals) (cond t₃ (Ok (Some (get_or l 0 0))) (Err NotSecond))) ≡ Ok (Some c) → 2 ≤ length l
     go true t₂ t₃ p q h = absurd (let z : ◌≡◌ {A = ℕ} 0 1 = cc in omega arith)
     go false true t₃ p q h = absurd (let z : ◌≡◌ {A = ℕ} 0 1 = cc in omega arith)
     go false false true p q h = omega (arith, eqb-false (index_of 0x3d l) (length l) p, eqb-true (index_of 0x3d l) 1 q, index_le 0x3d l)
     go false false false p q h = absurd (let z : ◌≡◌ {A = ℕ} 0 1 = cc in omega arith)
 
-pub good_form : (l : List ℕ) (c : ℕ) → form_of l ≡ Good c → 2 ≤ length l
+pub good_form : (l : List ℕ) (c : ℕ) → form_of l ≡ Ok (Some c) → 2 ≤ length l
 unfolding form_of
 good_form l c = go (has_nul_or_cr l)
   where
-    go : (t : Bool) → cond t (Bad fault.NulOrCr) (plain_form l) ≡ Good c → 2 ≤ length l
+    go : (t : Bool) → cond t (Err fault.NulOrCr) (plain_form l) ≡ Ok (Some c) → 2 ≤ length l
     go true e = absurd (let z : ◌≡◌ {A = ℕ} 0 1 = cc in omega arith)
     go false e = good_long l c e

@@ -1,5 +1,5 @@
 -- Document 01, "Lines": the lines of a text, and their form.
-use Rattle.std.specs.Prelude.{ℕ, ◌+◌, ◌-◌, List, [], ◌∷◌, Bool, true, false, ◌||◌, cond, length, get_or, take, drop, ltb, eqb}
+use Rattle.std.specs.Prelude.{ℕ, ◌+◌, ◌-◌, List, [], ◌∷◌, Bool, true, false, ◌||◌, cond, length, get_or, take, drop, ltb, eqb, Option, Some, None, Result, Ok, Err}
 use Rattle.sdp_bytes.specs.Runs.{index_of}
 use Rattle.sdp_lines.specs.declared.Place.{Place}
 use Rattle.sdp_lines.specs.declared.LineNumber.{LineNumber}
@@ -7,8 +7,6 @@ use Rattle.sdp_lines.specs.declared.Cursor.{Cursor}
 use Rattle.sdp_lines.specs.declared.Span.{Span}
 use Rattle.sdp_lines.specs.declared.Fault.{Fault}
 use Rattle.sdp_lines.specs.declared.Fault.TheVariants.{NulOrCr, NoEquals, NotSecond}
-use Rattle.sdp_lines.specs.declared.Form.{Form}
-use Rattle.sdp_lines.specs.declared.Form.TheVariants.{Blank, Good, Bad}
 use Rattle.sdp_lines.specs.declared.Cut.{Cut}
 use Rattle.sdp_lines.specs.declared.Cut.TheVariants.{Line, Empty, Refused, End}
 
@@ -44,16 +42,20 @@ unfoldable pub has_nul_or_cr : List ℕ → Bool
 has_nul_or_cr [] = false
 has_nul_or_cr (b ∷ l) = eqb b 0 || eqb b 13 || has_nul_or_cr l
 
+-- the form of a line: its letter, or none where it is empty; or what is wrong with it
+abbrev pub Form : Type 0
+Form = Result (Option ℕ) Fault
+
 -- the form of a line without NUL and CR: "having no `=` (4)", "its first `=` not being its second byte (5)"; the byte before is the letter
 unfoldable pub plain_form : List ℕ → Form
 plain_form l =
-    cond (eqb (length l) 0) Blank
-    (cond (eqb (index_of 0x3d l) (length l)) (Bad NoEquals)
-    (cond (eqb (index_of 0x3d l) 1) (Good (get_or l 0 0)) (Bad NotSecond)))
+    cond (eqb (length l) 0) (Ok None)
+    (cond (eqb (index_of 0x3d l) (length l)) (Err NoEquals)
+    (cond (eqb (index_of 0x3d l) 1) (Ok (Some (get_or l 0 0))) (Err NotSecond)))
 
 -- the form of any line: "tested .. for NUL or CR (3)" first
 unfoldable pub form_of : List ℕ → Form
-form_of l = cond (has_nul_or_cr l) (Bad NulOrCr) (plain_form l)
+form_of l = cond (has_nul_or_cr l) (Err NulOrCr) (plain_form l)
 
 -- the number of the next line; the largest number of 64 bits stays
 abbrev pub next_line : ℕ → ℕ
@@ -69,9 +71,9 @@ past c r = record { at = record { 0 = c.at.0 + width r }; line = record { 0 = ne
 
 -- a line by its form; its value starts at its third byte
 abbrev pub cut_form : Cursor → Raw → Form → Cut
-cut_form c r Blank = Empty (past c r)
-cut_form c r (Bad f) = Refused f c.line
-cut_form c r (Good l) = Line l (record { at = record { 0 = c.at.0 + 2 }; len = length (content r) - 2 }) (past c r)
+cut_form c r (Ok None) = Empty (past c r)
+cut_form c r (Err f) = Refused f c.line
+cut_form c r (Ok (Some l)) = Line l (record { at = record { 0 = c.at.0 + 2 }; len = length (content r) - 2 }) (past c r)
 
 -- the first of the lines, if there is one
 abbrev pub cut_raws : Cursor → List Raw → Cut

@@ -1,9 +1,9 @@
 -- The quick way to a line's end: the first NUL, LF or CR of the text tells where its first line ends, or that it has NUL or CR.
-use Rattle.std.specs.Prelude.{ℕ, suc, ◌+◌, List, [], ◌∷◌, Bool, ◌&&◌, ◌||◌, cond, length, get_or, take, ltb, eqb}
+use Rattle.std.specs.Prelude.{ℕ, suc, ◌+◌, List, [], ◌∷◌, Bool, ◌&&◌, ◌||◌, cond, length, get_or, take, ltb, eqb, Result, Ok, Err}
 use Rattle.sdp_bytes.specs.Runs.{index_of}
 use Rattle.sdp_lines.specs.Lines.{Raw, content, width, has_nul_or_cr}
-use Rattle.sdp_lines.specs.declared.First.{First}
-use Rattle.sdp_lines.specs.declared.First.TheVariants.{Whole, NulOrCr}
+use Rattle.sdp_lines.specs.declared.Fault.{Fault}
+use Rattle.sdp_lines.specs.declared.Fault.TheVariants.{NulOrCr}
 
 -- NUL, LF or CR
 abbrev pub stop_byte : ℕ → Bool
@@ -23,10 +23,10 @@ abbrev pub first_raw : List ℕ → Raw
 first_raw s = record { body = take (index_of 10 s) s; ended = ltb (index_of 10 s) (length s) }
 
 -- its length without its ending and with it, or that it has NUL or CR
-unfoldable pub first_of : List ℕ → First
+unfoldable pub first_of : List ℕ → Result (ℕ × ℕ) Fault
 first_of s =
-    cond (has_nul_or_cr (content (first_raw s))) NulOrCr
-    (Whole (length (content (first_raw s))) (width (first_raw s)))
+    cond (has_nul_or_cr (content (first_raw s))) (Err NulOrCr)
+    (Ok (length (content (first_raw s)), width (first_raw s)))
 
 -- a line's first `=` is its second byte
 unfoldable pub equals_second : List ℕ → Bool

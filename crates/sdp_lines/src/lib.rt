@@ -4,21 +4,21 @@
 ghost use Rattle.std.specs.Prelude.{◌≡◌};
 ghost use Rattle.sdp_lines.specs.Lines.{plain_form, next_line, start, cut_at};
 ghost use Rattle.sdp_lines.specs.Quick.{stop_byte, stop_index, crlf_at, first_of, equals_second};
-ghost use Rattle.sdp_lines.specs.Answers.{fault_number};
+ghost use Rattle.sdp_lines.specs.Answers.{fault_number, answer};
 
 use sdp_bytes::runs::run_len;
 use sdp_bytes::search::index_of;
 
 // A byte's place in the text, from 0.
-#[derive(Clone, Copy)]
+#[derive(Clone, Copy, Debug, PartialEq, Eq)]
 pub struct Place(pub usize);
 
 // A line's number, from 1.
-#[derive(Clone, Copy)]
+#[derive(Clone, Copy, Debug, PartialEq, Eq)]
 pub struct LineNumber(pub usize);
 
 // A string: where it stands in the text, and how long it is.
-#[derive(Clone, Copy)]
+#[derive(Clone, Copy, Debug, PartialEq, Eq)]
 pub struct Span {
     pub at: Place,
     pub len: usize,
@@ -26,7 +26,7 @@ pub struct Span {
 
 // What reading and writing answer: number 0 accepts; what a number does not name is 0.
 #[repr(C)]
-#[derive(Drop)]
+#[derive(Clone, Copy, Debug, PartialEq, Eq)]
 pub struct Answer {
     pub number: u64,
     pub line: u64,
@@ -36,37 +36,22 @@ pub struct Answer {
 }
 
 // Where a line is due, and its number.
-#[derive(Clone, Copy)]
+#[derive(Clone, Copy, Debug, PartialEq, Eq)]
 pub struct Cursor {
     pub at: Place,
     pub line: LineNumber,
 }
 
 // What is wrong with a line's form.
-#[derive(Drop)]
+#[derive(Clone, Copy, Debug, PartialEq, Eq)]
 pub enum Fault {
     NulOrCr,
     NoEquals,
     NotSecond,
 }
 
-// The form of a line that has neither NUL nor CR.
-#[derive(Drop)]
-pub enum Form {
-    Blank,
-    Good(u8),
-    Bad(Fault),
-}
-
-// The first line of a text: its length without its ending and with it, or that it has NUL or CR.
-#[derive(Drop)]
-pub enum First {
-    Whole { len: usize, width: usize },
-    NulOrCr,
-}
-
-// What cutting at a cursor finds.
-#[derive(Drop)]
+// What cutting at a cursor finds: four ways on, of which an Option in a Result in an Option would lose the names.
+#[derive(Clone, Copy)]
 pub enum Cut {
     Line {
         letter: u8,
@@ -94,14 +79,12 @@ fn stop_byte(b: u8) -> bool
 fn stop_index(s: &[u8]) -> usize
     ensures { result ≡ stop_index s.now }
 {
-    let mut i = run_len(s, 14, 255);
-    while i < s.len() {
+    for i in run_len(s, 14, 255)..s.len() {
         if stop_byte(s[i]) {
             return i;
         }
-        i += 1;
     }
-    i
+    s.len()
 }
 
 // Whether CR and LF stand at k.
@@ -117,27 +100,22 @@ fn crlf_at(s: &[u8], k: usize) -> bool
     (s[k] == 13) & (s[k + 1] == 10)
 }
 
-// The first line of a text that is not empty, in one pass: the first NUL, LF or CR tells all.
-fn first_line(s: &[u8]) -> First
+// The first line of a text that is not empty, in one pass: its length without its ending and with it, or that it has NUL or CR.
+// The first NUL, LF or CR tells all.
+fn first_line(s: &[u8]) -> Result<(usize, usize), Fault>
     ensures { result ≡ first_of s.now }
 {
     let k = stop_index(s);
     if s.len() <= k {
-        return First::Whole { len: k, width: k };
+        return Ok((k, k));
     }
     if s[k] == 10 {
-        return First::Whole {
-            len: k,
-            width: k + 1,
-        };
+        return Ok((k, k + 1));
     }
     if crlf_at(s, k) {
-        return First::Whole {
-            len: k,
-            width: k + 2,
-        };
+        return Ok((k, k + 2));
     }
-    First::NulOrCr
+    Err(Fault::NulOrCr)
 }
 
 // Whether the first `=` is the second byte.
@@ -150,30 +128,29 @@ fn equals_second(s: &[u8]) -> bool
     (s[0] != b'=') & (s[1] == b'=')
 }
 
-// The form of a line without its ending that has neither NUL nor CR.
-fn form_of(s: &[u8]) -> Form
+// The form of a line without its ending that has neither NUL nor CR: its letter, or none where it is empty.
+fn form_of(s: &[u8]) -> Result<Option<u8>, Fault>
     ensures { result ≡ plain_form s.now }
 {
-    if s.len() == 0 {
-        return Form::Blank;
+    if s.is_empty() {
+        return Ok(None);
     }
     if equals_second(s) {
-        return Form::Good(s[0]);
+        return Ok(Some(s[0]));
     }
     if index_of(s, b'=') == s.len() {
-        return Form::Bad(Fault::NoEquals);
+        return Err(Fault::NoEquals);
     }
-    Form::Bad(Fault::NotSecond)
+    Err(Fault::NotSecond)
 }
 
-// The number of the next line; the largest number stays.
-fn next_line(n: usize) -> usize
-    ensures { result ≡ next_line n }
-{
-    if n < 0xffff_ffff_ffff_ffff {
-        return n + 1;
+impl LineNumber {
+    // The number of the next line; the largest number stays.
+    fn next(self) -> LineNumber
+        ensures { result.0 ≡ next_line self.0 }
+    {
+        LineNumber(self.0.saturating_add(1))
     }
-    n
 }
 
 impl Cursor {
@@ -197,20 +174,17 @@ impl Cursor {
             return Cut::End;
         }
         match first_line(&text[at..]) {
-            First::NulOrCr => Cut::Refused {
-                fault: Fault::NulOrCr,
-                line,
-            },
-            First::Whole { len, width } => {
+            Err(fault) => Cut::Refused { fault, line },
+            Ok((len, width)) => {
                 let end = at + len;
                 let next = Cursor {
                     at: Place(at + width),
-                    line: LineNumber(next_line(line.0)),
+                    line: line.next(),
                 };
                 match form_of(&text[at..end]) {
-                    Form::Blank => Cut::Empty { next },
-                    Form::Bad(fault) => Cut::Refused { fault, line },
-                    Form::Good(letter) => {
+                    Ok(None) => Cut::Empty { next },
+                    Err(fault) => Cut::Refused { fault, line },
+                    Ok(Some(letter)) => {
                         let value = Span {
                             at: Place(at + 2),
                             len: len - 2,
@@ -227,13 +201,37 @@ impl Cursor {
     }
 }
 
-// The refusal number of a fault.
-pub fn fault_number(f: Fault) -> u64
-    ensures { result ≡ fault_number f }
-{
-    match f {
-        Fault::NulOrCr => 3,
-        Fault::NoEquals => 4,
-        Fault::NotSecond => 5,
+impl Fault {
+    // Its refusal number.
+    pub fn number(self) -> u64
+        ensures { result ≡ fault_number self }
+    {
+        match self {
+            Fault::NulOrCr => 3,
+            Fault::NoEquals => 4,
+            Fault::NotSecond => 5,
+        }
+    }
+}
+
+impl Answer {
+    // An answer that names no byte: its number, its line and its field.
+    pub fn on_line(number: u64, line: LineNumber, field: u64) -> Answer
+        ensures { result ≡ answer number line.0 field }
+    {
+        Answer {
+            number,
+            line: line.0 as u64,
+            field,
+            place: 0,
+            len: 0,
+        }
+    }
+
+    // An answer that names no line.
+    pub fn plain(number: u64) -> Answer
+        ensures { result ≡ answer number 0 0 }
+    {
+        Answer::on_line(number, LineNumber(0), 0)
     }
 }

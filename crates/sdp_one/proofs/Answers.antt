@@ -17,7 +17,9 @@ use Rattle.sdp_number.proofs.number16.Reads as sdpNumberNumber16
 use Rattle.sdp_number.proofs.typed_time.Reads as sdpNumberTypedTime
 use Rattle.sdp_lines.proofs.Cursor.new.Reads as sdpLinesCursorNew
 use Rattle.sdp_lines.proofs.Cursor.cut.Reads as sdpLinesCursorCut
-use Rattle.sdp_lines.proofs.fault_number.Reads as sdpLinesFaultNumber
+use Rattle.sdp_lines.proofs.Fault.number.Reads as sdpLinesFaultNumber
+use Rattle.sdp_lines.proofs.Answer.on_line.Reads as sdpLinesAnswerOnLine
+use Rattle.sdp_lines.proofs.Answer.plain.Reads as sdpLinesAnswerPlain
 use Rattle.sdp_cutter.proofs.move_at.Reads as sdpCutterMoveAt
 use Rattle.sdp_split.proofs.word_at.Reads as sdpSplitWordAt
 use Rattle.sdp_split.proofs.first_piece.Reads as sdpSplitFirstPiece
@@ -76,6 +78,7 @@ use Rattle.sdp_strings.proofs.maybe_of.Reads as sdpStringsMaybeOf
 use Rattle.sdp_step.proofs.stored.Reads as sdpStepStored
 use Rattle.sdp_stamp.proofs.stamp.Reads as sdpStampStamp
 use Rattle.sdp_line.proofs.opening_line.Reads as sdpLineOpeningLine
+use Rattle.sdp_turn.proofs.State.counts.Reads as sdpTurnStateCounts
 use Rattle.sdp_read.proofs.read.Reads as sdpReadRead
 use Rattle.sdp_put.proofs.put_byte.Reads as sdpPutPutByte
 use Rattle.sdp_put.proofs.put_two.Reads as sdpPutPutTwo
@@ -172,6 +175,12 @@ sdp_lines_Cursor_cut κs a z z' e e' p q = same p q
 
 pub sdp_lines_fault_number : OneAnswer sdpLinesFaultNumber.Learnt
 sdp_lines_fault_number κs a z z' e e' p q = same p q
+
+pub sdp_lines_Answer_on_line : OneAnswer sdpLinesAnswerOnLine.Learnt
+sdp_lines_Answer_on_line κs a z z' e e' p q = same p q
+
+pub sdp_lines_Answer_plain : OneAnswer sdpLinesAnswerPlain.Learnt
+sdp_lines_Answer_plain κs a z z' e e' p q = same p q
 
 -- ---- sdp_cutter
 pub sdp_cutter_move_at : OneAnswer sdpCutterMoveAt.Learnt
@@ -359,6 +368,10 @@ sdp_stamp_stamp κs a z z' e e' p q = (refl, same p q)
 -- ---- sdp_line
 pub sdp_line_opening_line : OneAnswer sdpLineOpeningLine.Learnt
 sdp_line_opening_line κs a z z' e e' p q = same p q
+
+-- ---- sdp_turn
+pub sdp_turn_State_counts : OneAnswer sdpTurnStateCounts.Learnt
+sdp_turn_State_counts κs a z z' e e' p q = same p q
 
 -- ---- sdp_read
 pub sdp_read_read : OneState (λ κs e. e.1.0.now) sdpReadRead.Learnt

@@ -24,11 +24,10 @@ use Rattle.sdp_take_list.proofs.take_repeat.Reads as takeRepeat
 use Rattle.sdp_take_list.proofs.take_zone.Reads as takeZone
 use Rattle.sdp_take.proofs.take_line.Reads as takeLine
 use Rattle.sdp_line.proofs.take.Reads as lineTake
-use Rattle.sdp_turn.specs.Turn.{Standing, searching, reading, Lined, on, ended, stopped, unread, line_of, marks_in, counts_in, Carries, Stands, Turned}
+use Rattle.sdp_turn.specs.Turn.{Standing, searching, reading, Lined, on, ended, stopped, unread, line_of, marks_in, counts_in, Turn, Carries, Stands, Turned}
 use Rattle.sdp_turn.specs.declared.State.{State}
-use Rattle.sdp_turn.specs.declared.Ended.TheVariants.{Accepted, Stopped, Unread}
-use Rattle.sdp_turn.specs.declared.Turn.{Turn}
-use Rattle.sdp_turn.specs.declared.Turn.TheVariants.{Goes, Over}
+use Rattle.sdp_turn.specs.declared.Failure.TheVariants.{Stopped, Unread}
+use Rattle.std.specs.Prelude.{Some, None, Ok, Err}
 use Rattle.sdp_turn.proofs.turn_of.Reads as turn_of
 use Rattle.sdp_one.specs.One.{OneWhere}
 use Rattle.sdp_one.specs.Seen.{seen, seen_turn}
@@ -63,32 +62,28 @@ states_once b ρ ls c g g' a a' t h k =
     let e : g.begun ≡ g'.begun = same h.begun_is k.begun_is in
     ((λ d. record { named = (m d).named; zoned = (m d).zoned; begun = e d; empty = (n d).empty; ignored = (n d).ignored; kept = (n d).kept }), same h.holds.bytes k.holds.bytes)
 
-turned_once : (x : Lined) (r r' : Turn) (a a' t : List ℕ) → Turned x r a t → Turned x r' a' t → (r ≡ r') × (seen_turn r a ≡ seen_turn r' a')
-turned_once (on (searching c)) (Goes g) (Goes g') a a' t h k = let s = states_once false fresh no_stamps c g g' a a' t h k in (ap Goes s.0, s.1)
-turned_once (on (reading ρ ls c)) (Goes g) (Goes g') a a' t h k = let s = states_once true ρ ls c g g' a a' t h k in (ap Goes s.0, s.1)
-turned_once (on x) (Goes g) (Over e) a a' t h k = absurd k
-turned_once (on x) (Over e) r' a a' t h k = absurd h
-turned_once (ended σ ls c) (Goes g) r' a a' t h k = absurd h
-turned_once (ended σ ls c) (Over (Stopped y)) r' a a' t h k = absurd h
-turned_once (ended σ ls c) (Over (Unread y)) r' a a' t h k = absurd h
-turned_once (ended σ ls c) (Over (Accepted d)) (Goes g) a a' t h k = absurd k
-turned_once (ended σ ls c) (Over (Accepted d)) (Over (Stopped y)) a a' t h k = absurd k
-turned_once (ended σ ls c) (Over (Accepted d)) (Over (Unread y)) a a' t h k = absurd k
-turned_once (ended σ ls c) (Over (Accepted d)) (Over (Accepted d')) a a' t h k = (ap (λ (z : Counts). Over (Accepted z)) (same h.0 k.0), same h.1 k.1)
-turned_once (stopped x) (Goes g) r' a a' t h k = absurd h
-turned_once (stopped x) (Over (Accepted d)) r' a a' t h k = absurd h
-turned_once (stopped x) (Over (Unread y)) r' a a' t h k = absurd h
-turned_once (stopped x) (Over (Stopped y)) (Goes g) a a' t h k = absurd k
-turned_once (stopped x) (Over (Stopped y)) (Over (Accepted d)) a a' t h k = absurd k
-turned_once (stopped x) (Over (Stopped y)) (Over (Unread z)) a a' t h k = absurd k
-turned_once (stopped x) (Over (Stopped y)) (Over (Stopped y')) a a' t h k = (ap (λ (z : Answer). Over (Stopped z)) (same h.0 k.0), same h.1 k.1)
-turned_once (unread x) (Goes g) r' a a' t h k = absurd h
-turned_once (unread x) (Over (Accepted d)) r' a a' t h k = absurd h
-turned_once (unread x) (Over (Stopped y)) r' a a' t h k = absurd h
-turned_once (unread x) (Over (Unread y)) (Goes g) a a' t h k = absurd k
-turned_once (unread x) (Over (Unread y)) (Over (Accepted d)) a a' t h k = absurd k
-turned_once (unread x) (Over (Unread y)) (Over (Stopped z)) a a' t h k = absurd k
-turned_once (unread x) (Over (Unread y)) (Over (Unread y')) a a' t h k = (ap (λ (z : Answer). Over (Unread z)) (same h.0 k.0), same h.1 k.1)
+turned_once : (x : Lined) (f : State) (r r' : Turn) (a a' t : List ℕ) → Turned x f r a t → Turned x f r' a' t → (r ≡ r') × (seen_turn r a ≡ seen_turn r' a')
+turned_once (on (searching c)) f (Ok (Some g)) (Ok (Some g')) a a' t h k = let s = states_once false fresh no_stamps c g g' a a' t h k in (ap (λ (z : State). Ok (Some z)) s.0, s.1)
+turned_once (on (reading ρ ls c)) f (Ok (Some g)) (Ok (Some g')) a a' t h k = let s = states_once true ρ ls c g g' a a' t h k in (ap (λ (z : State). Ok (Some z)) s.0, s.1)
+turned_once (on x) f (Ok (Some g)) (Ok None) a a' t h k = absurd k
+turned_once (on x) f (Ok (Some g)) (Err e) a a' t h k = absurd k
+turned_once (on x) f (Ok None) r' a a' t h k = absurd h
+turned_once (on x) f (Err e) r' a a' t h k = absurd h
+turned_once (ended σ ls c) f (Ok (Some g)) r' a a' t h k = absurd h
+turned_once (ended σ ls c) f (Err e) r' a a' t h k = absurd h
+turned_once (ended σ ls c) f (Ok None) (Ok (Some g)) a a' t h k = absurd k
+turned_once (ended σ ls c) f (Ok None) (Err e) a a' t h k = absurd k
+turned_once (ended σ ls c) f (Ok None) (Ok None) a a' t h k = (refl, same h.1 k.1)
+turned_once (stopped x) f (Ok r) r' a a' t h k = absurd h
+turned_once (stopped x) f (Err (Unread y)) r' a a' t h k = absurd h
+turned_once (stopped x) f (Err (Stopped y)) (Ok r) a a' t h k = absurd k
+turned_once (stopped x) f (Err (Stopped y)) (Err (Unread z)) a a' t h k = absurd k
+turned_once (stopped x) f (Err (Stopped y)) (Err (Stopped y')) a a' t h k = (ap (λ (z : Answer). Err (Stopped z)) (same h.0 k.0), same h.1 k.1)
+turned_once (unread x) f (Ok r) r' a a' t h k = absurd h
+turned_once (unread x) f (Err (Stopped y)) r' a a' t h k = absurd h
+turned_once (unread x) f (Err (Unread y)) (Ok r) a a' t h k = absurd k
+turned_once (unread x) f (Err (Unread y)) (Err (Stopped z)) a a' t h k = absurd k
+turned_once (unread x) f (Err (Unread y)) (Err (Unread y')) a a' t h k = (ap (λ (z : Answer). Err (Unread z)) (same h.0 k.0), same h.1 k.1)
 
 module _ (ρ : Reading Span) (t : List ℕ) where
   -- what takes a line by any step f
@@ -129,4 +124,4 @@ module _ (ρ : Reading Span) (t : List ℕ) where
 
 module _ (x : Standing) (t : List ℕ) where
   pub sdp_turn_turn_of : OneWhere (λ κs a. Stands x a.1.1.0 a.1.0.now t) (λ κs r e. seen_turn r e.1.0.now) turn_of.Learnt
-  sdp_turn_turn_of κs a r r' e e' h p q = turned_once (line_of a.0.now x a.1.1.1.0) r r' e.1.0.now e'.1.0.now t (p.0 x t h) (q.0 x t h)
+  sdp_turn_turn_of κs a r r' e e' h p q = turned_once (line_of a.0.now x a.1.1.1.0) a.1.1.0 r r' e.1.0.now e'.1.0.now t (p.0 x t h) (q.0 x t h)

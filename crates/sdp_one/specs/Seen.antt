@@ -1,12 +1,11 @@
 -- What the promise of a function that takes a line says of the area at the exit: docs/ONE-ANSWER.md has the reason.
-use Rattle.std.specs.Prelude.{List, ℕ, drop}
+use Rattle.std.specs.Prelude.{List, ℕ, drop, Ok, Err}
 use Rattle.sdp_area.specs.Area.{size}
 use Rattle.sdp_area.specs.Columns.{area_size}
 use Rattle.sdp_step.specs.declared.Taken.{Taken}
 use Rattle.sdp_step.specs.declared.Taken.TheVariants.{Kept, Idle, Refused}
-use Rattle.sdp_turn.specs.declared.Ended.TheVariants.{Accepted, Stopped, Unread}
-use Rattle.sdp_turn.specs.declared.Turn.{Turn}
-use Rattle.sdp_turn.specs.declared.Turn.TheVariants.{Goes, Over}
+use Rattle.sdp_turn.specs.Turn.{Turn}
+use Rattle.sdp_turn.specs.declared.Failure.TheVariants.{Stopped, Unread}
 
 -- a line that is not refused leaves all of the area, a refusal the bytes behind the session
 abbrev pub seen : Taken → List ℕ → List ℕ
@@ -16,7 +15,6 @@ seen (Refused w) a = drop size a
 
 -- the same of what a line does to a reading: a refusal leaves the bytes behind the session and its lines
 abbrev pub seen_turn : Turn → List ℕ → List ℕ
-seen_turn (Goes g) a = a
-seen_turn (Over (Accepted c)) a = a
-seen_turn (Over (Stopped x)) a = drop area_size a
-seen_turn (Over (Unread x)) a = a
+seen_turn (Ok g) a = a
+seen_turn (Err (Stopped x)) a = drop area_size a
+seen_turn (Err (Unread x)) a = a

@@ -9,11 +9,10 @@ use mathlib.Core.List.{List}
 use mathlib.Core.Option.{Option, none, some}
 use lib.ListN.{length, drop, length-drop, drop_of_length-le}
 use Rattle.sdp_lines.specs.Lines
-use Rattle.sdp_lines.specs.Lines.{Raw, split, content, width, form_of, past, cut_form, cut_at}
+use Rattle.sdp_lines.specs.Lines.{Raw, split, content, width, form_of, past, cut_form, cut_at, Form}
 use Rattle.sdp_lines.specs.Quick.{first_raw}
 use Rattle.sdp_lines.specs.declared.Cursor.{Cursor}
-use Rattle.sdp_lines.specs.declared.Form.{Form}
-use Rattle.sdp_lines.specs.declared.Form.TheVariants.{Blank, Good, Bad}
+use Rattle.std.specs.Prelude.{Some, None, Ok, Err}
 use Rattle.sdp_lines.specs.declared.Cut.{Cut}
 use Rattle.sdp_lines.specs.declared.Cut.TheVariants.{Line, Empty, Refused, End}
 use Rattle.sdp_lines.proofs.LineLaws.{split_at_place, width_pos}
@@ -56,11 +55,11 @@ module _ (s : List ℕ) (c : Cursor) where
 
     by_form : (f : Form) → form_of (content raw) ≡ f → Seen s c (cut_form c raw f)
     unfolding run_from matches
-    by_form Blank e = (behind, λ x. runs x ∙ rw e)
-    by_form (Bad f) e = λ x. runs x ∙ rw e
-    by_form (Good l) e = (behind, λ x. runs x ∙ rw e (go x (letters (split (drop (c.at.0 + width raw) s)))))
+    by_form (Ok None) e = (behind, λ x. runs x ∙ rw e)
+    by_form (Err f) e = λ x. runs x ∙ rw e
+    by_form (Ok (Some l)) e = (behind, λ x. runs x ∙ rw e (go x (letters (split (drop (c.at.0 + width raw) s)))))
       where
-        go : (x : Expr) (ls : Option (List ℕ)) → run x (before (Good l) ls) ≡ run (after l x) ls
+        go : (x : Expr) (ls : Option (List ℕ)) → run x (before (Ok (Some l)) ls) ≡ run (after l x) ls
         go x none = refl
         go x (some ls) = refl
 

@@ -1,11 +1,9 @@
 -- Document 01, "Letter order", with the zones' place by document 02, P6: the grammar of RFC 8866, section 9.
-use Rattle.std.specs.Prelude.{ℕ, Bool, true, false, cond, List, [], ◌∷◌, length, ltb, Result, Ok, Err}
+use Rattle.std.specs.Prelude.{ℕ, Bool, true, false, cond, List, [], ◌∷◌, length, ltb, Result, Ok, Err, Some, None}
 use Rattle.std.proofs.Math.Option.{Option, none, some}
 use Rattle.sdp_numbers.specs.Refusals as refusals
 use Rattle.sdp_numbers.specs.Refusals.{longest_text}
-use Rattle.sdp_lines.specs.Lines.{Raw, split, content, form_of}
-use Rattle.sdp_lines.specs.declared.Form.{Form}
-use Rattle.sdp_lines.specs.declared.Form.TheVariants.{Blank, Good, Bad}
+use Rattle.sdp_lines.specs.Lines.{Raw, split, content, form_of, Form}
 use Rattle.sdp_order.specs.Expression.{Expr, letter, ◌·◌, ◌*, ◌⁇, ◌+, matches}
 use Rattle.sdp_order.specs.declared.Verdict.{Verdict}
 use Rattle.sdp_order.specs.declared.Refusal.{Refusal}
@@ -79,10 +77,10 @@ grammar = v · o · s · i ⁇ · u ⁇ · e * · p * · c ⁇ · b * · time_de
 
 -- a line before the others by its form: an empty one has no letter; after one of bad form nothing counts
 abbrev pub before : Form → Option (List ℕ) → Option (List ℕ)
-before Blank ls = ls
-before (Bad f) ls = none
-before (Good l) none = none
-before (Good l) (some ls) = some (l ∷ ls)
+before (Ok None) ls = ls
+before (Err f) ls = none
+before (Ok (Some l)) none = none
+before (Ok (Some l)) (some ls) = some (l ∷ ls)
 
 -- the letters of the lines, where "every non-empty line has good form"
 unfoldable pub letters : List Raw → Option (List ℕ)

@@ -11,23 +11,20 @@ use lib.Dec.{ltb}
 use lib.ListN.{length, take, drop, length-drop, drop_of_length-le}
 use lib.Seq.{drop-drop, take-nil}
 use Rattle.sdp_lines.specs.Lines
-use Rattle.sdp_lines.specs.Lines.{Raw, split, content, width, form_of, next_line, past, cut_form, cut_raws, cut_at}
+use Rattle.sdp_lines.specs.Lines.{Raw, split, content, width, form_of, next_line, past, cut_form, cut_raws, cut_at, Form}
 use Rattle.sdp_lines.specs.Quick.{first_raw}
 use Rattle.sdp_lines.specs.Strings.{bytes_of}
 use Rattle.sdp_lines.specs.declared.Span.{Span}
 use Rattle.sdp_lines.specs.declared.Cursor.{Cursor}
-use Rattle.sdp_lines.specs.declared.Form.{Form}
-use Rattle.sdp_lines.specs.declared.Form.TheVariants.{Blank, Good, Bad}
+use Rattle.std.specs.Prelude.{Some, None, Ok, Err}
 use Rattle.sdp_lines.specs.declared.Cut.{Cut}
 use Rattle.sdp_lines.specs.declared.Cut.TheVariants.{Line, Empty, Refused, End}
 use Rattle.sdp_lines.proofs.LineLaws.{split_at_place, content-front, content-le, width-le, width_pos, good_form}
 use Rattle.sdp_cutter.specs.Cutter.{move_by, move_at, standing, due}
 use Rattle.sdp_cutter.specs.declared.Next.{Next}
-use Rattle.sdp_turn.specs.Turn.{Inside, line_of, lines_in, Turns, Passes}
+use Rattle.sdp_turn.specs.Turn.{Inside, line_of, lines_in, Turn, Turns, Passes}
 use Rattle.sdp_read.specs.From.{Reached, line_at}
 use Rattle.sdp_turn.specs.declared.State.{State}
-use Rattle.sdp_turn.specs.declared.Turn.{Turn}
-use Rattle.sdp_turn.specs.declared.Turn.TheVariants.{Goes}
 
 drop-take : (k m : ℕ) (u : List ℕ) → drop k (take (k + m) u) ≡ take m (drop k u)
 drop-take zero m u = ap (λ (n : ℕ). take n u) (zero-add m)
@@ -74,7 +71,7 @@ module _ (s : List ℕ) (c : Cursor) where
       go (no h) = rw (none_left (omega arith)) none
 
   -- the value's bytes, out of the text and out of the line
-  pub value_is : (l : ℕ) → form_of (content raw) ≡ Good l → bytes_of s span ≡ drop 2 (content raw)
+  pub value_is : (l : ℕ) → form_of (content raw) ≡ Ok (Some l) → bytes_of s span ≡ drop 2 (content raw)
   value_is l e =
       let two = good_form (content raw) l e in
       let k : 2 + (length (content raw) - 2) ≡ length (content raw) = omega arith in
@@ -98,9 +95,9 @@ module _ (s : List ℕ) (c : Cursor) where
   cut_fine = at_cursor (λ rs k. Fine k) tt form
     where
       form : c.at.0 < length s → (f : Form) → form_of (content raw) ≡ f → Fine (cut_form c raw f)
-      form h Blank e = past_further h
-      form h (Bad f) e = tt
-      form h (Good l) e = (past_further h, omega (arith, good_form (content raw) l e, content-le raw, width-le (drop c.at.0 s), length-drop c.at.0 s))
+      form h (Ok None) e = past_further h
+      form h (Err f) e = tt
+      form h (Ok (Some l)) e = (past_further h, omega (arith, good_form (content raw) l e, content-le raw, width-le (drop c.at.0 s), length-drop c.at.0 s))
 
   -- so it is with what the cutter finds, where it then stands
   abbrev pub then : Cursor
@@ -120,11 +117,11 @@ module _ (s : List ℕ) (c : Cursor) where
       go End h = tt
 
   -- a line that a reading goes on past: further on, and one line more
-  pub goes_further : (g n : State) → Passes found g (Goes n) → Further s c then × (lines_in n ≡ lines_in g + 1)
+  pub goes_further : (g n : State) → Passes found g (Ok (Some n)) → Further s c then × (lines_in n ≡ lines_in g + 1)
   unfolding move_at
   goes_further g n = go (cut_at s c) cut_fine
     where
-      go : (k : Cut) → Fine k → Passes (move_by c.at c.line k).next g (Goes n) → Further s c (due (standing (move_by c.at c.line k))) × (lines_in n ≡ lines_in g + 1)
+      go : (k : Cut) → Fine k → Passes (move_by c.at c.line k).next g (Ok (Some n)) → Further s c (due (standing (move_by c.at c.line k))) × (lines_in n ≡ lines_in g + 1)
       go (Line l v d) h p = (h.0, p)
       go (Empty d) h p = (h, p)
       go (Refused f n) h p = absurd p

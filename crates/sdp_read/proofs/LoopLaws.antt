@@ -3,7 +3,7 @@
 use Prim.Native.Nat.{ℕ, ◌+◌, ◌-◌, ◌≤◌, ◌<◌}
 use native.Mathlib.Omega.{arith}
 use mathlib.Core.Path.{◌≡◌, refl, sym, ap, subst, ◌∙◌}
-use mathlib.Core.Bool.{false}
+use mathlib.Core.Bool.{Bool, false}
 use mathlib.Core.List.{List}
 use lib.ListN.{length}
 use Rattle.sdp_numbers.specs.Refusals.{longest_text}
@@ -16,13 +16,12 @@ use Rattle.sdp_stamp.specs.Stamp.{no_stamps}
 use Rattle.sdp_counts.specs.Count.{no_counts}
 use Rattle.sdp_cutter.specs.Cutter.{move_at, standing, due}
 use Rattle.sdp_cutter.specs.declared.Cutter.{Cutter}
-use Rattle.sdp_turn.specs.Turn.{Standing, searching, Lined, on, ended, stopped, unread, lines_in, Stands, Turned, Turns, Passes}
+use Rattle.sdp_turn.specs.Turn.{Standing, searching, Lined, on, ended, stopped, unread, counts_in, lines_in, Turn, Stands, Turned, Turns, Passes}
 use Rattle.sdp_read.specs.From.{Reached, begin_at, counts_at, begin_stamps_at, line_at, EndsFrom}
 use Rattle.sdp_turn.specs.declared.State.{State}
-use Rattle.sdp_turn.specs.declared.Ended.{Ended}
-use Rattle.sdp_turn.specs.declared.Ended.TheVariants.{Accepted, Stopped, Unread}
-use Rattle.sdp_turn.specs.declared.Turn.{Turn}
-use Rattle.sdp_turn.specs.declared.Turn.TheVariants.{Goes, Over}
+use Rattle.sdp_turn.specs.declared.Failure.{Failure}
+use Rattle.sdp_turn.specs.declared.Failure.TheVariants.{Stopped, Unread}
+use Rattle.std.specs.Prelude.{Some, None, Ok, Err}
 use Rattle.sdp_read.proofs.CutLaws.{Further, then, goes_further}
 use Rattle.sdp_read.proofs.TallyLaws.{plus_none}
 use Rattle.sdp_read.proofs.RestLaws.{rest_of, verdict_on, total_of, Totals, stamps_on, Stamps, rest_line, total_line, stamps_line}
@@ -39,6 +38,11 @@ pub record Going (s : List ℕ) (from d : Cursor) (g : State) (a t : List ℕ) :
 -- the state before the first line
 abbrev pub none : State
 none = record { named = false; zoned = false; begun = false; empty = 0; ignored = 0; kept = 0 }
+
+-- it is the one with the default of each field
+pub none_is : (a b c : Bool) (d e f : ℕ) → a ≡ false → b ≡ false → c ≡ false → d ≡ 0 → e ≡ 0 → f ≡ 0
+    → ◌≡◌ {A = State} (record { named = a; zoned = b; begun = c; kept = d; empty = e; ignored = f }) none
+none_is a b c d e f p q r s t u = rw (p, q, r, s, t, u)
 
 within-empty : Within {S = Span} empty
 within-empty = record { emails = omega arith; phones = omega arith; connections = omega arith; bandwidths = omega arith; times = omega arith; repeats = omega arith; offsets = omega arith; zones = omega arith; attributes = omega arith; medias = omega arith }
@@ -65,31 +69,37 @@ module _ (s : List ℕ) (short : length s ≤ longest_text) (from d : Cursor) (m
   stamped_on : (y : Lined) → lined ≡ y → Stamps s (stamps_on s g.so_far d) y (then s d)
   stamped_on y e = subst (λ (z : Lined). Stamps s (stamps_on s g.so_far d) z (then s d)) e (stamps_line s short d w g.so_far)
 
-  pub going_on : (n : State) → Turned lined (Goes n) a' t → Going s from (then s d) n a' t
+  pub going_on : (n : State) → Turned lined m (Ok (Some n)) a' t → Going s from (then s d) n a' t
   going_on n h = go lined refl h
     where
-      go : (y : Lined) → lined ≡ y → Turned y (Goes n) a' t → Going s from (then s d) n a' t
+      go : (y : Lined) → lined ≡ y → Turned y m (Ok (Some n)) a' t → Going s from (then s d) n a' t
       go (on x) e h = record { so_far = x; stands = h; left = left_on (on x) e; counted = g.counted ∙ counted_on (on x) e; stamped = g.stamped ∙ stamped_on (on x) e }
       go (ended σ ls k) e h = absurd h
       go (stopped y) e h = absurd h
       go (unread y) e h = absurd h
 
-  pub going_over : (r : Ended) → Turned lined (Over r) a' t → EndsFrom s from r a' t
-  going_over r h = go lined refl r h
+  -- the state has the counts of all lines
+  pub going_end : Turned lined m (Ok None) a' t → EndsFrom s from (Ok (counts_in m)) a' t
+  going_end h = go lined refl h
     where
-      go : (y : Lined) → lined ≡ y → (r : Ended) → Turned y (Over r) a' t → EndsFrom s from r a' t
-      go (on x) e r h = absurd h
-      go (ended σ ls k) e (Accepted c) h =
+      go : (y : Lined) → lined ≡ y → Turned y m (Ok None) a' t → EndsFrom s from (Ok (counts_in m)) a' t
+      go (on x) e h = absurd h
+      go (ended σ ls k) e h =
           let q : counts_at s from ≡ k = g.counted ∙ counted_on (ended σ ls k) e in
           let r : begin_stamps_at s from ≡ ls = g.stamped ∙ stamped_on (ended σ ls k) e in
           rw (left_on (ended σ ls k) e, q, r) h
-      go (ended σ ls k) e (Stopped y) h = absurd h
-      go (ended σ ls k) e (Unread y) h = absurd h
+      go (stopped x) e h = absurd h
+      go (unread x) e h = absurd h
+
+  pub going_failed : (r : Failure) → Turned lined m (Err r) a' t → EndsFrom s from (Err r) a' t
+  going_failed r h = go lined refl r h
+    where
+      go : (y : Lined) → lined ≡ y → (r : Failure) → Turned y m (Err r) a' t → EndsFrom s from (Err r) a' t
+      go (on x) e r h = absurd h
+      go (ended σ ls k) e r h = absurd h
       go (stopped x) e (Stopped y) h = rw (left_on (stopped x) e) h
-      go (stopped x) e (Accepted c) h = absurd h
       go (stopped x) e (Unread y) h = absurd h
       go (unread x) e (Unread y) h = rw (left_on (unread x) e) h
-      go (unread x) e (Accepted c) h = absurd h
       go (unread x) e (Stopped y) h = absurd h
 
 -- what holds before each line, where the cutter stands at k; the area was ys before the first
@@ -108,7 +118,7 @@ before_first s k ys w = record { reached = w; few = omega arith; going = λ r e.
 
 module _ (s : List ℕ) (short : length s ≤ longest_text) (from : Cursor) (ys : List ℕ) (k : Cutter) (m : State) (a : List ℕ) (b : Before s from ys k m a) (y : Cutter) (a' : List ℕ) where
   -- a line after which the run goes on
-  module _ (n : State) (e : Said s k m a (Goes n) y a') where
+  module _ (n : State) (e : Said s k m a (Ok (Some n)) y a') where
     passes : Further s (due k) (due y) × (lines_in n ≡ lines_in m + 1)
     passes = subst (λ (u : Cutter). Further s (due k) (due u) × (lines_in n ≡ lines_in m + 1)) (sym e.1) (goes_further s (due k) m n e.0.1)
 
@@ -130,8 +140,14 @@ module _ (s : List ℕ) (short : length s ≤ longest_text) (from : Cursor) (ys 
         let i = reached_on.inside in
         omega (arith, f, i)
 
-  -- the last line
-  pub at_last : (x : Ended) → Said s k m a (Over x) y a' → (r : List ℕ) → ys ≡ area_of empty no_stamps r → EndsFrom s from x a' r
-  at_last x e r q =
-      let g = b.going r q in
-      going_over s short from (due k) m b.reached a a' r g x (e.0.0 g.so_far r g.stands)
+  -- past the last line, and at a refused one
+  module _ (r : List ℕ) (q : ys ≡ area_of empty no_stamps r) where
+    pub at_last : Said s k m a (Ok None) y a' → EndsFrom s from (Ok (counts_in m)) a' r
+    at_last e =
+        let g = b.going r q in
+        going_end s short from (due k) m b.reached a a' r g (e.0.0 g.so_far r g.stands)
+
+    pub at_failed : (x : Failure) → Said s k m a (Err x) y a' → EndsFrom s from (Err x) a' r
+    at_failed x e =
+        let g = b.going r q in
+        going_failed s short from (due k) m b.reached a a' r g x (e.0.0 g.so_far r g.stands)

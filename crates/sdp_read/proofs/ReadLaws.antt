@@ -19,7 +19,8 @@ use Rattle.sdp_read.specs.Run.{Verdict, accepted, refused, answer, lines, stamps
 use Rattle.sdp_read.specs.From.{begin_at, counts_at, begin_stamps_at, Ends, EndsFrom}
 use Rattle.sdp_read.specs.declared.Told.{Told}
 use Rattle.sdp_lines.specs.declared.Answer.{Answer}
-use Rattle.sdp_turn.specs.declared.Ended.TheVariants.{Accepted, Stopped, Unread}
+use Rattle.sdp_turn.specs.declared.Failure.TheVariants.{Stopped, Unread}
+use Rattle.std.specs.Prelude.{Ok, Err}
 
 -- what is returned, x, and the area b are what read_text says
 abbrev pub Says : List ℕ → List ℕ → Told → List ℕ → Type 0
@@ -49,26 +50,26 @@ module _ (s a : List ℕ) where
       read_is = rw (le-ltb (length a) area_size fits, le-ltb 32768 (length s) short)
 
       -- by how the lines ended, b the area then
-      pub says_accepted : (c : Counts) (b : List ℕ) → EndsFrom s start (Accepted c) b (drop area_size a) → Says s a (record { answer = answer 0 0 0; counts = c }) b
+      pub says_accepted : (c : Counts) (b : List ℕ) → EndsFrom s start (Ok c) b (drop area_size a) → Says s a (record { answer = answer 0 0 0; counts = c }) b
       unfolding begin_stamps_at
       says_accepted c b h = rw read_is (go (begin_at s start) h)
         where
-          go : (v : Verdict Span) → Ends v (stamps_of s) (counts_at s start) (Accepted c) b (drop area_size a) → (record { answer = answer 0 0 0; counts = c } ≡ told_of (outcome_of s a v)) × (b ≡ (outcome_of s a v).area)
+          go : (v : Verdict Span) → Ends v (stamps_of s) (counts_at s start) (Ok c) b (drop area_size a) → (record { answer = answer 0 0 0; counts = c } ≡ told_of (outcome_of s a v)) × (b ≡ (outcome_of s a v).area)
           go (accepted σ) h = (ap (λ (k : Counts). record { answer = answer 0 0 0; counts = k }) h.0, h.1)
           go (refused x) h = absurd h
 
-      pub says_unread : (y : Answer) (b : List ℕ) → EndsFrom s start (Unread y) b (drop area_size a) → Says s a (zero y) b
+      pub says_unread : (y : Answer) (b : List ℕ) → EndsFrom s start (Err (Unread y)) b (drop area_size a) → Says s a (zero y) b
       unfolding begin_stamps_at
       says_unread y b h = rw read_is (go (begin_at s start) h)
         where
-          go : (v : Verdict Span) → Ends v (stamps_of s) (counts_at s start) (Unread y) b (drop area_size a) → (zero y ≡ told_of (outcome_of s a v)) × (b ≡ (outcome_of s a v).area)
+          go : (v : Verdict Span) → Ends v (stamps_of s) (counts_at s start) (Err (Unread y)) b (drop area_size a) → (zero y ≡ told_of (outcome_of s a v)) × (b ≡ (outcome_of s a v).area)
           go (accepted σ) h = absurd h
           go (refused x) h = (ap zero h.0, h.1 ∙ area_empty (drop area_size a))
 
-      pub says_stopped : (y : Answer) (b b' : List ℕ) → EndsFrom s start (Stopped y) b (drop area_size a) → b' ≡ zeros area_size ++ drop area_size b → Says s a (zero y) b'
+      pub says_stopped : (y : Answer) (b b' : List ℕ) → EndsFrom s start (Err (Stopped y)) b (drop area_size a) → b' ≡ zeros area_size ++ drop area_size b → Says s a (zero y) b'
       unfolding begin_stamps_at
       says_stopped y b b' h e = rw read_is (go (begin_at s start) h)
         where
-          go : (v : Verdict Span) → Ends v (stamps_of s) (counts_at s start) (Stopped y) b (drop area_size a) → (zero y ≡ told_of (outcome_of s a v)) × (b' ≡ (outcome_of s a v).area)
+          go : (v : Verdict Span) → Ends v (stamps_of s) (counts_at s start) (Err (Stopped y)) b (drop area_size a) → (zero y ≡ told_of (outcome_of s a v)) × (b' ≡ (outcome_of s a v).area)
           go (accepted σ) h = absurd h
           go (refused x) h = (ap zero h.0, e ∙ ap (λ (l : List ℕ). zeros area_size ++ l) h.1)

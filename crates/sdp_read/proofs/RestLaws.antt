@@ -10,15 +10,15 @@ use lib.Dec.{eqb}
 use lib.ListN.{length, drop}
 use borrow.Author.Tests.{lt-ltb}
 use Rattle.sdp_numbers.specs.Refusals.{longest_text}
-use Rattle.sdp_lines.specs.Lines.{split, content, width, form_of, next_line, past, cut_form}
+use Rattle.sdp_lines.specs.Lines.{split, content, width, form_of, next_line, past, cut_form, Form}
 use Rattle.sdp_lines.specs.Strings.{bytes_of}
 use Rattle.sdp_lines.specs.declared.Span.{Span}
 use Rattle.sdp_lines.specs.declared.Cursor.{Cursor}
+use Rattle.sdp_lines.specs.declared.Answer.{Answer}
 use Rattle.sdp_lines.specs.declared.Cut.{Cut}
 use Rattle.sdp_cutter.specs.Cutter.{move_by, move_at, standing, due}
 use Rattle.sdp_cutter.specs.declared.Moved.{Moved}
-use Rattle.sdp_lines.specs.declared.Form.{Form}
-use Rattle.sdp_lines.specs.declared.Form.TheVariants.{Blank, Good, Bad}
+use Rattle.std.specs.Prelude.{Some, None, Result, Ok, Err}
 use Rattle.sdp_roles.specs.Roles.{role_at}
 use Rattle.sdp_roles.specs.Kinds.{kind_of}
 use Rattle.sdp_strings.specs.Strings.{span_at}
@@ -30,8 +30,6 @@ use Rattle.sdp_counts.specs.Count.{count_lines, from_version}
 use Rattle.sdp_counts.specs.declared.Counts.{Counts}
 use Rattle.sdp_counts.proofs.MediaLaws.{step-medias}
 use Rattle.sdp_line.specs.Version.{no_version, bad_version, is_zero, opening_of}
-use Rattle.sdp_line.specs.declared.Opening.{Opening}
-use Rattle.sdp_line.specs.declared.Opening.TheVariants as opening
 use Rattle.sdp_turn.specs.Turn.{one_of, Standing, searching, reading, Lined, on, ended, stopped, unread, opened_to, stepped, line_of}
 use Rattle.sdp_read.specs.Run.{Verdict, accepted, refused, after, step_form, run, version as firstLine, begin_form, begin, stamps_after, run_stamps, begin_stamps}
 use Rattle.sdp_read.specs.From.{Reached, run_at, begin_at, run_stamps_at, begin_stamps_at, line_at}
@@ -106,16 +104,16 @@ module _ (s : List ℕ) (short : length s ≤ longest_text) (c : Cursor) (w : Re
     where
       form : (f : Form) → form_of (content (raw s c)) ≡ f
           → after span_at (step_form span_at ρ c.at.0 (content (raw s c)) f) c.line.0 (c.at.0 + 2) (λ τ. run span_at τ (c.line.0 + 1) (c.at.0 + width (raw s c)) (rest s c)) ≡ verdict_on s (line_of s (reading ρ ls k) (moved (cut_form c (raw s c) f)).next) (due (standing (moved (cut_form c (raw s c) f))))
-      form Blank e = run_past ρ
-      form (Bad f) e = ap refused (fault_told c.line.0 (c.at.0 + 2) f)
-      form (Good l) e = rw (value_is s c l e) (stepped_on (c.at.0 + 2) ρ.session ls _ (step (span_at (c.at.0 + 2) (drop 2 (content (raw s c)))) ρ (drop 2 (content (raw s c))) l))
+      form (Ok None) e = run_past ρ
+      form (Err f) e = ap refused (fault_told c.line.0 (c.at.0 + 2) f)
+      form (Ok (Some l)) e = rw (value_is s c l e) (stepped_on (c.at.0 + 2) ρ.session ls _ (step (span_at (c.at.0 + 2) (drop 2 (content (raw s c)))) ρ (drop 2 (content (raw s c))) l))
 
   opened_on : (p l : ℕ) (v : List ℕ) (k : Counts) (x : Verdict Span) → x ≡ run_at s fresh next
       → firstLine span_at c.line.0 p v l x ≡ verdict_on s (opened_to k (opening_of c.line.0 p l v)) next
   opened_on p l v k x e = go (eqb l 0x76) (is_zero v)
     where
       go : (y z : Bool) → cond y (cond z x (refused (bad_version c.line.0 p (length v)))) (refused no_version)
-          ≡ verdict_on s (opened_to k (cond y (cond z opening.Zero (opening.Refused (bad_version c.line.0 p (length v)))) (opening.Refused no_version))) next
+          ≡ verdict_on s (opened_to k (cond y (cond z (Ok tt) (Err (bad_version c.line.0 p (length v)))) (Err no_version))) next
       go true true = e
       go true false = refl
       go false z = refl
@@ -126,9 +124,9 @@ module _ (s : List ℕ) (short : length s ≤ longest_text) (c : Cursor) (w : Re
     where
       form : (f : Form) → form_of (content (raw s c)) ≡ f
           → begin_form span_at c.line.0 c.at.0 (content (raw s c)) f (begin span_at (c.line.0 + 1) (c.at.0 + width (raw s c)) (rest s c)) (run span_at fresh (c.line.0 + 1) (c.at.0 + width (raw s c)) (rest s c)) ≡ verdict_on s (line_of s (searching k) (moved (cut_form c (raw s c) f)).next) (due (standing (moved (cut_form c (raw s c) f))))
-      form Blank e = begin-past
-      form (Bad f) e = refl
-      form (Good l) e = rw (value_is s c l e) (opened_on (c.at.0 + 2) l (drop 2 (content (raw s c))) k _ (run_past fresh))
+      form (Ok None) e = begin-past
+      form (Err f) e = refl
+      form (Ok (Some l)) e = rw (value_is s c l e) (opened_on (c.at.0 + 2) l (drop 2 (content (raw s c))) k _ (run_past fresh))
 
   pub rest_line : (x : Standing) → rest_of s x c ≡ verdict_on s (line_at s x c) (then s c)
   rest_line (searching k) = rest_searching k
@@ -142,7 +140,7 @@ module _ (s : List ℕ) (short : length s ≤ longest_text) (c : Cursor) (w : Re
       medias : ℕ
       medias = length ρ.session.tables.medias
 
-      stepped_total : (p n l : ℕ) (v : List ℕ) → form_of (content (raw s c)) ≡ Good l → (x : Stepped Span) → step (span_at p v) ρ v l ≡ x
+      stepped_total : (p n l : ℕ) (v : List ℕ) → form_of (content (raw s c)) ≡ Ok (Some l) → (x : Stepped Span) → step (span_at p v) ρ v l ≡ x
           → Totals s (plus k (count_from medias (raw s c ∷ rest s c))) (stepped n p ρ.session ls (one_of (kind_of (role_at medias l)) k) x) next
       stepped_total p n l v e (goes τ) q =
           good_next k (raw s c) (rest s c) medias l e ∙ ap (λ (m : ℕ). plus (one_of (kind_of (role_at medias l)) k) (count_from m (rest s c))) (sym (step-medias (span_at p v) ρ v (role_at medias l) τ q))
@@ -150,23 +148,23 @@ module _ (s : List ℕ) (short : length s ≤ longest_text) (c : Cursor) (w : Re
 
       form : (f : Form) → form_of (content (raw s c)) ≡ f
           → Totals s (plus k (count_from medias (raw s c ∷ rest s c))) (line_of s (reading ρ ls k) (moved (cut_form c (raw s c) f)).next) (due (standing (moved (cut_form c (raw s c) f))))
-      form Blank e = blank_next k (raw s c) (rest s c) medias e
-      form (Bad f) e = tt
-      form (Good l) e = stepped_total (c.at.0 + 2) c.line.0 l (bytes_of s (span s c)) e _ refl
+      form (Ok None) e = blank_next k (raw s c) (rest s c) medias e
+      form (Err f) e = tt
+      form (Ok (Some l)) e = stepped_total (c.at.0 + 2) c.line.0 l (bytes_of s (span s c)) e _ refl
 
   total_searching : (k : Counts) → Totals s (total_of s (searching k) c) (line_at s (searching k) c) (then s c)
   unfolding line_at move_at
   total_searching k = at_cursor s c (λ rs x. Totals s (plus k (count_lines rs)) (line_of s (searching k) (moved x).next) (due (standing (moved x)))) tt (λ h f e. form f e)
     where
-      opened_total : (l : ℕ) → form_of (content (raw s c)) ≡ Good l → (o : Opening) → Totals s (plus k (count_lines (raw s c ∷ rest s c))) (opened_to k o) next
-      opened_total l e opening.Zero = version_first k (raw s c) (rest s c) l e
-      opened_total l e (opening.Refused x) = tt
+      opened_total : (l : ℕ) → form_of (content (raw s c)) ≡ Ok (Some l) → (o : Result (Unit {0}) Answer) → Totals s (plus k (count_lines (raw s c ∷ rest s c))) (opened_to k o) next
+      opened_total l e (Ok u) = version_first k (raw s c) (rest s c) l e
+      opened_total l e (Err x) = tt
 
       form : (f : Form) → form_of (content (raw s c)) ≡ f
           → Totals s (plus k (count_lines (raw s c ∷ rest s c))) (line_of s (searching k) (moved (cut_form c (raw s c) f)).next) (due (standing (moved (cut_form c (raw s c) f))))
-      form Blank e = blank_above k (raw s c) (rest s c) e
-      form (Bad f) e = tt
-      form (Good l) e = opened_total l e (opening_of c.line.0 (c.at.0 + 2) l (bytes_of s (span s c)))
+      form (Ok None) e = blank_above k (raw s c) (rest s c) e
+      form (Err f) e = tt
+      form (Ok (Some l)) e = opened_total l e (opening_of c.line.0 (c.at.0 + 2) l (bytes_of s (span s c)))
 
   pub total_line : (x : Standing) → Totals s (total_of s x c) (line_at s x c) (then s c)
   total_line (searching k) = total_searching k
@@ -190,23 +188,23 @@ module _ (s : List ℕ) (short : length s ≤ longest_text) (c : Cursor) (w : Re
 
       form : (f : Form) → form_of (content (raw s c)) ≡ f
           → Stamps s (stamps_after span_at (step_form span_at ρ c.at.0 (content (raw s c)) f) ρ c.line.0 ls more) (line_of s (reading ρ ls k) (moved (cut_form c (raw s c) f)).next) (due (standing (moved (cut_form c (raw s c) f))))
-      form Blank e = ap (more ρ) (stamped_none c.line.0 ρ.session ls) ∙ stamps_past ρ ls
-      form (Bad f) e = tt
-      form (Good l) e = rw (value_is s c l e) (stepped_stamps (c.at.0 + 2) _ (step (span_at (c.at.0 + 2) (drop 2 (content (raw s c)))) ρ (drop 2 (content (raw s c))) l))
+      form (Ok None) e = ap (more ρ) (stamped_none c.line.0 ρ.session ls) ∙ stamps_past ρ ls
+      form (Err f) e = tt
+      form (Ok (Some l)) e = rw (value_is s c l e) (stepped_stamps (c.at.0 + 2) _ (step (span_at (c.at.0 + 2) (drop 2 (content (raw s c)))) ρ (drop 2 (content (raw s c))) l))
 
   stamps_searching : (k : Counts) → Stamps s (begin_stamps_at s c) (line_at s (searching k) c) (then s c)
   unfolding begin_stamps_at begin_stamps line_at move_at
   stamps_searching k = at_cursor s c (λ rs x. Stamps s (begin_stamps span_at c.line.0 c.at.0 rs) (line_of s (searching k) (moved x).next) (due (standing (moved x)))) tt (λ h f e. rw e (form f e))
     where
-      opened_stamps : (o : Opening) → Stamps s (run_stamps span_at fresh no_stamps (c.line.0 + 1) (c.at.0 + width (raw s c)) (rest s c)) (opened_to k o) next
-      opened_stamps opening.Zero = stamps_past fresh no_stamps
-      opened_stamps (opening.Refused x) = tt
+      opened_stamps : (o : Result (Unit {0}) Answer) → Stamps s (run_stamps span_at fresh no_stamps (c.line.0 + 1) (c.at.0 + width (raw s c)) (rest s c)) (opened_to k o) next
+      opened_stamps (Ok u) = stamps_past fresh no_stamps
+      opened_stamps (Err x) = tt
 
       form : (f : Form) → form_of (content (raw s c)) ≡ f
           → Stamps s (from_version f (begin_stamps span_at (c.line.0 + 1) (c.at.0 + width (raw s c)) (rest s c)) (run_stamps span_at fresh no_stamps (c.line.0 + 1) (c.at.0 + width (raw s c)) (rest s c))) (line_of s (searching k) (moved (cut_form c (raw s c) f)).next) (due (standing (moved (cut_form c (raw s c) f))))
-      form Blank e = ap (λ (n : ℕ). begin_stamps span_at n (c.at.0 + width (raw s c)) (rest s c)) next_is
-      form (Bad f) e = tt
-      form (Good l) e = opened_stamps (opening_of c.line.0 (c.at.0 + 2) l (bytes_of s (span s c)))
+      form (Ok None) e = ap (λ (n : ℕ). begin_stamps span_at n (c.at.0 + width (raw s c)) (rest s c)) next_is
+      form (Err f) e = tt
+      form (Ok (Some l)) e = opened_stamps (opening_of c.line.0 (c.at.0 + 2) l (bytes_of s (span s c)))
 
   pub stamps_line : (x : Standing) → Stamps s (stamps_on s x c) (line_at s x c) (then s c)
   stamps_line (searching k) = stamps_searching k

@@ -5,7 +5,7 @@ use native.Mathlib.Omega.{arith}
 use mathlib.Core.Path.{◌≡◌, refl, ap}
 use mathlib.Core.List.{List, [], ◌∷◌}
 use Rattle.sdp_lines.specs.Lines.{Raw, content, form_of}
-use Rattle.sdp_lines.specs.declared.Form.TheVariants.{Blank, Good}
+use Rattle.std.specs.Prelude.{Some, None, Ok}
 use Rattle.sdp_roles.specs.Roles.{role_at}
 use Rattle.sdp_roles.specs.Kinds.{Kind, unused, media, other, kind_of, by_kind}
 use Rattle.sdp_counts.specs.Count
@@ -32,22 +32,22 @@ unfolding Count.empty_lines Count.sum_from
 none_left k medias = counts_are (omega arith) (omega arith) (omega arith)
 
 module _ (k : Counts) (r : Raw) (rs : List Raw) where
-  pub blank_above : form_of (content r) ≡ Blank → plus k (count_lines (r ∷ rs)) ≡ plus (one_empty k) (count_lines rs)
+  pub blank_above : form_of (content r) ≡ Ok None → plus k (count_lines (r ∷ rs)) ≡ plus (one_empty k) (count_lines rs)
   unfolding Count.empty_lines Count.ignored_lines Count.kept_lines
   blank_above e = rw e (counts_are (omega arith) refl refl)
 
-  pub version_first : (l : ℕ) → form_of (content r) ≡ Good l → plus k (count_lines (r ∷ rs)) ≡ plus (one_kept k) (count_from 0 rs)
+  pub version_first : (l : ℕ) → form_of (content r) ≡ Ok (Some l) → plus k (count_lines (r ∷ rs)) ≡ plus (one_kept k) (count_from 0 rs)
   unfolding Count.empty_lines Count.ignored_lines Count.kept_lines
   version_first l e = rw e (counts_are (omega arith) refl (omega arith))
 
   module _ (medias : ℕ) where
-    pub blank_next : form_of (content r) ≡ Blank → plus k (count_from medias (r ∷ rs)) ≡ plus (one_empty k) (count_from medias rs)
+    pub blank_next : form_of (content r) ≡ Ok None → plus k (count_from medias (r ∷ rs)) ≡ plus (one_empty k) (count_from medias rs)
     unfolding Count.empty_lines Count.sum_from
     blank_next e =
         let m : medias + 0 ≡ medias = omega arith in
         rw e (counts_are (omega arith) (omega (arith, ap (λ (n : ℕ). ignored_from n rs) m)) (omega (arith, ap (λ (n : ℕ). used_from n rs) m)))
 
-    pub good_next : (l : ℕ) → form_of (content r) ≡ Good l → plus k (count_from medias (r ∷ rs)) ≡ plus (one_of (kind_of (role_at medias l)) k) (count_from (medias + opens (role_at medias l)) rs)
+    pub good_next : (l : ℕ) → form_of (content r) ≡ Ok (Some l) → plus k (count_from medias (r ∷ rs)) ≡ plus (one_of (kind_of (role_at medias l)) k) (count_from (medias + opens (role_at medias l)) rs)
     unfolding Count.empty_lines Count.sum_from
     good_next l e = rw e (go (kind_of (role_at medias l)))
       where

@@ -1,5 +1,5 @@
 -- Reading from a cursor on: what the functions promise that are lent the cutter.
-use Rattle.std.specs.Prelude.{ℕ, ◌+◌, ◌≤◌, ◌≡◌, List, length, drop}
+use Rattle.std.specs.Prelude.{ℕ, ◌+◌, ◌≤◌, ◌≡◌, List, length, drop, Result, Ok, Err}
 use Rattle.sdp_lines.specs.Lines.{split}
 use Rattle.sdp_lines.specs.declared.Span.{Span}
 use Rattle.sdp_lines.specs.declared.Cursor.{Cursor}
@@ -12,8 +12,8 @@ use Rattle.sdp_counts.specs.Count.{counts_of}
 use Rattle.sdp_counts.specs.declared.Counts.{Counts}
 use Rattle.sdp_cutter.specs.Cutter.{move_at}
 use Rattle.sdp_turn.specs.Turn.{Standing, Lined, line_of}
-use Rattle.sdp_turn.specs.declared.Ended.{Ended}
-use Rattle.sdp_turn.specs.declared.Ended.TheVariants.{Accepted, Stopped, Unread}
+use Rattle.sdp_turn.specs.declared.Failure.{Failure}
+use Rattle.sdp_turn.specs.declared.Failure.TheVariants.{Stopped, Unread}
 use Rattle.sdp_read.specs.Run.{Verdict, accepted, refused, run, begin, run_stamps, begin_stamps}
 
 -- a cursor that cutting from the start leads to: a line takes a byte at least
@@ -47,14 +47,13 @@ line_at s x c = line_of s x (move_at s c.at c.line).next
 
 -- the answer for lines that say v and have the counts c, where ls are the lines of what was read, and the area: where the version is refused,
 -- it is as it was
-abbrev pub Ends : Verdict Span → List ℕ → Counts → Ended → List ℕ → List ℕ → Type 0
-Ends (accepted s) ls c (Accepted d) a t = (d ≡ c) × (a ≡ area_of s ls t)
-Ends (accepted s) ls c (Stopped y) a t = ⊥
-Ends (accepted s) ls c (Unread y) a t = ⊥
-Ends (refused x) ls c (Accepted d) a t = ⊥
-Ends (refused x) ls c (Stopped y) a t = (y ≡ x) × (drop area_size a ≡ t)
-Ends (refused x) ls c (Unread y) a t = (y ≡ x) × (a ≡ area_of empty no_stamps t)
+abbrev pub Ends : Verdict Span → List ℕ → Counts → Result Counts Failure → List ℕ → List ℕ → Type 0
+Ends (accepted s) ls c (Ok d) a t = (d ≡ c) × (a ≡ area_of s ls t)
+Ends (accepted s) ls c (Err e) a t = ⊥
+Ends (refused x) ls c (Ok d) a t = ⊥
+Ends (refused x) ls c (Err (Stopped y)) a t = (y ≡ x) × (drop area_size a ≡ t)
+Ends (refused x) ls c (Err (Unread y)) a t = (y ≡ x) × (a ≡ area_of empty no_stamps t)
 
 -- the same of the lines from a cursor on
-abbrev pub EndsFrom : List ℕ → Cursor → Ended → List ℕ → List ℕ → Type 0
+abbrev pub EndsFrom : List ℕ → Cursor → Result Counts Failure → List ℕ → List ℕ → Type 0
 EndsFrom s c r a t = Ends (begin_at s c) (begin_stamps_at s c) (counts_at s c) r a t

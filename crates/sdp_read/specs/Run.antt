@@ -1,13 +1,11 @@
 -- Document 01, "Lines", "Refusal numbers": a text, line by line. The runner alone knows a line's number and its place;
 -- where both are plain numbers, the line's stands first.
-use Rattle.std.specs.Prelude.{ℕ, ◌+◌, cond, List, [], ◌∷◌, ◌++◌, length, drop, ltb, eqb}
+use Rattle.std.specs.Prelude.{ℕ, ◌+◌, cond, List, [], ◌∷◌, ◌++◌, length, drop, ltb, eqb, Some, None, Ok, Err}
 use Rattle.sdp_numbers.specs.Refusals as refusals
 use Rattle.sdp_numbers.specs.Refusals.{longest_text}
-use Rattle.sdp_lines.specs.Lines.{Raw, split, content, width, form_of}
+use Rattle.sdp_lines.specs.Lines.{Raw, split, content, width, form_of, Form}
 use Rattle.sdp_lines.specs.Answers.{fault_number}
 use Rattle.sdp_lines.specs.declared.Span.{Span}
-use Rattle.sdp_lines.specs.declared.Form.{Form}
-use Rattle.sdp_lines.specs.declared.Form.TheVariants.{Blank, Good, Bad}
 use Rattle.sdp_split.specs.declared.Piece.{Piece}
 use Rattle.sdp_cells.specs.Bytes.{zeros}
 use Rattle.sdp_area.specs.Columns.{area_size, area_of}
@@ -31,9 +29,9 @@ module _ {S : Type 0} (at : ℕ → List ℕ → Piece → S) where
 
   -- a line by its form. "Empty lines are counted, then skipped"; 3, 4 and 5 have no field; the value starts at the third byte
   abbrev pub step_form : Reading S → ℕ → List ℕ → Form → Stepped S
-  step_form ρ p l Blank = goes ρ
-  step_form ρ p l (Bad f) = stop (fault_number f) 0
-  step_form ρ p l (Good c) = step (at (p + 2) (drop 2 l)) ρ (drop 2 l) c
+  step_form ρ p l (Ok None) = goes ρ
+  step_form ρ p l (Err f) = stop (fault_number f) 0
+  step_form ρ p l (Ok (Some c)) = step (at (p + 2) (drop 2 l)) ρ (drop 2 l) c
 
   -- the lines after the version, from number n and place p on
   unfoldable pub run : Reading S → ℕ → ℕ → List Raw → Verdict S
@@ -47,9 +45,9 @@ module _ {S : Type 0} (at : ℕ → List ℕ → Piece → S) where
 
   -- "The first non-empty line must have letter `v`, else 6, also when there is none; its own form refusal comes first."
   abbrev pub begin_form : ℕ → ℕ → List ℕ → Form → Verdict S → Verdict S → Verdict S
-  begin_form n p l Blank skip k = skip
-  begin_form n p l (Bad f) skip k = on_line (fault_number f) n 0
-  begin_form n p l (Good c) skip k = version n (p + 2) (drop 2 l) c k
+  begin_form n p l (Ok None) skip k = skip
+  begin_form n p l (Err f) skip k = on_line (fault_number f) n 0
+  begin_form n p l (Ok (Some c)) skip k = version n (p + 2) (drop 2 l) c k
 
   unfoldable pub begin : ℕ → ℕ → List Raw → Verdict S
   begin n p [] = refused no_version

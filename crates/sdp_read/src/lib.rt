@@ -8,7 +8,6 @@ ghost use Rattle.sdp_area.specs.Columns.{area_size, area_of};
 ghost use Rattle.sdp_stamp.specs.Stamp.{no_stamps};
 ghost use Rattle.sdp_lines.specs.Lines.{start};
 ghost use Rattle.sdp_cutter.specs.Cutter.{move_at, standing, due};
-ghost use Rattle.sdp_line.specs.Version.{answer};
 ghost use Rattle.sdp_counts.specs.Count.{no_counts};
 ghost use Rattle.sdp_read.specs.Run.{read_text, told_of};
 ghost use Rattle.sdp_turn.specs.Turn.{Few, Turns, Passes};
@@ -18,18 +17,23 @@ use sdp_area::{AREA_SIZE, clear};
 use sdp_counts::Counts;
 use sdp_cutter::{Cutter, next_line};
 use sdp_lines::{Answer, LineNumber, Place};
-use sdp_turn::{Ended, State, Turn, turn_of};
+use sdp_turn::{Failure, State, turn_of};
 
 // What reading returns: the answer, and of an accepted text how many lines were empty, ignored and kept.
 #[repr(C)]
-#[derive(Drop)]
+#[derive(Clone, Copy)]
 pub struct Told {
     pub answer: Answer,
     pub counts: Counts,
 }
 
 // One line, and what it does to a reading: the cutter that is lent moves itself on.
-fn one_line(c: &mut Cutter, text: &[u8], area: &mut [u8], state: State) -> Turn
+fn one_line(
+    c: &mut Cutter,
+    text: &[u8],
+    area: &mut [u8],
+    state: State,
+) -> Result<Option<State>, Failure>
     requires { (area_size ≤ length area.old) × ((length text.now ≤ longest_text) × Few state) }
     ensures { (Turns (λ x. line_at text.now x (due c.old))
         state result area.old area.new
@@ -41,33 +45,20 @@ fn one_line(c: &mut Cutter, text: &[u8], area: &mut [u8], state: State) -> Turn
 }
 
 // All lines, the version line too: the cutter is lent for each.
-fn read_lines(c: &mut Cutter, text: &[u8], area: &mut [u8]) -> Ended
+fn read_lines(c: &mut Cutter, text: &[u8], area: &mut [u8]) -> Result<Counts, Failure>
     requires { (area_size ≤ length area.old) × ((length text.now ≤ longest_text) × Reached text.now (due c.old)) }
     ensures { (t : List ℕ) → area.old ≡ area_of empty no_stamps t
         → EndsFrom text.now (due c.old) result area.new t }
 {
-    let mut state = State {
-        named: false,
-        zoned: false,
-        begun: false,
-        kept: 0,
-        empty: 0,
-        ignored: 0,
-    };
-    loop {
-        match one_line(c, text, area, state) {
-            Turn::Goes(next) => {
-                state = next;
-            }
-            Turn::Over(ended) => {
-                return ended;
-            }
-        }
+    let mut state = State::default();
+    while let Some(next) = one_line(c, text, area, state)? {
+        state = next;
     }
+    Ok(state.counts())
 }
 
 // The lines from the first on: the cutter is made here, and lent.
-fn read_text(text: &[u8], area: &mut [u8]) -> Ended
+fn read_text(text: &[u8], area: &mut [u8]) -> Result<Counts, Failure>
     requires { (area_size ≤ length area.old) × (length text.now ≤ longest_text) }
     ensures { (t : List ℕ) → area.old ≡ area_of empty no_stamps t
         → EndsFrom text.now start result area.new t }
@@ -85,24 +76,7 @@ fn refused(x: Answer) -> Told
 {
     Told {
         answer: x,
-        counts: Counts {
-            empty: 0,
-            ignored: 0,
-            kept: 0,
-        },
-    }
-}
-
-// The number of an answer that names nothing else: 0, or the refusal of the whole text.
-fn plain(number: u64) -> Answer
-    ensures { result ≡ answer number 0 0 }
-{
-    Answer {
-        number,
-        line: 0,
-        field: 0,
-        place: 0,
-        len: 0,
+        counts: Counts::default(),
     }
 }
 
@@ -112,19 +86,19 @@ pub fn read(text: &[u8], area: &mut [u8]) -> Told
     ensures area_after { area.new ≡ (read_text text.now area.old).area }
 {
     if area.len() < AREA_SIZE {
-        return refused(plain(2));
+        return refused(Answer::plain(2));
     }
     if 32768 < text.len() {
-        return refused(plain(1));
+        return refused(Answer::plain(1));
     }
     clear(area);
     match read_text(text, area) {
-        Ended::Accepted(counts) => Told {
-            answer: plain(0),
+        Ok(counts) => Told {
+            answer: Answer::plain(0),
             counts,
         },
-        Ended::Unread(x) => refused(x),
-        Ended::Stopped(x) => {
+        Err(Failure::Unread(x)) => refused(x),
+        Err(Failure::Stopped(x)) => {
             clear(area);
             refused(x)
         }

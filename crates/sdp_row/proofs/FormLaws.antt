@@ -11,7 +11,7 @@ use Rattle.sdp_bytes.specs.Runs as runs
 use Rattle.sdp_bytes.proofs.ScanLaws.{and_left, and_right}
 use Rattle.sdp_lines.specs.Lines as cutter
 use Rattle.sdp_lines.specs.Lines.{split, chop, has_nul_or_cr, form_of}
-use Rattle.sdp_lines.specs.declared.Form.TheVariants.{Good}
+use Rattle.std.specs.Prelude.{Some, Ok}
 use Rattle.sdp_put.specs.Strings.{dropped}
 use Rattle.sdp_put.proofs.ByteLaws.{last_byte, but_last, every, every_so, every_append, lacks, bare}
 use Rattle.sdp_row.specs.Written as form
@@ -53,7 +53,7 @@ module _ (l : ℕ) (v : List ℕ) (good : letter l ≡ true) (h : bare v ≡ tru
   unfolding every
   whole_bare = (and-eq-true_iff (not (dropped l)) _).1 (and_left (not (dropped l)) _ good, h)
 
-  pub line_form : form_of (l ∷ 0x3d ∷ v) ≡ Good l
+  pub line_form : form_of (l ∷ 0x3d ∷ v) ≡ Ok (Some l)
   unfolding cutter.form_of cutter.plain_form runs.index_of
   line_form =
       rw (bare_form (l ∷ 0x3d ∷ v) whole_bare, not-true (eqb l 0x3d) (and_right (not (dropped l)) _ good), ne_eqb 1 (suc (suc (length v))) (λ e. omega arith), ne_eqb (suc (suc (length v))) 0 (λ e. omega arith))

@@ -9,13 +9,12 @@ use lib.Dec.{eqb}
 use lib.ListN.{length, take, drop, length-drop, take-append-drop, drop_of_length-le}
 use lib.Seq.{take-append-le, drop-append-le, drop-drop}
 use Rattle.sdp_lines.specs.Lines as cut
-use Rattle.sdp_lines.specs.Lines.{Raw, split, content, width, form_of}
+use Rattle.sdp_lines.specs.Lines.{Raw, split, content, width, form_of, Form}
 use Rattle.sdp_lines.specs.Quick.{first_raw}
 use Rattle.sdp_lines.specs.Strings.{bytes_of}
 use Rattle.sdp_lines.specs.declared.Span.{Span}
 use Rattle.sdp_lines.specs.declared.Answer.{Answer}
-use Rattle.sdp_lines.specs.declared.Form.{Form}
-use Rattle.sdp_lines.specs.declared.Form.TheVariants.{Blank, Good, Bad}
+use Rattle.std.specs.Prelude.{Some, None, Ok, Err}
 use Rattle.sdp_lines.proofs.LineLaws.{split_at_place, content-front, good_form}
 use Rattle.sdp_split.specs.Split.{part, Inside}
 use Rattle.sdp_split.specs.declared.Piece.{Piece}
@@ -65,9 +64,9 @@ module _ (t : List ℕ) where
   after-said (stops w) y e n p j k h = ap (λ (z : Stepped (List ℕ)). after bytes_at z n p k) e
 
   form_said : (p : ℕ) (l : List ℕ) → Stands t p l → (ρ : Reading Span) (g : Form) → form_of l ≡ g → said_step f (step_form span_at ρ p l g) ≡ step_form bytes_at (said_reading f ρ) p l g
-  form_said p l w ρ Blank e = refl
-  form_said p l w ρ (Bad x) e = refl
-  form_said p l w ρ (Good c) e =
+  form_said p l w ρ (Ok None) e = refl
+  form_said p l w ρ (Err x) e = refl
+  form_said p l w ρ (Ok (Some c)) e =
       line-said f (drop 2 l) (span_at (p + 2) (drop 2 l)) (bytes_at (p + 2) (drop 2 l)) (piece_said (p + 2) (drop 2 l) (stands_drop p l w 2 (good_form l c e))) ρ c
 
   -- the lines after the version
@@ -89,9 +88,9 @@ module _ (t : List ℕ) where
       go false b = refl
 
   begin_form_said : (n p : ℕ) (l : List ℕ) (g : Form) (s k : Verdict Span) (s' k' : Verdict (List ℕ)) → said_verdict f s ≡ s' → said_verdict f k ≡ k' → said_verdict f (begin_form span_at n p l g s k) ≡ begin_form bytes_at n p l g s' k'
-  begin_form_said n p l Blank s k s' k' e q = e
-  begin_form_said n p l (Bad x) s k s' k' e q = refl
-  begin_form_said n p l (Good c) s k s' k' e q = version-said n (p + 2) (drop 2 l) c k k' q
+  begin_form_said n p l (Ok None) s k s' k' e q = e
+  begin_form_said n p l (Err x) s k s' k' e q = refl
+  begin_form_said n p l (Ok (Some c)) s k s' k' e q = version-said n (p + 2) (drop 2 l) c k k' q
 
   begin-said : (rs : List Raw) (n p : ℕ) → split (drop p t) ≡ rs → said_verdict f (begin span_at n p rs) ≡ begin bytes_at n p rs
   unfolding reader.begin

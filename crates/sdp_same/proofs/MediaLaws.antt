@@ -4,8 +4,8 @@ use native.Mathlib.Omega.{arith}
 use mathlib.Core.Path.{◌≡◌}
 use mathlib.Core.List.{List}
 use lib.ListN.{length, drop}
-use Rattle.sdp_lines.specs.declared.Form.{Form}
-use Rattle.sdp_lines.specs.declared.Form.TheVariants.{Blank, Good, Bad}
+use Rattle.std.specs.Prelude.{Some, None, Ok, Err}
+use Rattle.sdp_lines.specs.Lines.{Form}
 use Rattle.sdp_split.specs.declared.Piece.{Piece}
 use Rattle.sdp_roles.specs.Roles.{role_at}
 use Rattle.sdp_step.specs.Step.{Reading}
@@ -19,6 +19,6 @@ module _ {S : Type 0} (at : ℕ → List ℕ → Piece → S) (ρ : Reading S) (
   medias = length ρ.session.tables.medias
 
   pub line-medias : (f : Form) → Going (λ τ. length τ.session.tables.medias ≡ medias + opens (role_of medias f)) (step_form at ρ p l f)
-  line-medias Blank = on _ ρ (omega arith)
-  line-medias (Bad f) = off _ _
-  line-medias (Good c) = step-medias (at (p + 2) (drop 2 l)) ρ (drop 2 l) (role_at medias c)
+  line-medias (Ok None) = on _ ρ (omega arith)
+  line-medias (Err f) = off _ _
+  line-medias (Ok (Some c)) = step-medias (at (p + 2) (drop 2 l)) ρ (drop 2 l) (role_at medias c)

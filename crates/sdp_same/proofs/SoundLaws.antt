@@ -7,14 +7,13 @@ use mathlib.Core.List.{List, [], ◌∷◌}
 use lib.Dec.{eqb, lit<}
 use lib.ListN.{length, drop, length-drop, length-append}
 use Rattle.sdp_utf8.specs.Utf8.{is_utf8}
-use Rattle.sdp_lines.specs.Lines.{Raw, split, content, width, form_of}
+use Rattle.sdp_lines.specs.Lines.{Raw, split, content, width, form_of, Form}
 use Rattle.sdp_lines.specs.declared.Span.{Span}
 use Rattle.sdp_lines.specs.Answers.{fault_number}
 use Rattle.sdp_lines.specs.declared.Answer.{Answer}
 use Rattle.sdp_lines.specs.declared.Fault.{Fault}
 use Rattle.sdp_lines.specs.declared.Fault.TheVariants as fault
-use Rattle.sdp_lines.specs.declared.Form.{Form}
-use Rattle.sdp_lines.specs.declared.Form.TheVariants.{Blank, Good, Bad}
+use Rattle.std.specs.Prelude.{Some, None, Ok, Err}
 use Rattle.sdp_lines.proofs.LineLaws.{good_form}
 use Rattle.sdp_split.specs.declared.Piece.{Piece}
 use Rattle.sdp_area.specs.Session.{Session, empty}
@@ -71,9 +70,9 @@ module _ (t : List ℕ) where
 
   -- ---- the lines after the version
   pub form_sound : (p : ℕ) (l : List ℕ) → Stands t p l → (ρ : Reading Span) → Kept ρ → (g : Form) → form_of l ≡ g → Goes Kept (step_form span_at ρ p l g)
-  form_sound p l w ρ h Blank e = h
-  form_sound p l w ρ h (Bad x) e = fault_number_lem x
-  form_sound p l w ρ h (Good c) e =
+  form_sound p l w ρ h (Ok None) e = h
+  form_sound p l w ρ h (Err x) e = fault_number_lem x
+  form_sound p l w ρ h (Ok (Some c)) e =
       let two : 2 ≤ length l = good_form l c e in
       let inside : p + length l ≤ length t = stands_inside p l w (omega arith) in
       line_kept (drop 2 l) (span_at (p + 2) (drop 2 l)) (FineIn t) (fine_in (p + 2) (drop 2 l) (stands_drop t p l w 2 two) (omega (arith, length-drop 2 l))) ρ h c
@@ -100,9 +99,9 @@ module _ (t : List ℕ) where
       go false b = lit< tt
 
   begin_form_sound : (n p : ℕ) (l : List ℕ) (g : Form) (s k : Verdict Span) → Whole s → Whole k → Whole (begin_form span_at n p l g s k)
-  begin_form_sound n p l Blank s k x y = x
-  begin_form_sound n p l (Bad f) s k x y = fault_number_lem f
-  begin_form_sound n p l (Good c) s k x y = version_sound n (p + 2) (drop 2 l) c k y
+  begin_form_sound n p l (Ok None) s k x y = x
+  begin_form_sound n p l (Err f) s k x y = fault_number_lem f
+  begin_form_sound n p l (Ok (Some c)) s k x y = version_sound n (p + 2) (drop 2 l) c k y
 
   begin_sound : (rs : List Raw) (n p : ℕ) → split (drop p t) ≡ rs → Whole (begin span_at n p rs)
   unfolding reader.begin

@@ -8,10 +8,9 @@ use lib.Dec.{eqb}
 use lib.ListN.{length, take, drop, replicate}
 use Rattle.sdp_numbers.specs.Refusals.{highest_line}
 use Rattle.sdp_lines.specs.Lines as cut
-use Rattle.sdp_lines.specs.Lines.{Raw, onto, split, content, width, form_of}
+use Rattle.sdp_lines.specs.Lines.{Raw, onto, split, content, width, form_of, Form}
 use Rattle.sdp_lines.specs.declared.Span.{Span}
-use Rattle.sdp_lines.specs.declared.Form.{Form}
-use Rattle.sdp_lines.specs.declared.Form.TheVariants.{Blank, Good, Bad}
+use Rattle.std.specs.Prelude.{Some, None, Ok, Err}
 use Rattle.sdp_cells.specs.Bytes as bytes
 use Rattle.sdp_cells.proofs.ByteLaws.{length-zeros}
 use Rattle.sdp_area.specs.Session.{Session, Within}
@@ -101,9 +100,9 @@ line-each (b ∷ t) = go (eqb b 10) (split t) (line-each t)
 
 -- ---- line by line: n is the number of the first of the lines
 version_low : (g : Form) (skip here : List ℕ) → LowLines skip → LowLines here → LowLines (from_version g skip here)
-version_low Blank skip here a b = a
-version_low (Good c) skip here a b = b
-version_low (Bad x) skip here a b = b
+version_low (Ok None) skip here a b = a
+version_low (Ok (Some c)) skip here a b = b
+version_low (Err x) skip here a b = b
 
 module _ (t : List ℕ) where
   after_low : (x : Stepped Span) (ρ : Reading Span) (n : ℕ) (ls : List ℕ) (k : Reading Span → List ℕ → List ℕ) → Goes (Kept t) x → n ≤ highest_line → LowLines ls

@@ -34,14 +34,11 @@ use Rattle.sdp_stamp.proofs.CellLaws.{stamped-length}
 use Rattle.sdp_stamp.proofs.StampLaws.{step_stamps}
 use Rattle.sdp_counts.specs.declared.Counts.{Counts}
 use Rattle.sdp_line.specs.Version.{answer, no_version, opening_of}
-use Rattle.sdp_line.specs.declared.Opening.{Opening}
-use Rattle.sdp_line.specs.declared.Opening.TheVariants as opening
 use Rattle.sdp_turn.specs.Turn.{wrong_at, one_empty, one_ignored, one_kept, one_of, searching, reading, Lined, opened_to, stepped, line_of}
-use Rattle.sdp_turn.specs.Turn.{marks_in, counts_in, lines_in, empty_more, ignored_more, kept_more, refused_turn, end_turn, opened_turn_to, opened_turn, Carries, Turned, Turns, Counted, GoodTurns, Passes}
+use Rattle.sdp_turn.specs.Turn.{marks_in, counts_in, lines_in, empty_more, ignored_more, kept_more, Turn, failure_of, end_turn, opened_turn_to, opened_turn, Carries, Turned, Turns, Counted, Stays, GoodTurns, Passes}
 use Rattle.sdp_turn.specs.declared.State.{State}
-use Rattle.sdp_turn.specs.declared.Ended.TheVariants.{Accepted, Stopped, Unread}
-use Rattle.sdp_turn.specs.declared.Turn.{Turn}
-use Rattle.sdp_turn.specs.declared.Turn.TheVariants.{Goes, Over}
+use Rattle.sdp_turn.specs.declared.Failure.TheVariants.{Stopped, Unread}
+use Rattle.std.specs.Prelude.{Some, None, Result, Ok, Err}
 
 -- ---- one line more
 module _ (g : State) where
@@ -114,7 +111,7 @@ module _ (s : List ℕ) (n l : ℕ) (v : Span) (g : State) (a a' : List ℕ) whe
 
   -- m medias and o offsets were there before it, and the area a'' is there after its line was stamped
   pub good_kept : (m : Marks) (ms o : ℕ) (q : Role) (a'' : List ℕ) → ms ≡ num 2 a medias_at → o ≡ num 2 a offsets_at → q ≡ role_at ms l → a'' ≡ put_column (column_of q) o n a'
-      → Tells (role_in l) v.at.0 (bytes_of s v) (marks_in g) (taken.Kept m) a a' → GoodTurns s n l v g (Goes (kept_more g m)) a a''
+      → Tells (role_in l) v.at.0 (bytes_of s v) (marks_in g) (taken.Kept m) a a' → GoodTurns s n l v g (Ok (Some (kept_more g m))) a a''
   good_kept m ms o q a'' counted before its is h = (λ ρ ls c t k. go ρ ls c t k (kind_of (role_in l ρ)) (step_of ρ) refl (h ρ (pairs ls ++ t) k.holds), kept-counted g m)
     where
       stamps : (ρ : Reading Span) (ls : List ℕ) (c : Counts) (t : List ℕ) → Carries true ρ ls c g a t → a'' ≡ put_column (column_of (role_in l ρ)) (length ρ.session.tables.offsets) n a'
@@ -127,17 +124,17 @@ module _ (s : List ℕ) (n l : ℕ) (v : Span) (g : State) (a a' : List ℕ) whe
           → Carries true τ (stamped n ρ.session τ.session ls) (one_kept c) (kept_more g m) a'' t
       goes_on ρ ls c t k τ e h = carried ρ ls c t k τ a'' (kept_more g m) (one_kept c) h refl (ap one_kept k.counts) (stamps ρ ls c t k ∙ put ρ ls c t k τ m e h)
 
-      go : (ρ : Reading Span) (ls : List ℕ) (c : Counts) (t : List ℕ) → Carries true ρ ls c g a t → (k : Kind) (x : Stepped Span) → step_of ρ ≡ x → Lands k x (marks_in g) (taken.Kept m) a' (pairs ls ++ t) → Turned (after k ρ ls c x) (Goes (kept_more g m)) a'' t
+      go : (ρ : Reading Span) (ls : List ℕ) (c : Counts) (t : List ℕ) → Carries true ρ ls c g a t → (k : Kind) (x : Stepped Span) → step_of ρ ≡ x → Lands k x (marks_in g) (taken.Kept m) a' (pairs ls ++ t) → Turned (after k ρ ls c x) g (Ok (Some (kept_more g m))) a'' t
       go ρ ls c t k unused x e h = absurd h
       go ρ ls c t k media (goes τ) e h = goes_on ρ ls c t k τ e h
       go ρ ls c t k media (stops w) e h = absurd h
       go ρ ls c t k other (goes τ) e h = goes_on ρ ls c t k τ e h
       go ρ ls c t k other (stops w) e h = absurd h
 
-  pub good_idle : Tells (role_in l) v.at.0 (bytes_of s v) (marks_in g) taken.Idle a a' → GoodTurns s n l v g (Goes (ignored_more g)) a a'
+  pub good_idle : Tells (role_in l) v.at.0 (bytes_of s v) (marks_in g) taken.Idle a a' → GoodTurns s n l v g (Ok (Some (ignored_more g))) a a'
   good_idle h = (λ ρ ls c t k. go ρ ls c t k (kind_of (role_in l ρ)) (only (role_in l ρ)) (step_of ρ) refl (h ρ (pairs ls ++ t) k.holds), ignored_counted g)
     where
-      go : (ρ : Reading Span) (ls : List ℕ) (c : Counts) (t : List ℕ) → Carries true ρ ls c g a t → (k : Kind) → Only k (role_in l ρ) → (x : Stepped Span) → step_of ρ ≡ x → Lands k x (marks_in g) taken.Idle a' (pairs ls ++ t) → Turned (after k ρ ls c x) (Goes (ignored_more g)) a' t
+      go : (ρ : Reading Span) (ls : List ℕ) (c : Counts) (t : List ℕ) → Carries true ρ ls c g a t → (k : Kind) → Only k (role_in l ρ) → (x : Stepped Span) → step_of ρ ≡ x → Lands k x (marks_in g) taken.Idle a' (pairs ls ++ t) → Turned (after k ρ ls c x) g (Ok (Some (ignored_more g))) a' t
       go ρ ls c t k unused q (goes τ) e h =
           carried ρ ls c t k τ a' (ignored_more g) (one_ignored c) h k.begun_is (ap one_ignored k.counts)
           (ap (λ (x : Role). put_column (column_of x) (length ρ.session.tables.offsets) n a') (sym q) ∙ put ρ ls c t k τ (marks_in g) e h)
@@ -148,13 +145,13 @@ module _ (s : List ℕ) (n l : ℕ) (v : Span) (g : State) (a a' : List ℕ) whe
       go ρ ls c t k other q (stops w) e h = absurd h
 
   pub good_refused : (w : Wrong) (y : Answer) → ((ρ : Reading Span) → step_of ρ ≡ stops w → y ≡ wrong_at n v.at.0 w)
-      → Tells (role_in l) v.at.0 (bytes_of s v) (marks_in g) (taken.Refused w) a a' → GoodTurns s n l v g (Over (Stopped y)) a a'
+      → Tells (role_in l) v.at.0 (bytes_of s v) (marks_in g) (taken.Refused w) a a' → GoodTurns s n l v g (Err (Stopped y)) a a'
   good_refused w y is h = (λ ρ ls c t k. go ρ ls c t k (kind_of (role_in l ρ)) (step_of ρ) refl (h ρ (pairs ls ++ t) k.holds), tt)
     where
       told : (ρ : Reading Span) (x : Wrong) → step_of ρ ≡ stops x → w ≡ x → y ≡ wrong_at n v.at.0 x
       told ρ x e q = is ρ (e ∙ ap stops (sym q)) ∙ ap (wrong_at n v.at.0) q
 
-      go : (ρ : Reading Span) (ls : List ℕ) (c : Counts) (t : List ℕ) → Carries true ρ ls c g a t → (k : Kind) (x : Stepped Span) → step_of ρ ≡ x → Lands k x (marks_in g) (taken.Refused w) a' (pairs ls ++ t) → Turned (after k ρ ls c x) (Over (Stopped y)) a' t
+      go : (ρ : Reading Span) (ls : List ℕ) (c : Counts) (t : List ℕ) → Carries true ρ ls c g a t → (k : Kind) (x : Stepped Span) → step_of ρ ≡ x → Lands k x (marks_in g) (taken.Refused w) a' (pairs ls ++ t) → Turned (after k ρ ls c x) g (Err (Stopped y)) a' t
       go ρ ls c t k unused x e h = absurd h
       go ρ ls c t k media (goes τ) e h = absurd h
       go ρ ls c t k media (stops x) e h = (told ρ x e h.0, behind-lines a' ls t k.lines h.1)
@@ -163,7 +160,7 @@ module _ (s : List ℕ) (n l : ℕ) (v : Span) (g : State) (a a' : List ℕ) whe
 
 -- the answer as the code makes it: x is the sum that could wrap
 pub byte_told : (n p : ℕ) (w : Wrong) (x : ℕ) → w.number ≡ 8 → x ≡ (p + w.at) % 2 ^ 64 → (w.number ≡ 8 → p + w.at < 2 ^ 64)
-    → record { number = 8; line = n; field = w.field; place = x; len = 0 } ≡ wrong_at n p w
+    → record { number = w.number; line = n; field = w.field; place = x; len = 0 } ≡ wrong_at n p w
 byte_told n p w x e q h = rw (e, q, mod-eq_of_lt (h e))
 
 pub none_told : (n p : ℕ) (w : Wrong) → (w.number ≡ 8 → ⊥) → answer w.number n w.field ≡ wrong_at n p w
@@ -184,25 +181,25 @@ module _ (s : List ℕ) (g : State) (a : List ℕ) where
       turns (searching c) t k = rw k.begun_is (refl, k.holds.bytes)
       turns (reading ρ ls c) t k = rw k.begun_is (k.counts, k.holds.bytes)
 
-      passes : (b : Bool) → Passes End g (cond b (Over (Accepted (counts_in g))) (Over (Unread no_version)))
+      passes : (b : Bool) → Passes End g (cond {A = Turn} b (Ok None) (Err (Unread no_version)))
       passes true = tt
       passes false = tt
 
-  pub turns_bad : (f : Fault) (n : LineNumber) → Turns (λ x. line_of s x (Refused f n)) g (refused_turn g.begun (answer (fault_number f) n.0 0)) a a × Passes (Refused f n) g (refused_turn g.begun (answer (fault_number f) n.0 0))
+  pub turns_bad : (f : Fault) (n : LineNumber) → Turns (λ x. line_of s x (Refused f n)) g (Err (failure_of g.begun (answer (fault_number f) n.0 0))) a a × Passes (Refused f n) g (Err (failure_of g.begun (answer (fault_number f) n.0 0)))
   turns_bad f n = (turns, passes g.begun)
     where
-      turns : Turns (λ x. line_of s x (Refused f n)) g (refused_turn g.begun (answer (fault_number f) n.0 0)) a a
+      turns : Turns (λ x. line_of s x (Refused f n)) g (Err (failure_of g.begun (answer (fault_number f) n.0 0))) a a
       turns (searching c) t k = rw k.begun_is (refl, k.holds.bytes)
       turns (reading ρ ls c) t k = rw k.begun_is (refl, behind-lines a ls t k.lines (tail_of k.holds))
 
-      passes : (b : Bool) → Passes (Refused f n) g (refused_turn b (answer (fault_number f) n.0 0))
+      passes : (b : Bool) → Passes (Refused f n) g (Err (failure_of b (answer (fault_number f) n.0 0)))
       passes true = tt
       passes false = tt
 
-  pub turns_empty : Turns (λ x. line_of s x Empty) g (Goes (empty_more g)) a a × Passes Empty g (Goes (empty_more g))
+  pub turns_empty : Turns (λ x. line_of s x Empty) g (Ok (Some (empty_more g))) a a × Passes Empty g (Ok (Some (empty_more g)))
   turns_empty = (turns, empty-counted g)
     where
-      turns : Turns (λ x. line_of s x Empty) g (Goes (empty_more g)) a a
+      turns : Turns (λ x. line_of s x Empty) g (Ok (Some (empty_more g))) a a
       turns (searching c) t k = record { begun_is = k.begun_is; holds = k.holds; lines = k.lines; counts = ap one_empty k.counts }
       turns (reading ρ ls c) t k = record { begun_is = k.begun_is; holds = k.holds; lines = k.lines; counts = ap one_empty k.counts }
 
@@ -220,11 +217,11 @@ module _ (s : List ℕ) (g : State) (a : List ℕ) where
         turns : Turns (λ x. line_of s x (Found n l v)) g (opened_turn s g n.0 l v) a a
         turns (searching c) t k = go (opening_of n.0 v.at.0 l (bytes_of s v))
           where
-            go : (o : Opening) → Turned (opened_to c o) (opened_turn_to g o) a t
-            go opening.Zero = record { begun_is = refl; holds = k.holds; lines = k.lines; counts = ap one_kept k.counts }
-            go (opening.Refused x) = (refl, k.holds.bytes)
+            go : (o : Result (Unit {0}) Answer) → Turned (opened_to c o) g (opened_turn_to g o) a t
+            go (Ok u) = record { begun_is = refl; holds = k.holds; lines = k.lines; counts = ap one_kept k.counts }
+            go (Err x) = (refl, k.holds.bytes)
         turns (reading ρ ls c) t k = absurd (false≢true (sym e ∙ k.begun_is))
 
-        passes : (o : Opening) → Counted g (opened_turn_to g o)
-        passes opening.Zero = kept-counted g (marks_in g)
-        passes (opening.Refused x) = tt
+        passes : (o : Result (Unit {0}) Answer) → Counted g (opened_turn_to g o)
+        passes (Ok u) = kept-counted g (marks_in g)
+        passes (Err x) = tt

@@ -1,6 +1,6 @@
 -- Document 01, "Lines", "Refusal numbers": what one line does to a reading, by what the cutter found. Document 02, P9: to the lines
 -- of what was read; P11: and to the counts.
-use Rattle.std.specs.Prelude.{◌≡◌, ℕ, ◌+◌, ◌≤◌, Bool, true, false, cond, List, ◌++◌, length, drop, ◌==◌}
+use Rattle.std.specs.Prelude.{◌≡◌, ℕ, ◌+◌, ◌≤◌, Bool, true, false, cond, List, ◌++◌, length, drop, ◌==◌, Option, Some, None, Result, Ok, Err}
 use Rattle.sdp_numbers.specs.Refusals as refusals
 use Rattle.sdp_numbers.specs.Refusals.{longest_text}
 use Rattle.sdp_lines.specs.Strings.{bytes_of}
@@ -21,12 +21,9 @@ use Rattle.sdp_step.specs.Hold.{Holds, role_in}
 use Rattle.sdp_step.specs.declared.Marks.{Marks}
 use Rattle.sdp_counts.specs.declared.Counts.{Counts}
 use Rattle.sdp_line.specs.Version.{answer, no_version, opening_of}
-use Rattle.sdp_line.specs.declared.Opening.{Opening}
-use Rattle.sdp_line.specs.declared.Opening.TheVariants as opening
 use Rattle.sdp_turn.specs.declared.State.{State}
-use Rattle.sdp_turn.specs.declared.Ended.TheVariants.{Accepted, Stopped, Unread}
-use Rattle.sdp_turn.specs.declared.Turn.{Turn}
-use Rattle.sdp_turn.specs.declared.Turn.TheVariants.{Goes, Over}
+use Rattle.sdp_turn.specs.declared.Failure.{Failure}
+use Rattle.sdp_turn.specs.declared.Failure.TheVariants.{Stopped, Unread}
 
 -- what the cutter found stands in the text
 abbrev pub Inside : List ℕ → Next → Type 0
@@ -85,9 +82,9 @@ pub data Lined : Type 0 where
   unread : Answer → Lined
 
 -- the first line that is not empty
-abbrev pub opened_to : Counts → Opening → Lined
-opened_to c opening.Zero = on (reading fresh no_stamps (one_kept c))
-opened_to c (opening.Refused x) = unread x
+abbrev pub opened_to : Counts → Result (Unit {0}) Answer → Lined
+opened_to c (Ok u) = on (reading fresh no_stamps (one_kept c))
+opened_to c (Err x) = unread x
 
 -- after the step of the line with number n, whose value stands at place p; x was the session before it and l its lines, c are the counts with it
 abbrev pub stepped : ℕ → ℕ → Session Span → List ℕ → Counts → Stepped Span → Lined
@@ -140,19 +137,23 @@ abbrev pub kept_more : State → Marks → State
 kept_more g m = record { named = m.named; zoned = m.zoned; begun = true; empty = g.empty; ignored = g.ignored; kept = g.kept + 1 }
 
 -- ---- the code's answers
+-- a reading goes on with a state; the lines are at their end, and the state before it has their counts; or the reading fails
+abbrev pub Turn : Type 0
+Turn = Result (Option State) Failure
+
 -- a refusal, after the version line or before it
-abbrev pub refused_turn : Bool → Answer → Turn
-refused_turn true x = Over (Stopped x)
-refused_turn false x = Over (Unread x)
+abbrev pub failure_of : Bool → Answer → Failure
+failure_of true x = Stopped x
+failure_of false x = Unread x
 
 -- no line is left
 abbrev pub end_turn : State → Turn
-end_turn g = cond g.begun (Over (Accepted (counts_in g))) (Over (Unread no_version))
+end_turn g = cond g.begun (Ok None) (Err (Unread no_version))
 
 -- the first line that is not empty, by what it says
-abbrev pub opened_turn_to : State → Opening → Turn
-opened_turn_to g opening.Zero = Goes (kept_more g (marks_in g))
-opened_turn_to g (opening.Refused x) = Over (Unread x)
+abbrev pub opened_turn_to : State → Result (Unit {0}) Answer → Turn
+opened_turn_to g (Ok u) = Ok (Some (kept_more g (marks_in g)))
+opened_turn_to g (Err x) = Err (Unread x)
 
 -- a line of good form, as good_line
 abbrev pub opened_turn : List ℕ → State → ℕ → ℕ → Span → Turn
@@ -171,42 +172,46 @@ abbrev pub Stands : Standing → State → List ℕ → List ℕ → Type 0
 Stands (searching c) g a t = Carries false fresh no_stamps c g a t
 Stands (reading ρ ls c) g a t = Carries true ρ ls c g a t
 
--- the code's answer for a line, and the area: after a refused line of a session only the bytes behind it still count
-abbrev pub Turned : Lined → Turn → List ℕ → List ℕ → Type 0
-Turned (on x) (Goes g) a t = Stands x g a t
-Turned (on x) (Over e) a t = ⊥
-Turned (ended s ls c) (Over (Accepted d)) a t = (d ≡ c) × (a ≡ area_of s ls t)
-Turned (ended s ls c) (Over (Stopped y)) a t = ⊥
-Turned (ended s ls c) (Over (Unread y)) a t = ⊥
-Turned (ended s ls c) (Goes g) a t = ⊥
-Turned (stopped x) (Over (Stopped y)) a t = (y ≡ x) × (drop area_size a ≡ t)
-Turned (stopped x) (Over (Accepted d)) a t = ⊥
-Turned (stopped x) (Over (Unread y)) a t = ⊥
-Turned (stopped x) (Goes g) a t = ⊥
-Turned (unread x) (Over (Unread y)) a t = (y ≡ x) × (a ≡ area_of empty no_stamps t)
-Turned (unread x) (Over (Accepted d)) a t = ⊥
-Turned (unread x) (Over (Stopped y)) a t = ⊥
-Turned (unread x) (Goes g) a t = ⊥
+-- the code's answer for a line, where g was the state before it, and the area: after a refused line of a session only the bytes behind it
+-- still count
+abbrev pub Turned : Lined → State → Turn → List ℕ → List ℕ → Type 0
+Turned (on x) g (Ok (Some h)) a t = Stands x h a t
+Turned (on x) g (Ok None) a t = ⊥
+Turned (on x) g (Err e) a t = ⊥
+Turned (ended s ls c) g (Ok (Some h)) a t = ⊥
+Turned (ended s ls c) g (Ok None) a t = (counts_in g ≡ c) × (a ≡ area_of s ls t)
+Turned (ended s ls c) g (Err e) a t = ⊥
+Turned (stopped x) g (Ok r) a t = ⊥
+Turned (stopped x) g (Err (Stopped y)) a t = (y ≡ x) × (drop area_size a ≡ t)
+Turned (stopped x) g (Err (Unread y)) a t = ⊥
+Turned (unread x) g (Ok r) a t = ⊥
+Turned (unread x) g (Err (Stopped y)) a t = ⊥
+Turned (unread x) g (Err (Unread y)) a t = (y ≡ x) × (a ≡ area_of empty no_stamps t)
 
 -- whatever the state and the area held
 abbrev pub Turns : (Standing → Lined) → State → Turn → List ℕ → List ℕ → Type 0
-Turns f g r a a' = (x : Standing) (t : List ℕ) → Stands x g a t → Turned (f x) r a' t
+Turns f g r a a' = (x : Standing) (t : List ℕ) → Stands x g a t → Turned (f x) g r a' t
 
 -- a reading that goes on has one line more
 abbrev pub Counted : State → Turn → Type 0
-Counted g (Goes h) = lines_in h ≡ lines_in g + 1
-Counted g (Over e) = Unit {0}
+Counted g (Ok (Some h)) = lines_in h ≡ lines_in g + 1
+Counted g (Ok None) = Unit {0}
+Counted g (Err e) = Unit {0}
 
 -- a line of good form after the version line
 abbrev pub GoodTurns : List ℕ → ℕ → ℕ → Span → State → Turn → List ℕ → List ℕ → Type 0
 GoodTurns s n l v g r a a' =
-    ((ρ : Reading Span) (ls : List ℕ) (c : Counts) (t : List ℕ) → Carries true ρ ls c g a t → Turned (good_line s ρ ls c n l v) r a' t) × Counted g r
+    ((ρ : Reading Span) (ls : List ℕ) (c : Counts) (t : List ℕ) → Carries true ρ ls c g a t → Turned (good_line s ρ ls c n l v) g r a' t) × Counted g r
+
+-- a reading doesn't go on
+abbrev pub Stays : Turn → Type 0
+Stays (Ok (Some h)) = ⊥
+Stays (Ok None) = Unit {0}
+Stays (Err e) = Unit {0}
 
 -- a reading goes on only past a line
 abbrev pub Passes : Next → State → Turn → Type 0
 Passes (Found n l v) g r = Counted g r
 Passes Empty g r = Counted g r
-Passes (Refused f n) g (Goes h) = ⊥
-Passes (Refused f n) g (Over e) = Unit {0}
-Passes End g (Goes h) = ⊥
-Passes End g (Over e) = Unit {0}
+Passes (Refused f n) g r = Stays r
+Passes End g r = Stays r

@@ -4,23 +4,22 @@
 ghost use Rattle.std.specs.Prelude.{◌≡◌, ◌+◌, ◌^◌, ◌<◌, ◌≤◌, length};
 ghost use Rattle.sdp_numbers.specs.Refusals.{longest_text, encoding};
 ghost use Rattle.sdp_area.specs.Columns.{area_size};
-ghost use Rattle.sdp_line.specs.Version.{answer};
 ghost use Rattle.sdp_turn.specs.Turn.{Inside, Few, marks_in, counts_in, empty_more, ignored_more, kept_more};
-ghost use Rattle.sdp_turn.specs.Turn.{wrong_at, refused_turn, end_turn, opened_turn, GoodTurns, line_of, Turns, Passes};
+ghost use Rattle.sdp_turn.specs.Turn.{wrong_at, failure_of, end_turn, opened_turn, GoodTurns, line_of, Turns, Passes};
 
 use sdp_area::{medias, offsets};
 use sdp_counts::Counts;
 use sdp_cutter::Next;
 use sdp_judge::Wrong;
-use sdp_line::{Opening, opening_line, take};
-use sdp_lines::{Answer, LineNumber, Place, Span, fault_number};
+use sdp_line::{opening_line, take};
+use sdp_lines::{Answer, LineNumber, Place, Span};
 use sdp_roles::role_at;
 use sdp_stamp::stamp;
 use sdp_step::{Marks, Taken};
 
 // What a reading carries from line to line beside the area: the marks, whether the version line is behind it, and how many
 // lines were kept, empty and ignored so far. In another order the compiled loop is slower (docs/SPEED.md).
-#[derive(Clone, Copy)]
+#[derive(Clone, Copy, Default)]
 pub struct State {
     pub named: bool,
     pub zoned: bool,
@@ -30,97 +29,69 @@ pub struct State {
     pub ignored: u64,
 }
 
-// How the lines ended. Where the version is refused, none was read.
-#[derive(Drop)]
-pub enum Ended {
-    Accepted(Counts),
+// Why a reading fails: a line is refused; or the version is, or a line above it, and no line was read.
+#[derive(Clone, Copy, Debug, PartialEq, Eq)]
+pub enum Failure {
     Stopped(Answer),
     Unread(Answer),
 }
 
-// What a line did: the reading goes on, or is over.
-#[derive(Drop)]
-pub enum Turn {
-    Goes(State),
-    Over(Ended),
-}
-
-// The marks of a state.
-fn marks_of(state: State) -> Marks
-    ensures { result ≡ marks_in state }
-{
-    Marks {
-        named: state.named,
-        zoned: state.zoned,
+impl State {
+    // Its marks.
+    fn marks(self) -> Marks
+        ensures { result ≡ marks_in self }
+    {
+        Marks {
+            named: self.named,
+            zoned: self.zoned,
+        }
     }
-}
 
-// Its counts.
-fn counts_of(state: State) -> Counts
-    ensures { result ≡ counts_in state }
-{
-    Counts {
-        empty: state.empty,
-        ignored: state.ignored,
-        kept: state.kept,
+    // Its counts.
+    pub fn counts(self) -> Counts
+        ensures { result ≡ counts_in self }
+    {
+        Counts {
+            empty: self.empty,
+            ignored: self.ignored,
+            kept: self.kept,
+        }
     }
-}
 
-// One empty line more.
-fn one_empty(state: State) -> State
-    requires { Few state }
-    ensures { result ≡ empty_more state }
-{
-    State {
-        named: state.named,
-        zoned: state.zoned,
-        begun: state.begun,
-        kept: state.kept,
-        empty: state.empty + 1,
-        ignored: state.ignored,
+    // One empty line more.
+    fn one_empty(self) -> State
+        requires { Few self }
+        ensures { result ≡ empty_more self }
+    {
+        State {
+            empty: self.empty + 1,
+            ..self
+        }
     }
-}
 
-// One ignored line more.
-fn one_ignored(state: State) -> State
-    requires { Few state }
-    ensures { result ≡ ignored_more state }
-{
-    State {
-        named: state.named,
-        zoned: state.zoned,
-        begun: state.begun,
-        kept: state.kept,
-        empty: state.empty,
-        ignored: state.ignored + 1,
+    // One ignored line more.
+    fn one_ignored(self) -> State
+        requires { Few self }
+        ensures { result ≡ ignored_more self }
+    {
+        State {
+            ignored: self.ignored + 1,
+            ..self
+        }
     }
-}
 
-// One kept line more, and the marks after it. The first is the version line.
-fn one_kept(state: State, marks: Marks) -> State
-    requires { Few state }
-    ensures { result ≡ kept_more state marks }
-{
-    State {
-        named: marks.named,
-        zoned: marks.zoned,
-        begun: true,
-        kept: state.kept + 1,
-        empty: state.empty,
-        ignored: state.ignored,
-    }
-}
-
-// A refusal of a line that names no byte.
-fn on_line(number: u64, line: LineNumber, field: u64) -> Answer
-    ensures { result ≡ answer number line.0 field }
-{
-    Answer {
-        number,
-        line: line.0 as u64,
-        field,
-        place: 0,
-        len: 0,
+    // One kept line more, and the marks after it. The first is the version line.
+    fn one_kept(self, marks: Marks) -> State
+        requires { Few self }
+        ensures { result ≡ kept_more self marks }
+    {
+        State {
+            named: marks.named,
+            zoned: marks.zoned,
+            begun: true,
+            kept: self.kept + 1,
+            ..self
+        }
     }
 }
 
@@ -129,15 +100,13 @@ fn on_line(number: u64, line: LineNumber, field: u64) -> Answer
 fn wrong_at(line: LineNumber, value: Place, w: Wrong) -> Answer
     ensures { (w.number ≡ encoding → value.0 + w.at < 2 ^ 64) → result ≡ wrong_at line.0 value.0 w }
 {
+    let told = Answer::on_line(w.number, line, w.field);
     if w.number != 8 {
-        return on_line(w.number, line, w.field);
+        return told;
     }
     Answer {
-        number: 8,
-        line: line.0 as u64,
-        field: w.field,
-        place: std::num::wrapping_add_usize(value.0, w.at) as u64,
-        len: 0,
+        place: value.0.wrapping_add(w.at) as u64,
+        ..told
     }
 }
 
@@ -149,7 +118,7 @@ fn good_line(
     number: LineNumber,
     letter: u8,
     value: Span,
-) -> Turn
+) -> Result<Option<State>, Failure>
     requires { (area_size ≤ length area.old) × ((length text.now ≤ longest_text) × (Few state × (value.at.0 + value.len ≤ length text.now))) }
     ensures { GoodTurns text.now number.0 letter value state result area.old area.new }
 {
@@ -158,52 +127,61 @@ fn good_line(
     let end = begin + value.len;
     let role = role_at(medias(area), letter);
     let before = offsets(area);
-    match take(area, at, marks_of(state), number, letter, &text[begin..end]) {
+    match take(area, at, state.marks(), number, letter, &text[begin..end]) {
         Taken::Kept(marks) => {
             stamp(area, role, before, number.0);
-            Turn::Goes(one_kept(state, marks))
+            Ok(Some(state.one_kept(marks)))
         }
-        Taken::Idle => Turn::Goes(one_ignored(state)),
-        Taken::Refused(w) => Turn::Over(Ended::Stopped(wrong_at(number, at, w))),
+        Taken::Idle => Ok(Some(state.one_ignored())),
+        Taken::Refused(w) => Err(Failure::Stopped(wrong_at(number, at, w))),
     }
 }
 
 // The first line that is not empty, of good form.
-fn opened_line(text: &[u8], state: State, number: LineNumber, letter: u8, value: Span) -> Turn
+fn opened_line(
+    text: &[u8],
+    state: State,
+    number: LineNumber,
+    letter: u8,
+    value: Span,
+) -> Result<Option<State>, Failure>
     requires { Few state × (value.at.0 + value.len ≤ length text.now) }
     ensures { result ≡ opened_turn text.now state number.0 letter value }
 {
     let at = value.at;
     let begin = at.0;
     let end = begin + value.len;
-    match opening_line(at, number, letter, &text[begin..end]) {
-        Opening::Zero => Turn::Goes(one_kept(state, marks_of(state))),
-        Opening::Refused(x) => Turn::Over(Ended::Unread(x)),
-    }
+    opening_line(at, number, letter, &text[begin..end]).map_err(Failure::Unread)?;
+    Ok(Some(state.one_kept(state.marks())))
 }
 
 // The refusal of a line: before the version line, nothing was read.
-fn refused(begun: bool, x: Answer) -> Turn
-    ensures { result ≡ refused_turn begun x }
+fn refused(begun: bool, x: Answer) -> Failure
+    ensures { result ≡ failure_of begun x }
 {
     if begun {
-        return Turn::Over(Ended::Stopped(x));
+        return Failure::Stopped(x);
     }
-    Turn::Over(Ended::Unread(x))
+    Failure::Unread(x)
 }
 
-// No line is left.
-fn at_end(state: State) -> Turn
+// No line is left: that is the end, or the version line is missing.
+fn at_end(state: State) -> Result<Option<State>, Failure>
     ensures { result ≡ end_turn state }
 {
     if state.begun {
-        return Turn::Over(Ended::Accepted(counts_of(state)));
+        return Ok(None);
     }
-    Turn::Over(Ended::Unread(on_line(6, LineNumber(0), 0)))
+    Err(Failure::Unread(Answer::plain(6)))
 }
 
-// What the cutter found, and what it does to a reading.
-pub fn turn_of(text: &[u8], area: &mut [u8], state: State, next: Next) -> Turn
+// What the cutter found, and what it does to a reading: the state after a line; none at the end of the lines.
+pub fn turn_of(
+    text: &[u8],
+    area: &mut [u8],
+    state: State,
+    next: Next,
+) -> Result<Option<State>, Failure>
     requires { (area_size ≤ length area.old) × ((length text.now ≤ longest_text) × (Few state × Inside text.now next)) }
     ensures { Turns (λ st. line_of text.now st next)
         state result area.old area.new × Passes next state result }
@@ -211,9 +189,9 @@ pub fn turn_of(text: &[u8], area: &mut [u8], state: State, next: Next) -> Turn
     match next {
         Next::End => at_end(state),
         Next::Refused { fault, line } => {
-            refused(state.begun, on_line(fault_number(fault), line, 0))
+            Err(refused(state.begun, Answer::on_line(fault.number(), line, 0)))
         }
-        Next::Empty => Turn::Goes(one_empty(state)),
+        Next::Empty => Ok(Some(state.one_empty())),
         Next::Found {
             number,
             letter,

@@ -10,10 +10,9 @@ use mathlib.Core.List.{List, [], ◌∷◌, ◌++◌, append_assoc, append-nil}
 use lib.Dec.{leb, eqb}
 use lib.ListN.{length, take, drop, get_or, replicate, length-append}
 use lib.Seq.{take_at}
-use Rattle.sdp_lines.specs.Lines.{Raw, split, content, width, form_of}
+use Rattle.sdp_lines.specs.Lines.{Raw, split, content, width, form_of, Form}
 use Rattle.sdp_lines.specs.declared.Span.{Span}
-use Rattle.sdp_lines.specs.declared.Form.{Form}
-use Rattle.sdp_lines.specs.declared.Form.TheVariants.{Blank, Good, Bad}
+use Rattle.std.specs.Prelude.{Some, None, Ok, Err}
 use Rattle.sdp_cells.specs.Bytes as bytes
 use Rattle.sdp_cells.specs.Bytes.{num, zeros}
 use Rattle.sdp_cells.proofs.ByteLaws.{length-zeros}
@@ -44,9 +43,9 @@ use Rattle.sdp_whence.proofs.ThereLaws.{there_moves}
 
 -- ---- one line
 form_grows : (ρ τ : Reading Span) (p : ℕ) (l : List ℕ) → Unzoned ρ → (f : Form) → step_form span_at ρ p l f ≡ goes τ → Grown ρ τ
-form_grows ρ τ p l z Blank e = on (Grown ρ) ρ (not-grown ρ z) τ e
-form_grows ρ τ p l z (Bad f) e = off (Grown ρ) _ τ e
-form_grows ρ τ p l z (Good c) e = step_grows (span_at (p + 2) (drop 2 l)) ρ (drop 2 l) z (role_at (length ρ.session.tables.medias) c) τ e
+form_grows ρ τ p l z (Ok None) e = on (Grown ρ) ρ (not-grown ρ z) τ e
+form_grows ρ τ p l z (Err f) e = off (Grown ρ) _ τ e
+form_grows ρ τ p l z (Ok (Some c)) e = step_grows (span_at (p + 2) (drop 2 l)) ρ (drop 2 l) z (role_at (length ρ.session.tables.medias) c) τ e
 
 -- ---- an empty session has nothing, and no line
 none_any : (cs : List ℕ) (k i : ℕ) → in_any cs (replicate k 0) i ≡ false
@@ -197,9 +196,9 @@ module _ (t : List ℕ) where
             → (((q : List Raw) → begin span_at 1 0 ((pre ++ (r ∷ [])) ++ q) ≡ skip q) → skip rs ≡ accepted x → CellSays t x i (get_or (begin_stamps span_at (n + 1) (p + width r) rs) i 0))
             → begin_form span_at n p (content r) f (skip rs) (here_on rs) ≡ accepted x
             → CellSays t x i (get_or (from_version f (begin_stamps span_at (n + 1) (p + width r) rs) (run_stamps span_at fresh no_stamps (n + 1) (p + width r) rs)) i 0)
-        form Blank g ih e = ih (λ q. leads_to q ∙ ap (λ (f : Form). begin_form span_at n p (content r) f (skip q) (here_on q)) g) e
-        form (Bad f) g ih e = absurd (let z : ◌≡◌ {A = ℕ} 0 1 = cc in omega arith)
-        form (Good c) g ih e =
+        form (Ok None) g ih e = ih (λ q. leads_to q ∙ ap (λ (f : Form). begin_form span_at n p (content r) f (skip q) (here_on q)) g) e
+        form (Err f) g ih e = absurd (let z : ◌≡◌ {A = ℕ} 0 1 = cc in omega arith)
+        form (Ok (Some c)) g ih e =
             let v : List ℕ = drop 2 (content r) in
             run_whence x i rs (pre ++ (r ∷ [])) fresh no_stamps (n + 1) (p + width r)
             (record {

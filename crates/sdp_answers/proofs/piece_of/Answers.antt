@@ -13,4 +13,4 @@ pub returns-in-Line : goal.returns-in-Line
 returns-in-Line c = rw c.wide.ensures (sym (ap (piece_of c.args.line) c.in-Line.is))
 
 pub returns-in-Refused : goal.returns-in-Refused
-returns-in-Refused c = rw c.fault_number.ensures (sym (ap (piece_of c.args.line) c.in-Refused.is))
+returns-in-Refused c = rw c.number.ensures (sym (ap (piece_of c.args.line) c.in-Refused.is))

@@ -1,7 +1,8 @@
 -- `sdp_lines::stop_index` meets its contract. The invariant: the whole list's stop is i and the stop of the rest from i.
 -- Assumes nothing.
-use Prim.Native.Nat.{◌-◌}
-use mathlib.Core.Path.{sym, ◌∙◌}
+use mathlib.Core.Path.{◌≡◌, sym, ◌∙◌}
+use lib.ListN.{length}
+use native.Mathlib.Omega.{arith}
 use native.Mathlib.Nat.{le_of_eq}
 use Rattle.sdp_lines.proofs.StopLaws.{quiet_pass, stop-until}
 use Rattle.sdp_bytes.proofs.ScanLaws.{until_next, until_here, until_done, run_passed}
@@ -19,4 +20,7 @@ loop-i-preserved c =
     until_next stop-until _ _ c.loop-i.invariant c.loop-i-test.true (sym c.stop_byte.ensures ∙ c.if-stop_byte.false)
 
 pub returns : goal.returns
-returns c = until_done stop-until _ _ c.loop-i.invariant c.loop-i-test.false
+returns c =
+    let l = c.loop-i in
+    let e : length c.args.s.now ≡ l.i = omega (arith, l.invariant.0) in
+    e ∙ until_done stop-until _ _ l.invariant c.loop-i-test.false

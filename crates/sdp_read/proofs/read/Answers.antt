@@ -16,23 +16,23 @@ returns-then-text-gt32768 c =
     let says = says_long a.text.now a.area.now c.if-area-lt-AREA_SIZE.false c.if-text-gt32768.true in
     rw (c.refused-then-text-gt32768.ensures, c.plain-then-text-gt32768.ensures) (record { value = says.0; area_after = says.1 })
 
-pub returns-in-Accepted : goal.returns-in-Accepted
-returns-in-Accepted c =
+pub returns-in-Ok : goal.returns-in-Ok
+returns-in-Ok c =
     let a = c.args in
-    let ends = c.in-Accepted.ensures (drop area_size a.area.now) (cleared_empty a.area.now _ c.clear.ensures) in
-    let says = says_accepted a.text.now a.area.now c.if-area-lt-AREA_SIZE.false c.if-text-gt32768.false c.in-Accepted.counts c.read_text.new.area ends in
-    rw c.plain-in-Accepted.ensures (record { value = says.0; area_after = says.1 })
+    let ends = c.in-Ok.ensures (drop area_size a.area.now) (cleared_empty a.area.now _ c.clear.ensures) in
+    let says = says_accepted a.text.now a.area.now c.if-area-lt-AREA_SIZE.false c.if-text-gt32768.false c.in-Ok.counts c.read_text.new.area ends in
+    rw c.plain-in-Ok.ensures (record { value = says.0; area_after = says.1 })
 
-pub returns-in-Unread : goal.returns-in-Unread
-returns-in-Unread c =
+pub returns-in-Err-Unread : goal.returns-in-Err-Unread
+returns-in-Err-Unread c =
     let a = c.args in
-    let ends = c.in-Unread.ensures (drop area_size a.area.now) (cleared_empty a.area.now _ c.clear.ensures) in
-    let says = says_unread a.text.now a.area.now c.if-area-lt-AREA_SIZE.false c.if-text-gt32768.false c.in-Unread.x c.read_text.new.area ends in
-    rw c.refused-in-Unread.ensures (record { value = says.0; area_after = says.1 })
+    let ends = (rw c.in-Err-Unread.field-0-is at c.in-Err-Unread.ensures) (drop area_size a.area.now) (cleared_empty a.area.now _ c.clear.ensures) in
+    let says = says_unread a.text.now a.area.now c.if-area-lt-AREA_SIZE.false c.if-text-gt32768.false c.in-Err-Unread.x c.read_text.new.area ends in
+    rw c.refused-in-Err-Unread.ensures (record { value = says.0; area_after = says.1 })
 
-pub returns-in-Stopped : goal.returns-in-Stopped
-returns-in-Stopped c =
+pub returns-in-Err-Stopped : goal.returns-in-Err-Stopped
+returns-in-Err-Stopped c =
     let a = c.args in
-    let ends = c.in-Stopped.ensures (drop area_size a.area.now) (cleared_empty a.area.now _ c.clear.ensures) in
-    let says = says_stopped a.text.now a.area.now c.if-area-lt-AREA_SIZE.false c.if-text-gt32768.false c.in-Stopped.x c.read_text.new.area c.clear-in-Stopped.new.area ends c.clear-in-Stopped.ensures in
-    rw c.refused-in-Stopped.ensures (record { value = says.0; area_after = says.1 })
+    let ends = (rw c.in-Err-Stopped.field-0-is at c.in-Err-Stopped.ensures) (drop area_size a.area.now) (cleared_empty a.area.now _ c.clear.ensures) in
+    let says = says_stopped a.text.now a.area.now c.if-area-lt-AREA_SIZE.false c.if-text-gt32768.false c.in-Err-Stopped.x c.read_text.new.area c.clear-in-Err-Stopped.new.area ends c.clear-in-Err-Stopped.ensures in
+    rw c.refused-in-Err-Stopped.ensures (record { value = says.0; area_after = says.1 })

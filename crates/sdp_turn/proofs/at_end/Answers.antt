@@ -2,7 +2,7 @@
 use Rattle.sdp_turn.proofs.at_end.Goals as goal
 
 pub returns-then-state : goal.returns-then-state
-returns-then-state c = rw (c.if-state.true, c.counts_of.ensures)
+returns-then-state c = rw c.if-state.true
 
 pub returns : goal.returns
-returns c = rw (c.if-state.false, c.on_line.ensures)
+returns c = rw (c.if-state.false, c.plain.ensures)

@@ -21,7 +21,7 @@ returns-in-End c =
 pub returns-in-Refused : goal.returns-in-Refused
 returns-in-Refused c =
     let a = c.args in
-    rw (c.refused.ensures, c.on_line.ensures, c.fault_number.ensures, c.in-Refused.is) (turns_bad a.text.now a.state a.area.now c.in-Refused.fault _)
+    rw (c.refused.ensures, c.on_line.ensures, c.number.ensures, c.in-Refused.is) (turns_bad a.text.now a.state a.area.now c.in-Refused.fault _)
 
 pub returns-in-Empty : goal.returns-in-Empty
 returns-in-Empty c =
