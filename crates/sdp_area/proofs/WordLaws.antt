@@ -3,7 +3,7 @@
 use mathlib.Core.Path.{◌≡◌, refl, ap, ap₂, ◌∙◌}
 use mathlib.Core.Bool.{Bool, true, false, cond}
 use mathlib.Core.List.{List, [], ◌∷◌, ◌++◌, append-nil}
-use mathlib.Core.Option.{none, some}
+use Rattle.std.specs.Prelude.{Some, None}
 use Prim.Native.Nat.{ℕ, zero, suc, ◌+◌, ◌*◌, ◌/◌}
 use native.Mathlib.Omega.{arith}
 use Rattle.sdp_lines.specs.declared.Span.{Span}
@@ -49,7 +49,7 @@ pub maybe_is : (m : MaybeSpan) (t p n : ℕ) → t ≡ cond m.there 1 0 → p �
 unfolding opt zeros
 maybe_is m t p n e₁ e₂ e₃ = rw (e₁, e₂, e₃) (go m.there)
   where
-    go : (b : Bool) → Spells (cond b 1 0 ∷ cond b m.span.at.0 0 ∷ cond b m.span.len 0 ∷ []) (opt 4 span (cond b (some m.span) none))
+    go : (b : Bool) → Spells (cond b 1 0 ∷ cond b m.span.at.0 0 ∷ cond b m.span.len 0 ∷ []) (opt 4 span (cond b (Some m.span) None))
     go true = word_is 1 and span_is m.span
     go false = none_is 3
 
@@ -58,6 +58,6 @@ pub ports_is : (m : MaybePorts) (t n : ℕ) → t ≡ cond m.there 1 0 → n ≡
 unfolding opt zeros
 ports_is m t n e₁ e₂ = rw (e₁, e₂) (go m.there)
   where
-    go : (b : Bool) → Spells (cond b 1 0 ∷ cond b m.value 0 ∷ []) (opt 2 (le 2) (cond b (some m.value) none))
+    go : (b : Bool) → Spells (cond b 1 0 ∷ cond b m.value 0 ∷ []) (opt 2 (le 2) (cond b (Some m.value) None))
     go true = word_is 1 and word_is m.value
     go false = none_is 2

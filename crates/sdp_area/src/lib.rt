@@ -1,8 +1,7 @@
 // The record area: a session in bytes at fixed places that the caller lends. docs/AREA.md has its layout.
 #![tactic(auto)]
 
-ghost use Rattle.std.specs.Prelude.{◌≡◌, cond, ◌++◌, ◌+◌, ◌*◌, ◌≤◌, ◌<◌, length, drop, eqb};
-ghost use Rattle.std.proofs.Math.Option.{none};
+ghost use Rattle.std.specs.Prelude.{◌≡◌, cond, None, ◌++◌, ◌+◌, ◌*◌, ◌≤◌, ◌<◌, length, drop, eqb};
 ghost use Rattle.sdp_numbers.specs.Tables.{most_media_connections, most_bandwidths, most_times, most_repeats, most_offsets, most_zones, most_attributes, most_medias};
 ghost use Rattle.sdp_cells.specs.Bytes.{le, num, over, zeros};
 ghost use Rattle.sdp_cells.specs.Tables.{pairs, grown, told};
@@ -352,7 +351,7 @@ pub fn push_media(
 ) -> Pushed
     requires { size ≤ length area.old }
     ensures value { result ≡ told area.old medias_at most_medias }
-    ensures area_after { area.new ≡ grown area.old medias_at most_medias (media_row (record { media = media; port = port; num_ports = maybe_ports ports; proto = proto; fmt = fmt; media_title = none; key = none })) }
+    ensures area_after { area.new ≡ grown area.old medias_at most_medias (media_row (record { media = media; port = port; num_ports = maybe_ports ports; proto = proto; fmt = fmt; media_title = None; key = None })) }
 {
     let row = [
         media.at.0,

@@ -11,7 +11,7 @@ use borrow.Author.Tests.{ltb-true}
 use Rattle.sdp_lines.specs.declared.Span.{Span}
 use Rattle.sdp_judge.specs.Read.{Read, got, refused, plain}
 use Rattle.sdp_judge.specs.declared.Wrong.{Wrong}
-use mathlib.Core.Option.{Option}
+use Rattle.std.specs.Prelude.{Option}
 use Rattle.sdp_area.specs.Session.{Session, Within}
 use Rattle.sdp_area.specs.Latest.{given}
 use Rattle.sdp_area.specs.Area.{encode, size}
