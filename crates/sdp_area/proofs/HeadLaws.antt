@@ -2,7 +2,7 @@
 -- Assumes nothing.
 use mathlib.Core.Path.{◌≡◌, refl, sym, ap, ◌∙◌}
 use mathlib.Core.List.{List, [], ◌++◌, append_assoc}
-use mathlib.Core.Option.{Option, none, some}
+use Rattle.std.specs.Prelude.{Option, Some, None}
 use Prim.Native.Nat.{ℕ, ◌<◌}
 use lib.Dec.{eqb, lit<}
 use lib.ListN.{length, get_or, set, get_or-map}
@@ -19,8 +19,8 @@ use Rattle.sdp_area.proofs.WidthLaws.{widths, segment_widths, start, before, beh
 -- the mark of what may be absent
 pub mark_at : {X : Type 0} (w : ℕ) (f : X → List ℕ) (o : Option X) (p q : List ℕ) (n : ℕ) → length p ≡ n → eqb (num 2 (p ++ (opt w f o ++ q)) n) 1 ≡ given o
 unfolding opt
-mark_at w f none p q n e = rw (← zeros-add 2 w, ← le_zero, append_assoc, num_at 2 0 p _ n e (lit< tt))
-mark_at w f (some x) p q n e = rw (append_assoc, num_at 2 1 p _ n e (lit< tt))
+mark_at w f None p q n e = rw (← zeros-add 2 w, ← le_zero, append_assoc, num_at 2 0 p _ n e (lit< tt))
+mark_at w f (Some x) p q n e = rw (append_assoc, num_at 2 1 p _ n e (lit< tt))
 
 module _ (s : Session Span) (t : List ℕ) (ok : Within s) (a : List ℕ) (is : a ≡ encode s ++ t) where
   -- ---- any field, as the k-th segment
@@ -44,7 +44,7 @@ module _ (s : Session Span) (t : List ℕ) (ok : Within s) (a : List ℕ) (is : 
   -- ---- the five that are read
   pub origin_set : (x : Origin Span) → over a origin_at (le 2 1 ++ origin_bytes x) ≡ encode (with_origin s x) ++ t
   unfolding encode opt
-  origin_set x = field_set 0 (lit< tt) (le 2 1 ++ origin_bytes x) (length-opt 30 origin_bytes length_origin (some x))
+  origin_set x = field_set 0 (lit< tt) (le 2 1 ++ origin_bytes x) (length-opt 30 origin_bytes length_origin (Some x))
 
   pub origin_mark : eqb (num 2 a origin_at) 1 ≡ given s.head.origin
   origin_mark = field_mark 0 (lit< tt) 30 origin_bytes s.head.origin refl
@@ -55,21 +55,21 @@ module _ (s : Session Span) (t : List ℕ) (ok : Within s) (a : List ℕ) (is : 
 
   pub description-set : (x : Span) → over a description_at (le 2 1 ++ span x) ≡ encode (with_description s x) ++ t
   unfolding encode opt
-  description-set x = field_set 2 (lit< tt) (le 2 1 ++ span x) (length-opt 4 span length-span (some x))
+  description-set x = field_set 2 (lit< tt) (le 2 1 ++ span x) (length-opt 4 span length-span (Some x))
 
   pub description-mark : eqb (num 2 a description_at) 1 ≡ given s.head.description
   description-mark = field_mark 2 (lit< tt) 4 span s.head.description refl
 
   pub uri-set : (x : Span) → over a uri_at (le 2 1 ++ span x) ≡ encode (with_uri s x) ++ t
   unfolding encode opt
-  uri-set x = field_set 3 (lit< tt) (le 2 1 ++ span x) (length-opt 4 span length-span (some x))
+  uri-set x = field_set 3 (lit< tt) (le 2 1 ++ span x) (length-opt 4 span length-span (Some x))
 
   pub uri-mark : eqb (num 2 a uri_at) 1 ≡ given s.head.uri
   uri-mark = field_mark 3 (lit< tt) 4 span s.head.uri refl
 
   pub connection_set : (x : Connection Span) → over a connection_at (le 2 1 ++ connection_bytes x) ≡ encode (with_connection s x) ++ t
   unfolding encode opt
-  connection_set x = field_set 4 (lit< tt) (le 2 1 ++ connection_bytes x) (length-opt 12 connection_bytes length_connection (some x))
+  connection_set x = field_set 4 (lit< tt) (le 2 1 ++ connection_bytes x) (length-opt 12 connection_bytes length_connection (Some x))
 
   pub connection_mark : eqb (num 2 a connection_at) 1 ≡ given s.head.connection
   connection_mark = field_mark 4 (lit< tt) 12 connection_bytes s.head.connection refl

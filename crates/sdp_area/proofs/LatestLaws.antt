@@ -3,7 +3,7 @@
 use mathlib.Core.Path.{◌≡◌, refl, sym, ap, ◌∙◌}
 use mathlib.Core.Bool.{true, false, and-false}
 use mathlib.Core.List.{List, [], ◌∷◌, ◌++◌, append_assoc}
-use mathlib.Core.Option.{Option, some}
+use Rattle.std.specs.Prelude.{Option, Some}
 use Prim.Native.Nat.{ℕ, ◌+◌, ◌*◌, ◌≤◌, ◌<◌}
 use native.Mathlib.Omega.{arith}
 use borrow.Author.Tests.{lt-ltb, le-ltb, le-leb, lt-leb}
@@ -117,7 +117,7 @@ module _ (p q : List ℕ) (here : length p ≡ medias_at) where
     unfolding over_title opt
     latest-set t =
         rw (there, title_at_lem, view x (opt 4 span x.media_title) (title_row x), view (titled t x) (le 2 1 ++ span t) (title_row (titled t x)))
-        (over_at before (opt 4 span x.media_title) behind (le 2 1 ++ span t) _ long (length-maybe x.media_title ∙ sym (length-maybe (some t))))
+        (over_at before (opt 4 span x.media_title) behind (le 2 1 ++ span t) _ long (length-maybe x.media_title ∙ sym (length-maybe (Some t))))
 
   -- ---- the same of any list of medias
   any_mark : (ms : List (Media Span)) → length ms ≤ 32 → mark_title (all p q ms) ≡ last_titled ms

@@ -2,7 +2,7 @@
 -- Assumes nothing.
 use mathlib.Core.Path.{◌≡◌, ap, ◌∙◌}
 use mathlib.Core.List.{List, [], ◌∷◌, ◌++◌, map, append-nil}
-use mathlib.Core.Option.{Option, none, some}
+use Rattle.std.specs.Prelude.{Option, Some, None}
 use Prim.Native.Nat.{ℕ, suc, ◌+◌}
 use lib.ListN.{length, take, drop, length-append}
 use Rattle.sdp_lines.specs.declared.Span.{Span}
@@ -19,8 +19,8 @@ length-span x = simp (length-append, length-le)
 
 pub length-opt : {X : Type 0} (w : ℕ) (f : X → List ℕ) → ((x : X) → length (f x) ≡ w) → (o : Option X) → length (opt w f o) ≡ 2 + w
 unfolding opt
-length-opt w f wide none = length-zeros (2 + w)
-length-opt w f wide (some x) = simp (length-append, length-le, wide)
+length-opt w f wide None = length-zeros (2 + w)
+length-opt w f wide (Some x) = simp (length-append, length-le, wide)
 
 -- ---- fields
 pub length-maybe : (o : Option Span) → length (opt 4 span o) ≡ 6
@@ -32,8 +32,8 @@ length_origin o = simp (length-append, length-le, length-span, length-maybe)
 
 length-name : (o : Option Span) → length (name_bytes o) ≡ 4
 unfolding name_bytes
-length-name none = length-zeros 4
-length-name (some x) = length-span x
+length-name None = length-zeros 4
+length-name (Some x) = length-span x
 
 pub length_connection : (c : Connection Span) → length (connection_bytes c) ≡ 12
 unfolding connection_bytes

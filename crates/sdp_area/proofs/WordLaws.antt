@@ -1,20 +1,19 @@
 -- Laws of numbers written as two bytes each: what a row of them spells.
 -- Assumes nothing.
 use mathlib.Core.Path.{◌≡◌, refl, ap, ap₂, ◌∙◌}
-use mathlib.Core.Bool.{Bool, true, false, cond}
 use mathlib.Core.List.{List, [], ◌∷◌, ◌++◌, append-nil}
-use mathlib.Core.Option.{none, some}
+use lib.ListN.{length, get_or}
 use Prim.Native.Nat.{ℕ, zero, suc, ◌+◌, ◌*◌, ◌/◌}
 use native.Mathlib.Omega.{arith}
 use Rattle.sdp_lines.specs.declared.Span.{Span}
 use Rattle.sdp_cells.specs.Bytes.{le, zeros}
 use Rattle.sdp_cells.specs.Tables.{flat, pairs}
 use Rattle.sdp_area.specs.Area.{span, opt}
-use Rattle.sdp_area.specs.Maybe.{maybe, maybe_ports}
-use Rattle.sdp_area.specs.declared.MaybeSpan.{MaybeSpan}
-use Rattle.sdp_area.specs.declared.MaybePorts.{MaybePorts}
-use Rattle.sdp_cells.proofs.ByteLaws.{le_eight, le_zero, zeros-add}
+use Rattle.sdp_cells.proofs.ByteLaws.{le_eight, le_zero, length-le, zeros-add}
+use Rattle.sdp_cells.proofs.StoreLaws.{length_pairs}
 use Rattle.sdp_cells.proofs.TableLaws.{flat_append}
+use Rattle.sdp_area.proofs.WidthLaws.{length-opt, length-maybe}
+use Rattle.std.specs.Prelude.{Option}
 
 -- ---- what numbers spell
 pub record Spells (ws bs : List ℕ) : Type 0 where
@@ -44,20 +43,33 @@ none_is (suc k) =
     let e : 2 + k * 2 ≡ suc k * 2 = omega arith in
     record { is = (word_is 0 and none_is k).is ∙ ap (λ (l : List ℕ). l ++ zeros (k * 2)) le_zero ∙ zeros-add 2 (k * 2) ∙ ap zeros e }
 
-pub maybe_is : (m : MaybeSpan) (t p n : ℕ) → t ≡ cond m.there 1 0 → p ≡ cond m.there m.span.at.0 0 → n ≡ cond m.there m.span.len 0
-    → Spells (t ∷ p ∷ n ∷ []) (opt 4 span (maybe m))
-unfolding opt zeros
-maybe_is m t p n e₁ e₂ e₃ = rw (e₁, e₂, e₃) (go m.there)
-  where
-    go : (b : Bool) → Spells (cond b 1 0 ∷ cond b m.span.at.0 0 ∷ cond b m.span.len 0 ∷ []) (opt 4 span (cond b (some m.span) none))
-    go true = word_is 1 and span_is m.span
-    go false = none_is 3
+-- ---- the same of the numbers at the places of a list
+two_in : (xs bs : List ℕ) → length xs ≡ 2 → pairs xs ≡ bs → Spells (get_or xs 0 0 ∷ get_or xs 1 0 ∷ []) bs
+two_in [] bs l e = absurd (omega arith)
+two_in (a ∷ []) bs l e = absurd (omega arith)
+two_in (a ∷ b ∷ []) bs l e = record { is = e }
+two_in (a ∷ b ∷ c ∷ xs) bs l e = absurd (omega arith)
 
-pub ports_is : (m : MaybePorts) (t n : ℕ) → t ≡ cond m.there 1 0 → n ≡ cond m.there m.value 0
-    → Spells (t ∷ n ∷ []) (opt 2 (le 2) (maybe_ports m))
-unfolding opt zeros
-ports_is m t n e₁ e₂ = rw (e₁, e₂) (go m.there)
-  where
-    go : (b : Bool) → Spells (cond b 1 0 ∷ cond b m.value 0 ∷ []) (opt 2 (le 2) (cond b (some m.value) none))
-    go true = word_is 1 and word_is m.value
-    go false = none_is 2
+three_in : (xs bs : List ℕ) → length xs ≡ 3 → pairs xs ≡ bs → Spells (get_or xs 0 0 ∷ get_or xs 1 0 ∷ get_or xs 2 0 ∷ []) bs
+three_in [] bs l e = absurd (omega arith)
+three_in (a ∷ []) bs l e = absurd (omega arith)
+three_in (a ∷ b ∷ []) bs l e = absurd (omega arith)
+three_in (a ∷ b ∷ c ∷ []) bs l e = record { is = e }
+three_in (a ∷ b ∷ c ∷ d ∷ xs) bs l e = absurd (omega arith)
+
+four_in : (xs bs : List ℕ) → length xs ≡ 4 → pairs xs ≡ bs → Spells (get_or xs 0 0 ∷ get_or xs 1 0 ∷ get_or xs 2 0 ∷ get_or xs 3 0 ∷ []) bs
+four_in [] bs l e = absurd (omega arith)
+four_in (a ∷ []) bs l e = absurd (omega arith)
+four_in (a ∷ b ∷ []) bs l e = absurd (omega arith)
+four_in (a ∷ b ∷ c ∷ []) bs l e = absurd (omega arith)
+four_in (a ∷ b ∷ c ∷ d ∷ []) bs l e = record { is = e }
+four_in (a ∷ b ∷ c ∷ d ∷ e ∷ xs) bs l f = absurd (omega arith)
+
+pub number_in : (xs : List ℕ) (x : Option ℕ) → pairs xs ≡ opt 2 (le 2) x → Spells (get_or xs 0 0 ∷ get_or xs 1 0 ∷ []) (opt 2 (le 2) x)
+number_in xs x e = two_in xs (opt 2 (le 2) x) (omega (arith, length_pairs xs, ap length e, length-opt 2 (le 2) (length-le 2) x)) e
+
+pub string_in : (xs : List ℕ) (x : Option Span) → pairs xs ≡ opt 4 span x → Spells (get_or xs 0 0 ∷ get_or xs 1 0 ∷ get_or xs 2 0 ∷ []) (opt 4 span x)
+string_in xs x e = three_in xs (opt 4 span x) (omega (arith, length_pairs xs, ap length e, length-maybe x)) e
+
+pub eight_in : (xs : List ℕ) (v : ℕ) → pairs xs ≡ le 8 v → Spells (get_or xs 0 0 ∷ get_or xs 1 0 ∷ get_or xs 2 0 ∷ get_or xs 3 0 ∷ []) (le 8 v)
+eight_in xs v e = four_in xs (le 8 v) (omega (arith, length_pairs xs, ap length e, length-le 8 v)) e

@@ -1,7 +1,6 @@
 -- How a session lies in the record area: docs/AREA.md has the same byte by byte. Places, lengths, marks, owners, counts and ports take two
 -- bytes, other numbers eight, the lower first. A mark is 1 for present and 0 for absent; "unused cells, an absent field's too, are zero".
-use Rattle.std.specs.Prelude.{List, [], ◌∷◌, ◌++◌, ℕ, ◌+◌}
-use Rattle.std.proofs.Math.Option.{Option, none, some}
+use Rattle.std.specs.Prelude.{List, [], ◌∷◌, ◌++◌, ℕ, ◌+◌, Option, Some, None}
 use Rattle.sdp_numbers.specs.Tables.{most_emails, most_phones, most_media_connections, most_bandwidths, most_times}
 use Rattle.sdp_numbers.specs.Tables.{most_repeats, most_offsets, most_zones, most_attributes, most_medias}
 use Rattle.sdp_lines.specs.declared.Span.{Span}
@@ -15,8 +14,8 @@ span x = le 2 x.at.0 ++ le 2 x.len
 
 -- what may be absent: a mark, and then w bytes
 unfoldable pub opt : {X : Type 0} → ℕ → (X → List ℕ) → Option X → List ℕ
-opt w f none = zeros (2 + w)
-opt w f (some x) = le 2 1 ++ f x
+opt w f None = zeros (2 + w)
+opt w f (Some x) = le 2 1 ++ f x
 
 -- 30 bytes
 unfoldable pub origin_bytes : Origin Span → List ℕ
@@ -25,8 +24,8 @@ origin_bytes o =
 
 -- the name has no mark: 4 bytes
 unfoldable pub name_bytes : Option Span → List ℕ
-name_bytes none = zeros 4
-name_bytes (some x) = span x
+name_bytes None = zeros 4
+name_bytes (Some x) = span x
 
 -- 12 bytes
 unfoldable pub connection_bytes : Connection Span → List ℕ

@@ -1,6 +1,5 @@
 -- The latest media's row: its title's mark stands at 18 of the row's 36 bytes.
-use Rattle.std.specs.Prelude.{Bool, true, false, ◌&&◌, cond, List, [], ◌∷◌, ℕ, ◌+◌, ◌*◌, ◌-◌, ltb, leb, eqb}
-use Rattle.std.proofs.Math.Option.{Option, none, some}
+use Rattle.std.specs.Prelude.{Bool, true, false, ◌&&◌, cond, List, [], ◌∷◌, ℕ, ◌+◌, ◌*◌, ◌-◌, ltb, leb, eqb, Option, Some, None}
 use Rattle.sdp_numbers.specs.Tables.{most_medias}
 use Rattle.sdp_cells.specs.Bytes.{num, over}
 use Rattle.sdp_area.specs.Area.{medias_at}
@@ -25,8 +24,8 @@ mark_title a = cond (any_media a) (eqb (num 2 a (title_at a)) 1) false
 -- ---- the same of the session
 -- present or absent
 abbrev pub given : {X : Type 0} → Option X → Bool
-given none = false
-given (some x) = true
+given None = false
+given (Some x) = true
 
 -- whether o is present in the latest row
 unfoldable pub last_given : {X Y : Type 0} → (X → Option Y) → List X → Bool

@@ -2,6 +2,6 @@ pub mod Session
 pub mod With
 pub mod Area
 pub mod Columns
-pub mod Maybe
+pub mod Held
 pub mod Latest
 pub mod Which

@@ -1,7 +1,6 @@
 -- Document 01, "Fields" and "Tables": a session over any type S of strings. S is a place and a length where the area is meant, and the
 -- bytes themselves where two sessions are compared. Names are the crate's.
-use Rattle.std.specs.Prelude.{ℕ, ◌≤◌, List, [], length}
-use Rattle.std.proofs.Math.Option.{Option, none}
+use Rattle.std.specs.Prelude.{ℕ, ◌≤◌, List, [], length, Option, None}
 use Rattle.sdp_numbers.specs.Tables.{most_emails, most_phones, most_media_connections, most_bandwidths, most_times}
 use Rattle.sdp_numbers.specs.Tables.{most_repeats, most_offsets, most_zones, most_attributes, most_medias}
 
@@ -118,7 +117,7 @@ pub record Within {S : Type 0} (s : Session S) : Type 0 where
 -- before the first line
 abbrev pub empty : {S : Type 0} → Session S
 empty = record {
-  head = record { origin = none; name = none; description = none; uri = none; connection = none; key = none };
+  head = record { origin = None; name = None; description = None; uri = None; connection = None; key = None };
   tables = record {
     emails = [];
     phones = [];

@@ -1,6 +1,5 @@
 -- A session with one part replaced: in each line below, x stands in the place of that part.
-use Rattle.std.specs.Prelude.{List, [], ◌∷◌}
-use Rattle.std.proofs.Math.Option.{Option, some}
+use Rattle.std.specs.Prelude.{List, [], ◌∷◌, Option, Some}
 use Rattle.sdp_area.specs.Session.{Origin, Connection, Key, Session}
 use Rattle.sdp_area.specs.Session.{MediaConnection, Bandwidth, Time, Repeat, Offset, Zone, Attribute, Media}
 
@@ -13,7 +12,7 @@ set_last g (x ∷ y ∷ ys) = x ∷ set_last g (y ∷ ys)
 module _ {S : Type 0} where
   -- the latest media with a title
   abbrev pub titled : S → Media S → Media S
-  titled x m = record { media = m.media; port = m.port; num_ports = m.num_ports; proto = m.proto; fmt = m.fmt; media_title = some x; key = m.key }
+  titled x m = record { media = m.media; port = m.port; num_ports = m.num_ports; proto = m.proto; fmt = m.fmt; media_title = Some x; key = m.key }
 
 module _ {S : Type 0} (s : Session S) where
   open s.head use {origin, name, description, uri, connection, key}
@@ -24,19 +23,19 @@ module _ {S : Type 0} (s : Session S) where
   headed o n d u c k = record { head = record { origin = o; name = n; description = d; uri = u; connection = c; key = k }; tables = s.tables }
 
   abbrev pub with_origin : Origin S → Session S
-  with_origin x = headed (some x) name description uri connection key
+  with_origin x = headed (Some x) name description uri connection key
 
   abbrev pub with_name : S → Session S
-  with_name x = headed origin (some x) description uri connection key
+  with_name x = headed origin (Some x) description uri connection key
 
   abbrev pub with_description : S → Session S
-  with_description x = headed origin name (some x) uri connection key
+  with_description x = headed origin name (Some x) uri connection key
 
   abbrev pub with_uri : S → Session S
-  with_uri x = headed origin name description (some x) connection key
+  with_uri x = headed origin name description (Some x) connection key
 
   abbrev pub with_connection : Connection S → Session S
-  with_connection x = headed origin name description uri (some x) key
+  with_connection x = headed origin name description uri (Some x) key
 
   -- ---- the ten tables, in their order
   abbrev tabled : List S → List S → List (MediaConnection S) → List (Bandwidth S) → List Time → List Repeat → List Offset → List Zone

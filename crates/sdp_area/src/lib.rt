@@ -1,18 +1,18 @@
 // The record area: a session in bytes at fixed places that the caller lends. docs/AREA.md has its layout.
 #![tactic(auto)]
 
-ghost use Rattle.std.specs.Prelude.{◌≡◌, cond, ◌++◌, ◌+◌, ◌*◌, ◌≤◌, ◌<◌, length, drop, eqb};
-ghost use Rattle.std.proofs.Math.Option.{none};
+ghost use Rattle.std.specs.Prelude.{◌≡◌, ◌++◌, ◌+◌, ◌*◌, ◌≤◌, ◌<◌, length, drop, eqb};
 ghost use Rattle.sdp_numbers.specs.Tables.{most_media_connections, most_bandwidths, most_times, most_repeats, most_offsets, most_zones, most_attributes, most_medias};
 ghost use Rattle.sdp_cells.specs.Bytes.{le, num, over, zeros};
 ghost use Rattle.sdp_cells.specs.Tables.{pairs, grown, told};
-ghost use Rattle.sdp_area.specs.Area.{size, span, origin_bytes, connection_bytes, media_connection_row, bandwidth_row, time_row, repeat_row, offset_row, zone_row, attribute_row, media_row, origin_at, name_at, connection_at, phones_at, connections_at, bandwidths_at, times_at, repeats_at, offsets_at, zones_at, attributes_at, medias_at};
+ghost use Rattle.sdp_area.specs.Area.{size, span, opt, origin_bytes, connection_bytes, media_connection_row, bandwidth_row, time_row, repeat_row, offset_row, zone_row, attribute_row, media_row, origin_at, name_at, connection_at, phones_at, connections_at, bandwidths_at, times_at, repeats_at, offsets_at, zones_at, attributes_at, medias_at};
 ghost use Rattle.sdp_area.specs.Columns.{area_size};
 ghost use Rattle.sdp_area.specs.Latest.{over_title, mark_title};
-ghost use Rattle.sdp_area.specs.Maybe.{maybe, maybe_ports};
+ghost use Rattle.sdp_area.specs.Held.{origin_in_area, connection_in_area, media_in_area};
 ghost use Rattle.sdp_area.specs.Which.{mark_text, over_text, contacts_at, most_contacts};
 
-use sdp_cells::{Pushed, get2, marked, push_words, put_words};
+use sdp_builders::{Media, Origin};
+use sdp_cells::{Full, get2, marked, push_words, put_words};
 use sdp_lines::Span;
 
 // Bytes of the area: the session's, and behind them the lines.
@@ -86,18 +86,12 @@ pub const TITLE_LINES: usize = 16810;
 
 pub const KEY_LINES: usize = 16874;
 
-// A string that may be absent.
+// A c line.
 #[derive(Clone, Copy)]
-pub struct MaybeSpan {
-    pub there: bool,
-    pub span: Span,
-}
-
-// A number of ports that may be absent.
-#[derive(Drop)]
-pub struct MaybePorts {
-    pub there: bool,
-    pub value: usize,
+pub struct Connection {
+    pub nettype: Span,
+    pub addrtype: Span,
+    pub connection_address: Span,
 }
 
 // The strings that stand behind a mark: the i line of the session, the u line, and the i line of the latest media.
@@ -120,11 +114,7 @@ pub fn clear(area: &mut [u8])
     requires { area_size ≤ length area.old }
     ensures { area.new ≡ zeros area_size ++ drop area_size area.old }
 {
-    let mut i: usize = 0;
-    while i < AREA_SIZE {
-        area[i] = 0;
-        i += 1;
-    }
+    area[..AREA_SIZE].fill(0);
 }
 
 // Numbers of two bytes each, over the latest media's title, mark and all; nothing where there is no media.
@@ -157,34 +147,36 @@ fn has_title(area: &[u8]) -> bool
     marked(area, MEDIAS + (2 + ((n - 1) * 36 + 18)))
 }
 
-// 1 for present, 0 for absent.
-fn mark(there: bool) -> usize
-    ensures { result ≡ cond there 1 0 }
+// A number of eight bytes as words of two, the lower first.
+fn words(v: u64) -> [usize; 4]
+    ensures { pairs result ≡ le 8 v }
 {
-    if there { 1 } else { 0 }
+    [
+        v as usize,
+        (v / 65536) as usize,
+        (v / 4294967296) as usize,
+        (v / 281474976710656) as usize,
+    ]
 }
 
-// The place, 0 where the string is absent.
-fn place_of(m: MaybeSpan) -> usize
-    ensures { result ≡ cond m.there m.span.at.0 0 }
+// The mark, the place and the length of a string that may be absent.
+fn string_words(x: Option<Span>) -> [usize; 3]
+    ensures { pairs result ≡ opt 4 span x }
 {
-    let x = m.span;
-    if m.there { x.at.0 } else { 0 }
+    match x {
+        Some(x) => [1, x.at.0, x.len],
+        None => [0, 0, 0],
+    }
 }
 
-// The length, 0 where the string is absent.
-fn len_of(m: MaybeSpan) -> usize
-    ensures { result ≡ cond m.there m.span.len 0 }
+// The mark and the value of a number that may be absent.
+fn number_words(x: Option<usize>) -> [usize; 2]
+    ensures { pairs result ≡ opt 2 (le 2) x }
 {
-    let x = m.span;
-    if m.there { x.len } else { 0 }
-}
-
-// The number of ports, 0 where it is absent.
-fn ports_of(m: MaybePorts) -> usize
-    ensures { result ≡ cond m.there m.value 0 }
-{
-    if m.there { m.value } else { 0 }
+    match x {
+        Some(x) => [1, x],
+        None => [0, 0],
+    }
 }
 
 // Where the table of such lines begins.
@@ -199,7 +191,7 @@ fn contacts_at(which: Contact) -> usize
 }
 
 // An e or a p line.
-pub fn push_contact(area: &mut [u8], which: Contact, x: Span) -> Pushed
+pub fn push_contact(area: &mut [u8], which: Contact, x: Span) -> Result<(), Full>
     requires { size ≤ length area.old }
     ensures value { result ≡ told area.old (contacts_at which) (most_contacts which) }
     ensures area_after { area.new ≡ grown area.old (contacts_at which) (most_contacts which) (span x) }
@@ -209,204 +201,160 @@ pub fn push_contact(area: &mut [u8], which: Contact, x: Span) -> Pushed
 }
 
 // A c line of a media.
-pub fn push_connection(
-    area: &mut [u8],
-    owner: usize,
-    nettype: Span,
-    addrtype: Span,
-    address: Span,
-) -> Pushed
+pub fn push_connection(area: &mut [u8], owner: usize, c: Connection) -> Result<(), Full>
     requires { size ≤ length area.old }
     ensures value { result ≡ told area.old connections_at most_media_connections }
-    ensures area_after { area.new ≡ grown area.old connections_at most_media_connections (media_connection_row (record { owner = owner; connection = record { nettype = nettype; addrtype = addrtype; connection_address = address } })) }
+    ensures area_after { area.new ≡ grown area.old connections_at most_media_connections (media_connection_row (record { owner = owner; connection = connection_in_area c })) }
 {
+    let Connection {
+        nettype,
+        addrtype,
+        connection_address,
+    } = c;
     let row = [
         owner,
         nettype.at.0,
         nettype.len,
         addrtype.at.0,
         addrtype.len,
-        address.at.0,
-        address.len,
+        connection_address.at.0,
+        connection_address.len,
     ];
     push_words(area, CONNECTIONS, 64, &row)
 }
 
 // A b line.
-pub fn push_bandwidth(area: &mut [u8], owner: usize, bwtype: Span, bandwidth: u64) -> Pushed
+pub fn push_bandwidth(
+    area: &mut [u8],
+    owner: usize,
+    bwtype: Span,
+    bandwidth: u64,
+) -> Result<(), Full>
     requires { size ≤ length area.old }
     ensures value { result ≡ told area.old bandwidths_at most_bandwidths }
     ensures area_after { area.new ≡ grown area.old bandwidths_at most_bandwidths (bandwidth_row (record { owner = owner; bwtype = bwtype; bandwidth = bandwidth })) }
 {
-    let row = [
-        owner,
-        bwtype.at.0,
-        bwtype.len,
-        bandwidth as usize,
-        (bandwidth / 65536) as usize,
-        (bandwidth / 4294967296) as usize,
-        (bandwidth / 281474976710656) as usize,
-    ];
+    let [a, b, c, d] = words(bandwidth);
+    let row = [owner, bwtype.at.0, bwtype.len, a, b, c, d];
     push_words(area, BANDWIDTHS, 64, &row)
 }
 
 // A t line.
-pub fn push_time(area: &mut [u8], start: u64, stop: u64) -> Pushed
+pub fn push_time(area: &mut [u8], start: u64, stop: u64) -> Result<(), Full>
     requires { size ≤ length area.old }
     ensures value { result ≡ told area.old times_at most_times }
     ensures area_after { area.new ≡ grown area.old times_at most_times (time_row (record { start_time = start; stop_time = stop })) }
 {
-    let row = [
-        start as usize,
-        (start / 65536) as usize,
-        (start / 4294967296) as usize,
-        (start / 281474976710656) as usize,
-        stop as usize,
-        (stop / 65536) as usize,
-        (stop / 4294967296) as usize,
-        (stop / 281474976710656) as usize,
-    ];
+    let [a, b, c, d] = words(start);
+    let [e, f, g, h] = words(stop);
+    let row = [a, b, c, d, e, f, g, h];
     push_words(area, TIMES, 32, &row)
 }
 
 // An r line, without its offsets.
-pub fn push_repeat(area: &mut [u8], owner: usize, interval: u64, duration: u64) -> Pushed
+pub fn push_repeat(area: &mut [u8], owner: usize, interval: u64, duration: u64) -> Result<(), Full>
     requires { size ≤ length area.old }
     ensures value { result ≡ told area.old repeats_at most_repeats }
     ensures area_after { area.new ≡ grown area.old repeats_at most_repeats (repeat_row (record { owner = owner; repeat_interval = interval; active_duration = duration })) }
 {
-    let row = [
-        owner,
-        interval as usize,
-        (interval / 65536) as usize,
-        (interval / 4294967296) as usize,
-        (interval / 281474976710656) as usize,
-        duration as usize,
-        (duration / 65536) as usize,
-        (duration / 4294967296) as usize,
-        (duration / 281474976710656) as usize,
-    ];
+    let [a, b, c, d] = words(interval);
+    let [e, f, g, h] = words(duration);
+    let row = [owner, a, b, c, d, e, f, g, h];
     push_words(area, REPEATS, 64, &row)
 }
 
 // An offset of an r line.
-pub fn push_offset(area: &mut [u8], owner: usize, offset: u64) -> Pushed
+pub fn push_offset(area: &mut [u8], owner: usize, offset: u64) -> Result<(), Full>
     requires { size ≤ length area.old }
     ensures value { result ≡ told area.old offsets_at most_offsets }
     ensures area_after { area.new ≡ grown area.old offsets_at most_offsets (offset_row (record { owner = owner; offset = offset })) }
 {
-    let row = [
-        owner,
-        offset as usize,
-        (offset / 65536) as usize,
-        (offset / 4294967296) as usize,
-        (offset / 281474976710656) as usize,
-    ];
+    let [a, b, c, d] = words(offset);
+    let row = [owner, a, b, c, d];
     push_words(area, OFFSETS, 256, &row)
 }
 
 // A pair of the z line.
-pub fn push_zone(area: &mut [u8], adjustment: u64, offset: u64) -> Pushed
+pub fn push_zone(area: &mut [u8], adjustment: u64, offset: u64) -> Result<(), Full>
     requires { size ≤ length area.old }
     ensures value { result ≡ told area.old zones_at most_zones }
     ensures area_after { area.new ≡ grown area.old zones_at most_zones (zone_row (record { adjustment_time = adjustment; offset = offset })) }
 {
-    let row = [
-        adjustment as usize,
-        (adjustment / 65536) as usize,
-        (adjustment / 4294967296) as usize,
-        (adjustment / 281474976710656) as usize,
-        offset as usize,
-        (offset / 65536) as usize,
-        (offset / 4294967296) as usize,
-        (offset / 281474976710656) as usize,
-    ];
+    let [a, b, c, d] = words(adjustment);
+    let [e, f, g, h] = words(offset);
+    let row = [a, b, c, d, e, f, g, h];
     push_words(area, ZONES, 64, &row)
 }
 
 // An a line.
-pub fn push_attribute(area: &mut [u8], owner: usize, name: Span, value: MaybeSpan) -> Pushed
+pub fn push_attribute(
+    area: &mut [u8],
+    owner: usize,
+    name: Span,
+    value: Option<Span>,
+) -> Result<(), Full>
     requires { size ≤ length area.old }
     ensures value { result ≡ told area.old attributes_at most_attributes }
-    ensures area_after { area.new ≡ grown area.old attributes_at most_attributes (attribute_row (record { owner = owner; attribute = name; value = maybe value })) }
+    ensures area_after { area.new ≡ grown area.old attributes_at most_attributes (attribute_row (record { owner = owner; attribute = name; value = value })) }
 {
-    let row = [
-        owner,
-        name.at.0,
-        name.len,
-        mark(value.there),
-        place_of(value),
-        len_of(value),
-    ];
+    let [there, at, len] = string_words(value);
+    let row = [owner, name.at.0, name.len, there, at, len];
     push_words(area, ATTRIBUTES, 512, &row)
 }
 
-// An m line.
-pub fn push_media(
-    area: &mut [u8],
-    media: Span,
-    port: usize,
-    ports: MaybePorts,
-    proto: Span,
-    fmt: Span,
-) -> Pushed
+// An m line. It has no title and no key yet.
+pub fn push_media(area: &mut [u8], m: Media) -> Result<(), Full>
     requires { size ≤ length area.old }
     ensures value { result ≡ told area.old medias_at most_medias }
-    ensures area_after { area.new ≡ grown area.old medias_at most_medias (media_row (record { media = media; port = port; num_ports = maybe_ports ports; proto = proto; fmt = fmt; media_title = none; key = none })) }
+    ensures area_after { area.new ≡ grown area.old medias_at most_medias (media_row (media_in_area m)) }
 {
-    let row = [
-        media.at.0,
-        media.len,
+    let Media {
+        media,
         port,
-        mark(ports.there),
-        ports_of(ports),
-        proto.at.0,
-        proto.len,
-        fmt.at.0,
-        fmt.len,
-        0,
-        0,
-        0,
-        0,
-        0,
-        0,
-        0,
-        0,
-        0,
+        num_ports,
+        proto,
+        fmt,
+    } = m;
+    let [there, ports] = number_words(num_ports);
+    let row = [
+        media.at.0, media.len, port, there, ports, proto.at.0, proto.len, fmt.at.0, fmt.len, 0, 0,
+        0, 0, 0, 0, 0, 0, 0,
     ];
     push_words(area, MEDIAS, 32, &row)
 }
 
 // The o line.
-pub fn set_origin(
-    area: &mut [u8],
-    username: MaybeSpan,
-    sess_id: Span,
-    version: u64,
-    nettype: Span,
-    addrtype: Span,
-    address: Span,
-)
+pub fn set_origin(area: &mut [u8], o: Origin)
     requires { size ≤ length area.old }
-    ensures { area.new ≡ over area.old origin_at (le 2 1 ++ origin_bytes (record { username = maybe username; sess_id = sess_id; sess_version = version; nettype = nettype; addrtype = addrtype; unicast_address = address })) }
+    ensures { area.new ≡ over area.old origin_at (le 2 1 ++ origin_bytes (origin_in_area o)) }
 {
+    let Origin {
+        username,
+        sess_id,
+        sess_version,
+        nettype,
+        addrtype,
+        unicast_address,
+    } = o;
+    let [there, at, len] = string_words(username);
+    let [a, b, c, d] = words(sess_version);
     let row = [
         1,
-        mark(username.there),
-        place_of(username),
-        len_of(username),
+        there,
+        at,
+        len,
         sess_id.at.0,
         sess_id.len,
-        version as usize,
-        (version / 65536) as usize,
-        (version / 4294967296) as usize,
-        (version / 281474976710656) as usize,
+        a,
+        b,
+        c,
+        d,
         nettype.at.0,
         nettype.len,
         addrtype.at.0,
         addrtype.len,
-        address.at.0,
-        address.len,
+        unicast_address.at.0,
+        unicast_address.len,
     ];
     put_words(area, ORIGIN, &row);
 }
@@ -434,18 +382,23 @@ pub fn set_text(area: &mut [u8], which: Text, x: Span)
 }
 
 // The c line of the session.
-pub fn set_connection(area: &mut [u8], nettype: Span, addrtype: Span, address: Span)
+pub fn set_connection(area: &mut [u8], c: Connection)
     requires { size ≤ length area.old }
-    ensures { area.new ≡ over area.old connection_at (le 2 1 ++ connection_bytes (record { nettype = nettype; addrtype = addrtype; connection_address = address })) }
+    ensures { area.new ≡ over area.old connection_at (le 2 1 ++ connection_bytes (connection_in_area c)) }
 {
+    let Connection {
+        nettype,
+        addrtype,
+        connection_address,
+    } = c;
     let row = [
         1,
         nettype.at.0,
         nettype.len,
         addrtype.at.0,
         addrtype.len,
-        address.at.0,
-        address.len,
+        connection_address.at.0,
+        connection_address.len,
     ];
     put_words(area, CONNECTION, &row);
 }

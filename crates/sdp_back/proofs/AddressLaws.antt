@@ -2,7 +2,7 @@
 use mathlib.Core.Path.{◌≡◌, refl, sym, ap, ◌∙◌}
 use mathlib.Core.Bool.{Bool, true, false, cond, ◌&&◌}
 use mathlib.Core.List.{List, [], ◌∷◌, ◌++◌, map, append-nil}
-use mathlib.Core.Option.{Option, none, some}
+use Rattle.std.specs.Prelude.{Option, Some, None}
 use Prim.Native.Nat.{ℕ, ◌+◌, ◌^◌, ◌<◌}
 use native.Mathlib.Omega.{arith}
 use lib.ListN.{length, get_or, take, drop, length-take, length-drop}
@@ -117,7 +117,7 @@ connection_back v c h e =
 -- ---- the o line
 -- "Username `-` means absent"
 abbrev user_in : List ℕ → Option (List ℕ)
-user_in s = cond (eqb (length s) 1 && eqb (get_or s 0 0) 0x2d) none (some s)
+user_in s = cond (eqb (length s) 1 && eqb (get_or s 0 0) 0x2d) None (Some s)
 
 user_text : (x : List ℕ) → Word x → username_text id (user_in x) ≡ x
 unfolding form.username_text form.or_dash
@@ -128,7 +128,7 @@ user_text x w = go (eqb (length x) 1) (eqb (get_or x 0 0) 0x2d) refl refl
     dash (b ∷ []) l e = ap (λ (c : ℕ). c ∷ []) (sym e)
     dash (b ∷ c ∷ s) l e = absurd (omega arith)
 
-    go : (a b : Bool) → eqb (length x) 1 ≡ a → eqb (get_or x 0 0) 0x2d ≡ b → username_text id (cond (a && b) none (some x)) ≡ x
+    go : (a b : Bool) → eqb (length x) 1 ≡ a → eqb (get_or x 0 0) 0x2d ≡ b → username_text id (cond (a && b) None (Some x)) ≡ x
     go true true p q = dash x (eqb-true (length x) 1 p) (eqb-true (get_or x 0 0) 0x2d q)
     go true false p q = let l = w.some in rw (ne_eqb (length x) 0 (λ e. omega arith)) (clean_bare x w.bare)
     go false b p q = let l = w.some in rw (ne_eqb (length x) 0 (λ e. omega arith)) (clean_bare x w.bare)
@@ -148,13 +148,13 @@ module _ (v : List ℕ) where
       rw l (go (eqb p.len 1) refl)
     where
       go : (b : Bool) → eqb p.len 1 ≡ b
-          → maybe_in (part v) (cond (b && eqb (get_or v p.at 0) 0x2d) (record { there = false; piece = record { at = 0; len = 0 } }) (record { there = true; piece = p })) ≡ cond (b && eqb (get_or (part v p) 0 0) 0x2d) none (some (part v p))
+          → maybe_in (part v) (cond (b && eqb (get_or v p.at 0) 0x2d) (record { there = false; piece = record { at = 0; len = 0 } }) (record { there = true; piece = p })) ≡ cond (b && eqb (get_or (part v p) 0 0) 0x2d) None (Some (part v p))
       go true e =
           let n = eqb-true p.len 1 e in
           let g : get_or (part v p) 0 0 ≡ get_or v p.at 0 = get_or-take p.len (drop p.at v) 0 0 (omega arith) ∙ get_or-drop p.at v 0 0 ∙ ap (λ (k : ℕ). get_or v k 0) (let z : p.at + 0 ≡ p.at = omega arith in z) in
           rw g (pick (eqb (get_or v p.at 0) 0x2d))
         where
-          pick : (b : Bool) → maybe_in (part v) (cond b (record { there = false; piece = record { at = 0; len = 0 } }) (record { there = true; piece = p })) ≡ cond b none (some (part v p))
+          pick : (b : Bool) → maybe_in (part v) (cond b (record { there = false; piece = record { at = 0; len = 0 } }) (record { there = true; piece = p })) ≡ cond b None (Some (part v p))
           pick true = refl
           pick false = refl
       go false e = refl

@@ -2,8 +2,7 @@
 use mathlib.Core.Path.{◌≡◌, refl, ap, ◌∙◌}
 use mathlib.Core.Bool.{Bool, true, false, cond}
 use mathlib.Core.List.{List, [], ◌∷◌, map}
-use mathlib.Core.Option
-use mathlib.Core.Option.{Option, none, some}
+use Rattle.std.specs.Prelude.{Option, Some, None, option_map}
 use Prim.Native.Nat.{ℕ, ◌+◌, ◌-◌}
 use native.Mathlib.Omega.{arith}
 use lib.ListN.{length, take, drop, length-drop}
@@ -51,18 +50,18 @@ pub record Backs {A X : Type 0} (read : List ℕ → Read A) (mk : List ℕ → 
 
 -- a field's bytes, and what place says of its end
 abbrev seen : {R : Type 0} → List ℕ → (ℕ → R) → Field → Option (List ℕ × R)
-seen v place (field.Got p e) = some (part v p, place e)
-seen v place field.Nothing = none
+seen v place (field.Got p e) = Some (part v p, place e)
+seen v place field.Nothing = None
 
 -- a field that must be there
 abbrev pub on_seen : {R B : Type 0} → Option (List ℕ × R) → (List ℕ → R → Read B) → Read B
-on_seen none k = lost
-on_seen (some x) k = k x.0 x.1
+on_seen None k = lost
+on_seen (Some x) k = k x.0 x.1
 
 -- and one that must not
 abbrev pub unseen : {X B : Type 0} → Option X → Read B → Read B
-unseen none r = r
-unseen (some x) r = lost
+unseen None r = r
+unseen (Some x) r = lost
 
 -- ---- one field judged
 abbrev pub tested : (List ℕ → Bool) → List ℕ → Read (List ℕ)
@@ -84,8 +83,8 @@ port_in s = cond (is_utf8 s) (map_read (λ p. p) (ports_of s)) lost
 
 -- a string that may be absent
 abbrev pub choice_in : Option (List ℕ) → Read (Option (List ℕ))
-choice_in none = got none
-choice_in (some s) = map_read some (text_in s)
+choice_in None = got None
+choice_in (Some s) = map_read Some (text_in s)
 
 module _ {A B R : Type 0} (f : A → B) (w : ℕ) (v : List ℕ) (place : ℕ → R) (F : Field) (X : Option (List ℕ × R)) (q : seen v place F ≡ X) where
   -- a string that passes a test
@@ -147,8 +146,8 @@ module _ {A B R : Type 0} (f : A → B) (w : ℕ) (v : List ℕ) (place : ℕ �
 
 -- the first of the words, and the others
 abbrev pub first : List (List ℕ) → Option (List ℕ × List (List ℕ))
-first [] = none
-first (x ∷ xs) = some (x, xs)
+first [] = None
+first (x ∷ xs) = Some (x, xs)
 
 -- ---- what holds of what is read
 abbrev pub Gives : {A : Type 0} → (A → Type 0) → Read A → Type 0
@@ -176,8 +175,8 @@ module _ {A : Type 0} (P : A → Type 0) where
   gives_number Format k h = tt
 
   pub gives_unseen : {X : Type 0} (o : Option X) (r : Read A) → Gives P r → Gives P (unseen o r)
-  gives_unseen none r g = g
-  gives_unseen (some x) r g = tt
+  gives_unseen None r g = g
+  gives_unseen (Some x) r g = tt
 
   pub gives_word : (ws : List (List ℕ)) (k : List ℕ → List (List ℕ) → Read A) → Each Word ws → ((x : List ℕ) (xs : List (List ℕ)) → Word x → Each Word xs → Gives P (k x xs))
       → Gives P (on_seen (first ws) k)
@@ -198,7 +197,7 @@ module _ (v : List ℕ) where
   behind-drop : (i j : ℕ) → behind v (i + j) ≡ behind (drop i v) j
   behind-drop i j = go (ltb (i + j) (length v)) refl
     where
-      go : (b : Bool) → ltb (i + j) (length v) ≡ b → cond b (some (drop (i + j + 1) v)) none ≡ behind (drop i v) j
+      go : (b : Bool) → ltb (i + j) (length v) ≡ b → cond b (Some (drop (i + j + 1) v)) None ≡ behind (drop i v) j
       go true e =
           let l : ltb j (length (drop i v)) ≡ true = lt-ltb j (length (drop i v)) (omega (arith, length-drop i v, ltb-true (i + j) (length v) e)) in
           let d : drop (j + 1) (drop i v) ≡ drop (i + j + 1) v = drop-drop (j + 1) i v ∙ ap (λ (n : ℕ). drop n v) (let z : i + (j + 1) ≡ i + j + 1 = omega arith in z) in
@@ -207,27 +206,27 @@ module _ (v : List ℕ) where
           let l : ltb j (length (drop i v)) ≡ false = le-ltb j (length (drop i v)) (omega (arith, length-drop i v, ltb-false (i + j) (length v) e)) in
           rw l
 
-  pub see_first : (sep : ℕ) → seen v (behind v) (first_piece sep v) ≡ some (cut sep v)
+  pub see_first : (sep : ℕ) → seen v (behind v) (first_piece sep v) ≡ Some (cut sep v)
   unfolding cut split.first_piece
-  see_first sep = ap (λ (n : ℕ). some (take (index_of sep v) v, behind v n)) (let z : 0 + index_of sep v ≡ index_of sep v = omega arith in z)
+  see_first sep = ap (λ (n : ℕ). Some (take (index_of sep v) v, behind v n)) (let z : 0 + index_of sep v ≡ index_of sep v = omega arith in z)
 
-  pub see_after : (sep e : ℕ) → seen v (behind v) (piece_after sep v e) ≡ Option.map (cut sep) (behind v e)
+  pub see_after : (sep e : ℕ) → seen v (behind v) (piece_after sep v e) ≡ option_map (cut sep) (behind v e)
   unfolding cut split.piece_after
   see_after sep e = go (ltb e (length v))
     where
-      go : (b : Bool) → seen v (behind v) (cond b (split.piece_from sep v (e + 1)) field.Nothing) ≡ Option.map (cut sep) (cond b (some (drop (e + 1) v)) none)
-      go true = ap (λ o. some (take (index_of sep (drop (e + 1) v)) (drop (e + 1) v), o)) (behind-drop (e + 1) (index_of sep (drop (e + 1) v)))
+      go : (b : Bool) → seen v (behind v) (cond b (split.piece_from sep v (e + 1)) field.Nothing) ≡ option_map (cut sep) (cond b (Some (drop (e + 1) v)) None)
+      go true = ap (λ o. Some (take (index_of sep (drop (e + 1) v)) (drop (e + 1) v), o)) (behind-drop (e + 1) (index_of sep (drop (e + 1) v)))
       go false = refl
 
   rest_part : (e : ℕ) → take (length v - (e + 1)) (drop (e + 1) v) ≡ drop (e + 1) v
   rest_part e = take_all (length v - (e + 1)) (drop (e + 1) v) (omega (arith, length-drop (e + 1) v))
 
-  pub see_rest : (e : ℕ) → seen v (λ i. tt) (rest_after v e) ≡ Option.map alone (behind v e)
+  pub see_rest : (e : ℕ) → seen v (λ i. tt) (rest_after v e) ≡ option_map alone (behind v e)
   unfolding split.rest_after
   see_rest e = go (ltb e (length v))
     where
-      go : (b : Bool) → seen v (λ i. tt) (cond b (field.Got (record { at = e + 1; len = length v - (e + 1) }) (length v)) field.Nothing) ≡ Option.map alone (cond b (some (drop (e + 1) v)) none)
-      go true = ap (λ r. some (alone r)) (rest_part e)
+      go : (b : Bool) → seen v (λ i. tt) (cond b (field.Got (record { at = e + 1; len = length v - (e + 1) }) (length v)) field.Nothing) ≡ option_map alone (cond b (Some (drop (e + 1) v)) None)
+      go true = ap (λ r. Some (alone r)) (rest_part e)
       go false = refl
 
   pub see_choice : {A B : Type 0} (f : A → B) (w e : ℕ) (k : MaybePiece → Read A) (k' : Option (List ℕ) → Read B) → ((m : MaybePiece) → map_read f (k m) ≡ k' (maybe_in (part v) m))
@@ -235,12 +234,12 @@ module _ (v : List ℕ) where
   unfolding split.rest_after
   see_choice f w e k k' h = go (ltb e (length v))
     where
-      go : (b : Bool) → map_read f (after_choice (choice_of w v (cond b (field.Got (record { at = e + 1; len = length v - (e + 1) }) (length v)) field.Nothing)) k) ≡ and_then (choice_in (cond b (some (drop (e + 1) v)) none)) k'
+      go : (b : Bool) → map_read f (after_choice (choice_of w v (cond b (field.Got (record { at = e + 1; len = length v - (e + 1) }) (length v)) field.Nothing)) k) ≡ and_then (choice_in (cond b (Some (drop (e + 1) v)) None)) k'
       go false = h absent
       go true = rw (rest_part e) (test (is_utf8 (drop (e + 1) v)) _)
         where
-          test : (b : Bool) (x : Wrong) → map_read f (after_choice (cond b (choice.Got (record { there = true; piece = record { at = e + 1; len = length v - (e + 1) } })) (choice.Refused x)) k) ≡ and_then (map_read some (cond b (got (drop (e + 1) v)) lost)) k'
-          test true x = h (record { there = true; piece = record { at = e + 1; len = length v - (e + 1) } }) ∙ ap (λ s. k' (some s)) (rest_part e)
+          test : (b : Bool) (x : Wrong) → map_read f (after_choice (cond b (choice.Got (record { there = true; piece = record { at = e + 1; len = length v - (e + 1) } })) (choice.Refused x)) k) ≡ and_then (map_read Some (cond b (got (drop (e + 1) v)) lost)) k'
+          test true x = h (record { there = true; piece = record { at = e + 1; len = length v - (e + 1) } }) ∙ ap (λ s. k' (Some s)) (rest_part e)
           test false x = refl
 
 -- ---- a record within a record

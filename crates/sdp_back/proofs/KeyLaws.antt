@@ -2,8 +2,7 @@
 use mathlib.Core.Path.{◌≡◌, refl, sym, ap, ap₂, ◌∙◌}
 use mathlib.Core.Bool.{true}
 use mathlib.Core.List.{List, [], ◌∷◌, ◌++◌, map}
-use mathlib.Core.Option
-use mathlib.Core.Option.{Option, none, some}
+use Rattle.std.specs.Prelude.{Option, Some, None, option_map}
 use Prim.Native.Nat.{ℕ, ◌+◌, ◌≤◌}
 use native.Mathlib.Omega.{arith}
 use lib.ListN.{length, length-map}
@@ -31,13 +30,13 @@ use Rattle.sdp_back.specs.Keys.{unkeyed, without_keys, KeysIn, KeptFrom}
 use Rattle.sdp_back.proofs.PlainLaws.{MediaPlain, read_plain}
 
 -- a media that has none
-pub unkeyed_same : {S : Type 0} (m : Media S) → m.key ≡ none → unkeyed m ≡ m
+pub unkeyed_same : {S : Type 0} (m : Media S) → m.key ≡ None → unkeyed m ≡ m
 unkeyed_same m e = λ i. record { media = m.media; port = m.port; num_ports = m.num_ports; proto = m.proto; fmt = m.fmt; media_title = m.media_title; key = sym e i }
 
 -- ---- what is read has none
-keyless : {X Y : Type 0} (f : X → Y) (o : Option X) → Option.map f o ≡ none → o ≡ none
-keyless f none e = refl
-keyless f (some x) e = absurd (let z : ◌≡◌ {A = ℕ} 0 1 = cc in omega arith)
+keyless : {X Y : Type 0} (f : X → Y) (o : Option X) → option_map f o ≡ None → o ≡ None
+keyless f None e = refl
+keyless f (Some x) e = absurd (let z : ◌≡◌ {A = ℕ} 0 1 = cc in omega arith)
 
 module _ (f : Span → List ℕ) where
   medias_keyless : (ms : List (Media Span)) → Each MediaPlain (map (said_media f) ms) → map unkeyed ms ≡ ms

@@ -2,7 +2,7 @@
 use mathlib.Core.Path.{◌≡◌, refl}
 use mathlib.Core.Bool.{true}
 use mathlib.Core.List.{List, [], ◌∷◌, ◌++◌}
-use mathlib.Core.Option.{none, some}
+use Rattle.std.specs.Prelude.{Some, None}
 use Prim.Native.Nat.{ℕ}
 use native.Mathlib.Omega.{arith}
 use lib.ListN.{length}
@@ -42,7 +42,7 @@ one p = record { at = record { 0 = p }; len = 1 }
 
 abbrev kept : Session Span
 kept = record {
-  head = record { origin = none; name = none; description = none; uri = none; connection = none; key = some (record { method = one 6; encryption_key = none }) };
+  head = record { origin = None; name = None; description = None; uri = None; connection = None; key = Some (record { method = one 6; encryption_key = None }) };
   tables = record {
     emails = [];
     phones = [];
@@ -53,7 +53,7 @@ kept = record {
     offsets = [];
     zones = [];
     attributes = [];
-    medias = record { media = one 14; port = 1; num_ports = none; proto = one 18; fmt = one 20; media_title = none; key = some (record { method = one 24; encryption_key = some (one 26) }) } ∷ [];
+    medias = record { media = one 14; port = 1; num_ports = None; proto = one 18; fmt = one 20; media_title = None; key = Some (record { method = one 24; encryption_key = Some (one 26) }) } ∷ [];
   };
 }
 

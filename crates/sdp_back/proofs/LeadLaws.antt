@@ -2,7 +2,7 @@
 use mathlib.Core.Path.{◌≡◌, refl, ap}
 use mathlib.Core.Bool.{Bool, true, false, cond}
 use mathlib.Core.List.{List, [], ◌∷◌, ◌++◌, append-nil, append_assoc}
-use mathlib.Core.Option.{Option, none, some}
+use Rattle.std.specs.Prelude.{Option, Some, None}
 use Prim.Native.Nat.{ℕ, ◌+◌, ◌≤◌, ◌<◌}
 use native.Mathlib.Omega.{arith}
 use lib.ListN.{length, length-append}
@@ -42,9 +42,9 @@ line_leads ρ τ l v good b e = record {
 }
 
 -- what may be absent
-pub optional_leads : {X : Type 0} (P : X → Type 0) (f : X → List ℕ) (at : Option X → Reading (List ℕ)) → ((x : X) → P x → Leads (at none) (f x) (at (some x))) → (o : Option X) → IfGiven P o → Leads (at none) (optional f o) (at o)
-optional_leads P f at go none h = stay
-optional_leads P f at go (some x) h = go x h
+pub optional_leads : {X : Type 0} (P : X → Type 0) (f : X → List ℕ) (at : Option X → Reading (List ℕ)) → ((x : X) → P x → Leads (at None) (f x) (at (Some x))) → (o : Option X) → IfGiven P o → Leads (at None) (optional f o) (at o)
+optional_leads P f at go None h = stay
+optional_leads P f at go (Some x) h = go x h
 
 -- the version line, and the lines after it
 pub begin_leads : (rest : List ℕ) (s : Session (List ℕ)) → ((n p : ℕ) → run bytes_at fresh n p (split rest) ≡ accepted s) → lines bytes_at (line 0x76 (0x30 ∷ []) ++ rest) ≡ accepted s

@@ -2,7 +2,7 @@
 use mathlib.Core.Path.{◌≡◌, refl, sym, ap, ◌∙◌}
 use mathlib.Core.Bool.{Bool, true, false, cond, not}
 use mathlib.Core.List.{List, [], ◌∷◌, ◌++◌, append_assoc}
-use mathlib.Core.Option.{Option, none, some, map}
+use Rattle.std.specs.Prelude.{Option, Some, None, option_map}
 use Prim.Native.Nat.{ℕ, ◌+◌, ◌^◌, ◌<◌}
 use native.Mathlib.Omega.{arith}
 use lib.ListN.{length, take, drop}
@@ -50,20 +50,20 @@ behind_bare : (sep : ℕ) (v : List ℕ) → bare v ≡ true → IfGiven (λ r. 
 unfolding cut
 behind_bare sep v h = go (ltb (index_of sep v) (length v))
   where
-    go : (b : Bool) → IfGiven (λ r. bare r ≡ true) (cond b (some (drop (index_of sep v + 1) v)) none)
+    go : (b : Bool) → IfGiven (λ r. bare r ≡ true) (cond b (Some (drop (index_of sep v + 1) v)) None)
     go true = every_drop (λ b. not (dropped b)) (index_of sep v + 1) v h
     go false = tt
 
 -- a field behind a separator is the front of a cut of bytes
 module _ {A : Type 0} (P : A → Type 0) (sep : ℕ) where
   gives_cut : (o : Option (List ℕ)) → IfGiven (λ r. bare r ≡ true) o → (k : List ℕ → Option (List ℕ) → Read A)
-      → ((s : List ℕ) (r : Option (List ℕ)) → bare s ≡ true → lacks sep s ≡ true → IfGiven (λ r. bare r ≡ true) r → Gives P (k s r)) → Gives P (on_seen (map (cut sep) o) k)
-  gives_cut none b k h = tt
-  gives_cut (some v) b k h = h (cut sep v).0 (cut sep v).1 (front_bare sep v b) (front_lacks sep v) (behind_bare sep v b)
+      → ((s : List ℕ) (r : Option (List ℕ)) → bare s ≡ true → lacks sep s ≡ true → IfGiven (λ r. bare r ≡ true) r → Gives P (k s r)) → Gives P (on_seen (option_map (cut sep) o) k)
+  gives_cut None b k h = tt
+  gives_cut (Some v) b k h = h (cut sep v).0 (cut sep v).1 (front_bare sep v b) (front_lacks sep v) (behind_bare sep v b)
 
-  gives_alone : (o : Option (List ℕ)) → IfGiven (λ r. bare r ≡ true) o → (k : List ℕ → Unit {0} → Read A) → ((s : List ℕ) → bare s ≡ true → Gives P (k s tt)) → Gives P (on_seen (map alone o) k)
-  gives_alone none b k h = tt
-  gives_alone (some v) b k h = h v b
+  gives_alone : (o : Option (List ℕ)) → IfGiven (λ r. bare r ≡ true) o → (k : List ℕ → Unit {0} → Read A) → ((s : List ℕ) → bare s ≡ true → Gives P (k s tt)) → Gives P (on_seen (option_map alone o) k)
+  gives_alone None b k h = tt
+  gives_alone (Some v) b k h = h v b
 
 -- ---- b: bwtype and bandwidth
 abbrev pub bandwidth_is : List ℕ → bandwidth.Bandwidth → List ℕ × ℕ
@@ -71,8 +71,8 @@ bandwidth_is v b = (part v b.bwtype, b.bandwidth)
 
 bandwidth_rest : List ℕ → Option (List ℕ) → Read (List ℕ × ℕ)
 bandwidth_rest kind r =
-    on_seen (map (cut 0x3a) r) (λ s r. and_then (amount_in (whole_number 64 s)) (λ n.
-    unseen (map (cut 0x3a) r) (got (kind, n))))
+    on_seen (option_map (cut 0x3a) r) (λ s r. and_then (amount_in (whole_number 64 s)) (λ n.
+    unseen (option_map (cut 0x3a) r) (got (kind, n))))
 
 bandwidth_from : List ℕ × Option (List ℕ) → Read (List ℕ × ℕ)
 bandwidth_from c = and_then (text_in c.0) (λ kind. bandwidth_rest kind c.1)
@@ -91,7 +91,7 @@ bandwidth-again : (kind : List ℕ) (n : ℕ) → bare kind ≡ true → lacks 0
 unfolding bandwidth_from bandwidth_rest every
 bandwidth-again kind n b l u h =
     rw (clean_bare kind b) (record {
-      says = see_bandwidth _ ∙ ap bandwidth_from (cut_back 0x3a kind (some (digits n)) l) ∙ rw (u, cut_none 0x3a (digits n) (digits_lack 0x3a n (λ l g. omega arith)), number_back 64 n h);
+      says = see_bandwidth _ ∙ ap bandwidth_from (cut_back 0x3a kind (Some (digits n)) l) ∙ rw (u, cut_none 0x3a (digits n) (digits_lack 0x3a n (λ l g. omega arith)), number_back 64 n h);
       bare = every_append (λ b. not (dropped b)) kind _ b (digits_bare n);
     })
 
@@ -101,7 +101,7 @@ bandwidth_back v b h e =
     gives_got (λ x. BandwidthBack x.0 x.1) (bandwidth_from (cut 0x3a v)) _ (sym (see_bandwidth v) ∙ ap (map_read (bandwidth_is v)) e)
     (gives_test _ is_utf8 (cut 0x3a v).0 _ (λ u.
     gives_cut _ 0x3a (cut 0x3a v).1 (behind_bare 0x3a v h) _ (λ s r x y z. gives_number _ (whole_number 64 s) _ (λ n q.
-    gives_unseen _ (map (cut 0x3a) r) _ (bandwidth-again (cut 0x3a v).0 n (front_bare 0x3a v h) (front_lacks 0x3a v) u (number_below 64 s n q))))))
+    gives_unseen _ (option_map (cut 0x3a) r) _ (bandwidth-again (cut 0x3a v).0 n (front_bare 0x3a v h) (front_lacks 0x3a v) u (number_below 64 s n q))))))
 
 -- ---- a: a name, and perhaps a value
 abbrev pub attribute_is : List ℕ → attribute.Attribute → List ℕ × Option (List ℕ)
@@ -124,8 +124,8 @@ AttributeBack name value = Backs attribute_of attribute_is (text id name ++ opti
 
 value-text : (value : Option (List ℕ)) → IfGiven (λ r. bare r ≡ true) value → (optional (λ s. (0x3a ∷ []) ++ text id s) value ≡ sep_text 0x3a value) × (bare (sep_text 0x3a value) ≡ true)
 unfolding every
-value-text none h = (refl, refl)
-value-text (some s) h = (ap (λ (l : List ℕ). 0x3a ∷ l) (clean_bare s h), h)
+value-text None h = (refl, refl)
+value-text (Some s) h = (ap (λ (l : List ℕ). 0x3a ∷ l) (clean_bare s h), h)
 
 attribute-again : (name : List ℕ) (value : Option (List ℕ)) → bare name ≡ true → lacks 0x3a name ≡ true → is_utf8 name ≡ true → IfGiven (λ r. bare r ≡ true) value → IfGiven (λ r. is_utf8 r ≡ true) value → AttributeBack name value
 unfolding attribute_from attribute_rest
@@ -137,8 +137,8 @@ attribute-again name value b l u c d =
     })
   where
     chosen : (o : Option (List ℕ)) → IfGiven (λ r. is_utf8 r ≡ true) o → attribute_rest name o ≡ got (name, o)
-    chosen none h = refl
-    chosen (some s) h = rw h
+    chosen None h = refl
+    chosen (Some s) h = rw h
 
 pub attribute_back : (v : List ℕ) (a : attribute.Attribute) → bare v ≡ true → attribute_of v ≡ got a → AttributeBack (part v a.attribute) (maybe_in (part v) a.value)
 unfolding attribute_from attribute_rest
@@ -149,21 +149,21 @@ attribute_back v a h e =
     attribute-again (cut 0x3a v).0 o (front_bare 0x3a v h) (front_lacks 0x3a v) u q.0 q.1)))
   where
     choose : (o : Option (List ℕ)) → IfGiven (λ r. bare r ≡ true) o → Gives (λ o. IfGiven (λ r. bare r ≡ true) o × IfGiven (λ r. is_utf8 r ≡ true) o) (choice_in o)
-    choose none b = (tt, tt)
-    choose (some s) b = go (is_utf8 s) refl
+    choose None b = (tt, tt)
+    choose (Some s) b = go (is_utf8 s) refl
       where
-        go : (t : Bool) → is_utf8 s ≡ t → Gives (λ o. IfGiven (λ r. bare r ≡ true) o × IfGiven (λ r. is_utf8 r ≡ true) o) (map_read some (cond t (got s) lost))
+        go : (t : Bool) → is_utf8 s ≡ t → Gives (λ o. IfGiven (λ r. bare r ≡ true) o × IfGiven (λ r. is_utf8 r ≡ true) o) (map_read Some (cond t (got s) lost))
         go true q = (b, q)
         go false q = tt
 
 -- ---- m: media name, port, proto, fmt
 abbrev num_in : MaybeNumber → Option ℕ
-num_in m = cond m.there (some m.value) none
+num_in m = cond m.there (Some m.value) None
 
 -- num-ports behind the slash
 abbrev ports_from : Option (List ℕ) → (MaybeNumber → Read Port) → Read Port
-ports_from none k = k (record { there = false; value = 0 })
-ports_from (some r) k = port_number 30 (whole_number 16 r) (λ n. k (record { there = true; value = n }))
+ports_from None k = k (record { there = false; value = 0 })
+ports_from (Some r) k = port_number 30 (whole_number 16 r) (λ n. k (record { there = true; value = n }))
 
 see_ports : (s : List ℕ) → ports_of s ≡ port_number 28 (whole_number 16 (cut 0x2f s).0) (λ port. ports_from (cut 0x2f s).1 (λ num. got (record { port = port; num_ports = num })))
 unfolding cut
@@ -171,7 +171,7 @@ see_ports s = go (ltb (index_of 0x2f s) (length s))
   where
     go : (b : Bool)
         → port_number 28 (whole_number 16 (take (index_of 0x2f s) s)) (λ port. cond b (port_number 30 (whole_number 16 (drop (index_of 0x2f s + 1) s)) (λ n. got (record { port = port; num_ports = record { there = true; value = n } }))) (got (record { port = port; num_ports = record { there = false; value = 0 } })))
-        ≡ port_number 28 (whole_number 16 (take (index_of 0x2f s) s)) (λ port. ports_from (cond b (some (drop (index_of 0x2f s + 1) s)) none) (λ num. got (record { port = port; num_ports = num })))
+        ≡ port_number 28 (whole_number 16 (take (index_of 0x2f s) s)) (λ port. ports_from (cond b (Some (drop (index_of 0x2f s + 1) s)) None) (λ num. got (record { port = port; num_ports = num })))
     go true = refl
     go false = refl
 
@@ -191,8 +191,8 @@ ports_given : (s : List ℕ) → Gives (λ p. Ports p.port (num_in p.num_ports))
 ports_given s = go (is_utf8 s)
   where
     num : (port : ℕ) → port < 2 ^ 16 → (o : Option (List ℕ)) → Gives (λ p. Ports p.port (num_in p.num_ports)) (ports_from o (λ num. got (record { port = port; num_ports = num })))
-    num port l none = (l, tt)
-    num port l (some r) = gives_port _ 30 r _ (λ n h. (l, h))
+    num port l None = (l, tt)
+    num port l (Some r) = gives_port _ 30 r _ (λ n h. (l, h))
 
     kept : (r : Read Port) → Gives (λ p. Ports p.port (num_in p.num_ports)) r → Gives (λ p. Ports p.port (num_in p.num_ports)) (map_read (λ p. p) r)
     kept (got p) g = g
@@ -207,38 +207,38 @@ abbrev port_text : ℕ → Option ℕ → List ℕ
 port_text port num = digits port ++ optional (λ n. (0x2f ∷ []) ++ digits n) num
 
 abbrev maybe_number : Option ℕ → MaybeNumber
-maybe_number none = record { there = false; value = 0 }
-maybe_number (some n) = record { there = true; value = n }
+maybe_number None = record { there = false; value = 0 }
+maybe_number (Some n) = record { there = true; value = n }
 
 same_number : (num : Option ℕ) → num_in (maybe_number num) ≡ num
-same_number none = refl
-same_number (some n) = refl
+same_number None = refl
+same_number (Some n) = refl
 
 -- a test that digits and the slash pass
 ports_pass : (p : ℕ → Bool) → ((v : ℕ) → every p (digits v) ≡ true) → p 0x2f ≡ true → (port : ℕ) (num : Option ℕ) → every p (port_text port num) ≡ true
 unfolding every
-ports_pass p h s port none = every_append p (digits port) [] (h port) refl
-ports_pass p h s port (some n) = every_append p (digits port) _ (h port) (rw s (h n))
+ports_pass p h s port None = every_append p (digits port) [] (h port) refl
+ports_pass p h s port (Some n) = every_append p (digits port) _ (h port) (rw s (h n))
 
-ports_cut : (port : ℕ) (num : Option ℕ) → cut 0x2f (port_text port num) ≡ (digits port, map digits num)
-ports_cut port none = cut_back 0x2f (digits port) none (digits_lack 0x2f port (λ l g. omega arith))
-ports_cut port (some n) = cut_back 0x2f (digits port) (some (digits n)) (digits_lack 0x2f port (λ l g. omega arith))
+ports_cut : (port : ℕ) (num : Option ℕ) → cut 0x2f (port_text port num) ≡ (digits port, option_map digits num)
+ports_cut port None = cut_back 0x2f (digits port) None (digits_lack 0x2f port (λ l g. omega arith))
+ports_cut port (Some n) = cut_back 0x2f (digits port) (Some (digits n)) (digits_lack 0x2f port (λ l g. omega arith))
 
 ports_again : (port : ℕ) (num : Option ℕ) → Ports port num → port_in (port_text port num) ≡ got (record { port = port; num_ports = maybe_number num })
 ports_again port num h =
     rw (ascii_utf8 (port_text port num) (ports_pass (λ b. ltb b 0x80) digits-ascii refl port num), see_ports (port_text port num), ports_cut port num, number_back 16 port h.0)
     (ap (map_read (λ p. p)) (go num h.1))
   where
-    go : (num : Option ℕ) → IfGiven (λ n. n < 2 ^ 16) num → ports_from (map digits num) (λ num. got (record { port = port; num_ports = num })) ≡ got (record { port = port; num_ports = maybe_number num })
-    go none l = refl
-    go (some n) l = rw (number_back 16 n l)
+    go : (num : Option ℕ) → IfGiven (λ n. n < 2 ^ 16) num → ports_from (option_map digits num) (λ num. got (record { port = port; num_ports = num })) ≡ got (record { port = port; num_ports = maybe_number num })
+    go None l = refl
+    go (Some n) l = rw (number_back 16 n l)
 
 media_rest : List ℕ → Option (List ℕ) → Read (Media (List ℕ))
 media_rest name r =
-    on_seen (map (cut 0x20) r) (λ s r. and_then (port_in s) (λ p.
-    on_seen (map (cut 0x20) r) (λ s r. and_then (text_in s) (λ proto.
-    on_seen (map alone r) (λ s u. and_then (text_in s) (λ fmt.
-    got (record { media = name; port = p.port; num_ports = num_in p.num_ports; proto = proto; fmt = fmt; media_title = none; key = none })))))))
+    on_seen (option_map (cut 0x20) r) (λ s r. and_then (port_in s) (λ p.
+    on_seen (option_map (cut 0x20) r) (λ s r. and_then (text_in s) (λ proto.
+    on_seen (option_map alone r) (λ s u. and_then (text_in s) (λ fmt.
+    got (record { media = name; port = p.port; num_ports = num_in p.num_ports; proto = proto; fmt = fmt; media_title = None; key = None })))))))
 
 media_from : List ℕ × Option (List ℕ) → Read (Media (List ℕ))
 media_from c = and_then (text_in c.0) (λ name. media_rest name c.1)
@@ -253,7 +253,7 @@ see_media v =
 
 -- the m line of a media, without its title
 abbrev pub media_alone : Media (List ℕ) → Media (List ℕ)
-media_alone m = record { media = m.media; port = m.port; num_ports = m.num_ports; proto = m.proto; fmt = m.fmt; media_title = none; key = none }
+media_alone m = record { media = m.media; port = m.port; num_ports = m.num_ports; proto = m.proto; fmt = m.fmt; media_title = None; key = None }
 
 abbrev pub media_value : Media (List ℕ) → List ℕ
 media_value m =
@@ -270,12 +270,12 @@ module _ (m : Media (List ℕ)) (a : bare m.media ≡ true) (b : lacks 0x20 m.me
   abbrev ports : List ℕ
   ports = port_text m.port m.num_ports
 
-  media_cuts : media_value m ≡ m.media ++ sep_text 0x20 (some (ports ++ sep_text 0x20 (some (m.proto ++ sep_text 0x20 (some m.fmt)))))
+  media_cuts : media_value m ≡ m.media ++ sep_text 0x20 (Some (ports ++ sep_text 0x20 (Some (m.proto ++ sep_text 0x20 (Some m.fmt)))))
   media_cuts =
       rw (clean_bare m.media a, clean_bare m.proto d, clean_bare m.fmt g)
       (ap (λ (l : List ℕ). m.media ++ ((0x20 ∷ []) ++ l)) (sym (append_assoc (digits m.port) (optional (λ n. (0x2f ∷ []) ++ digits n) m.num_ports) _)))
 
-  media_bare : bare (m.media ++ sep_text 0x20 (some (ports ++ sep_text 0x20 (some (m.proto ++ sep_text 0x20 (some m.fmt)))))) ≡ true
+  media_bare : bare (m.media ++ sep_text 0x20 (Some (ports ++ sep_text 0x20 (Some (m.proto ++ sep_text 0x20 (Some m.fmt)))))) ≡ true
   unfolding every
   media_bare =
       every_append (λ b. not (dropped b)) m.media _ a
@@ -288,8 +288,8 @@ module _ (m : Media (List ℕ)) (a : bare m.media ≡ true) (b : lacks 0x20 m.me
       rw media_cuts (record {
         says =
             see_media _
-            ∙ ap media_from (cut_back 0x20 m.media (some (ports ++ sep_text 0x20 (some (m.proto ++ sep_text 0x20 (some m.fmt))))) b)
-            ∙ rw (c, cut_back 0x20 ports (some (m.proto ++ sep_text 0x20 (some m.fmt))) (ports_pass (λ b. not (eqb b 0x20)) (λ v. digits_lack 0x20 v (λ l g. omega arith)) refl m.port m.num_ports), ports_again m.port m.num_ports p, cut_back 0x20 m.proto (some m.fmt) e, f, h, same_number m.num_ports);
+            ∙ ap media_from (cut_back 0x20 m.media (Some (ports ++ sep_text 0x20 (Some (m.proto ++ sep_text 0x20 (Some m.fmt))))) b)
+            ∙ rw (c, cut_back 0x20 ports (Some (m.proto ++ sep_text 0x20 (Some m.fmt))) (ports_pass (λ b. not (eqb b 0x20)) (λ v. digits_lack 0x20 v (λ l g. omega arith)) refl m.port m.num_ports), ports_again m.port m.num_ports p, cut_back 0x20 m.proto (Some m.fmt) e, f, h, same_number m.num_ports);
         bare = media_bare;
       })
 
@@ -301,4 +301,4 @@ media_back v m h e =
     gives_cut _ 0x20 (cut 0x20 v).1 (behind_bare 0x20 v h) _ (λ s r x y z. gives_then _ (λ p. Ports p.port (num_in p.num_ports)) (port_in s) _ (ports_given s) (λ p q.
     gives_cut _ 0x20 r z _ (λ proto r b l z. gives_test _ is_utf8 proto _ (λ t.
     gives_alone _ 0x20 r z _ (λ fmt c. gives_test _ is_utf8 fmt _ (λ d.
-    media-again (record { media = (cut 0x20 v).0; port = p.port; num_ports = num_in p.num_ports; proto = proto; fmt = fmt; media_title = none; key = none }) (front_bare 0x20 v h) (front_lacks 0x20 v) u q b l t c d))))))))
+    media-again (record { media = (cut 0x20 v).0; port = p.port; num_ports = num_in p.num_ports; proto = proto; fmt = fmt; media_title = None; key = None }) (front_bare 0x20 v h) (front_lacks 0x20 v) u q b l t c d))))))))

@@ -2,7 +2,7 @@
 use mathlib.Core.Path.{◌≡◌, refl, sym, subst}
 use mathlib.Core.Bool.{Bool, true, false, cond, not, ◌&&◌, ◌||◌}
 use mathlib.Core.List.{List, [], ◌∷◌}
-use mathlib.Core.Option.{none}
+use Rattle.std.specs.Prelude.{None}
 use Prim.Native.Nat.{ℕ, ◌+◌, ◌-◌}
 use native.Mathlib.Omega.{arith}
 use lib.ListN.{length, get_or, take, drop}
@@ -46,7 +46,7 @@ TextBack x = (w : ℕ) → Backs (whole_of w) part (clean x) x
 pub record MediaPlain (m : Media (List ℕ)) : Type 0 where
   pub line : MediaBack m
   pub title : IfGiven TextBack m.media_title
-  pub key : m.key ≡ none
+  pub key : m.key ≡ None
 
 pub record PlainHead (h : Head (List ℕ)) : Type 0 where
   pub origin : IfGiven OriginBack h.origin
@@ -54,7 +54,7 @@ pub record PlainHead (h : Head (List ℕ)) : Type 0 where
   pub description : IfGiven TextBack h.description
   pub uri : IfGiven TextBack h.uri
   pub connection : IfGiven ConnectionBack h.connection
-  pub key : h.key ≡ none
+  pub key : h.key ≡ None
 
 -- the tables with strings
 pub record PlainTables (t : Tables (List ℕ)) : Type 0 where

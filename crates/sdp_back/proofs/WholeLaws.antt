@@ -2,7 +2,7 @@
 use mathlib.Core.Path.{◌≡◌, refl, sym, subst, ◌∙◌}
 use mathlib.Core.Bool.{Bool, true, false}
 use mathlib.Core.List.{List, [], ◌∷◌, ◌++◌, append-nil, append_assoc}
-use mathlib.Core.Option.{Option, none, some}
+use Rattle.std.specs.Prelude.{Option, Some, None}
 use Prim.Native.Nat.{ℕ, ◌+◌, ◌≤◌, ◌<◌}
 use native.Mathlib.Omega.{arith}
 use lib.ListN.{length, length-append}
@@ -79,24 +79,24 @@ module _ (s : Session (List ℕ)) (plain : Plain s) (ordered : Ordered s) where
 
   -- ---- v, o, s, i, u
   abbrev heads : Option (List ℕ) → Option (List ℕ) → Option (Connection (List ℕ)) → Head (List ℕ)
-  heads d u c = record { origin = some (origin_again s.head.origin); name = some (name_again s.head.name); description = d; uri = u; connection = c; key = none }
+  heads d u c = record { origin = Some (origin_again s.head.origin); name = Some (name_again s.head.name); description = d; uri = u; connection = c; key = None }
 
   abbrev bare_tables : Tables (List ℕ)
   bare_tables = (fresh {S = List ℕ}).session.tables
 
   origin_part : (o : Option (Origin (List ℕ))) → IfGiven OriginBack o
-      → Leads fresh (origin_line id o) (at (record { origin = some (origin_again o); name = none; description = none; uri = none; connection = none; key = none }) bare_tables false)
+      → Leads fresh (origin_line id o) (at (record { origin = Some (origin_again o); name = None; description = None; uri = None; connection = None; key = None }) bare_tables false)
   unfolding form.origin_line form.origin_value form.username_text strings.clean strings.kept digit.digits digit.digits_in
-  origin_part none h = origin_leads fresh refl placeholder placeholder_back refl
-  origin_part (some o) h = origin_leads fresh refl o h refl
+  origin_part None h = origin_leads fresh refl placeholder placeholder_back refl
+  origin_part (Some o) h = origin_leads fresh refl o h refl
 
   name-part : (o : Option (List ℕ)) → IfGiven TextBack o → (x : Origin (List ℕ))
-      → Leads (at (record { origin = some x; name = none; description = none; uri = none; connection = none; key = none }) bare_tables false) (name_line id o) (at (record { origin = some x; name = some (name_again o); description = none; uri = none; connection = none; key = none }) bare_tables false)
+      → Leads (at (record { origin = Some x; name = None; description = None; uri = None; connection = None; key = None }) bare_tables false) (name_line id o) (at (record { origin = Some x; name = Some (name_again o); description = None; uri = None; connection = None; key = None }) bare_tables false)
   unfolding strings.clean every field-read.whole_of utf8.is_utf8 utf8.utf8_end utf8.end_from
-  name-part none h x = name_leads _ refl [] (λ w. record { says = refl; bare = refl }) refl
-  name-part (some n) h x = name_leads _ refl n h refl
+  name-part None h x = name_leads _ refl [] (λ w. record { says = refl; bare = refl }) refl
+  name-part (Some n) h x = name_leads _ refl n h refl
 
-  head_part : (rest : List ℕ) (r : Session (List ℕ)) → ((n p : ℕ) → run bytes_at (at (heads s.head.description s.head.uri none) bare_tables false) n p (split rest) ≡ accepted r)
+  head_part : (rest : List ℕ) (r : Session (List ℕ)) → ((n p : ℕ) → run bytes_at (at (heads s.head.description s.head.uri None) bare_tables false) n p (split rest) ≡ accepted r)
       → lines bytes_at (head_lines id s.head ++ rest) ≡ accepted r
   unfolding form.head_lines
   head_part rest r h =
@@ -104,8 +104,8 @@ module _ (s : Session (List ℕ)) (plain : Plain s) (ordered : Ordered s) where
       (begin_leads _ r
       ((origin_part s.head.origin plain.head.origin
       then name-part s.head.name plain.head.name (origin_again s.head.origin)
-      then optional_leads TextBack _ (λ d. at (heads d none none) bare_tables false) (λ x b. description_leads _ refl x b refl) s.head.description plain.head.description
-      then optional_leads TextBack _ (λ u. at (heads s.head.description u none) bare_tables false) (λ x b. uri_leads _ refl x b refl) s.head.uri plain.head.uri).read rest r h))
+      then optional_leads TextBack _ (λ d. at (heads d None None) bare_tables false) (λ x b. description_leads _ refl x b refl) s.head.description plain.head.description
+      then optional_leads TextBack _ (λ u. at (heads s.head.description u None) bare_tables false) (λ x b. uri_leads _ refl x b refl) s.head.uri plain.head.uri).read rest r h))
 
   -- ---- e, p, c, b
   abbrev contacts : List (List ℕ) → List (List ℕ) → List (Bandwidth (List ℕ)) → List Time → List Repeat → List Offset → Tables (List ℕ)
@@ -162,14 +162,14 @@ module _ (s : Session (List ℕ)) (plain : Plain s) (ordered : Ordered s) where
       rw (times-text T.times ordered.owned_repeats) (rw (r₀, o₀, r₁, o₁) at (rows_lead FitTime 32 (time_lines T.repeats T.offsets) times_state time-part TA f.0 f.1))
 
   -- ---- e, p, c, b, t
-  contact_part : Leads (at (heads s.head.description s.head.uri none) bare_tables false) (contact_lines id s) (before_times TA T.repeats T.offsets)
+  contact_part : Leads (at (heads s.head.description s.head.uri None) bare_tables false) (contact_lines id s) (before_times TA T.repeats T.offsets)
   unfolding form.contact_lines
   contact_part =
       let D : Option (List ℕ) = s.head.description in
       let U : Option (List ℕ) = s.head.uri in
       let b₀ : bands 0 ≡ [] = below_none (λ (b : Bandwidth (List ℕ)). b.owner) 0 _ 0 T.bandwidths ordered.owned_bandwidths (omega arith) in
-      rows_lead TextBack 16 (λ k x. string_line id 0x65 x) (λ es. at (heads D U none) (contacts es [] [] [] [] []) false) (λ es x b l. email_leads _ refl x b l) T.emails plain.tables.emails ordered.within.emails
-      then rows_lead TextBack 16 (λ k x. string_line id 0x70 x) (λ ps. at (heads D U none) (contacts T.emails ps [] [] [] []) false) (λ ps x b l. phone_leads _ refl x b l) T.phones plain.tables.phones ordered.within.phones
+      rows_lead TextBack 16 (λ k x. string_line id 0x65 x) (λ es. at (heads D U None) (contacts es [] [] [] [] []) false) (λ es x b l. email_leads _ refl x b l) T.emails plain.tables.emails ordered.within.emails
+      then rows_lead TextBack 16 (λ k x. string_line id 0x70 x) (λ ps. at (heads D U None) (contacts T.emails ps [] [] [] []) false) (λ ps x b l. phone_leads _ refl x b l) T.phones plain.tables.phones ordered.within.phones
       then optional_leads ConnectionBack _ (λ c. at (heads D U c) (contacts T.emails T.phones [] [] [] []) false) (λ c b. connection_leads _ refl c b refl) s.head.connection plain.head.connection
       then (rw b₀ at (owned_lead (λ (b : Bandwidth (List ℕ)). b.owner) (λ b. BandwidthBack b.bwtype b.bandwidth) 64 0 (λ k b. bandwidth_line id b) (λ bs. at (heads D U s.head.connection) (contacts T.emails T.phones bs [] [] []) false) (λ bs x b o l. bandwidth_leads _ x b o l) T.bandwidths _ 0 ordered.owned_bandwidths plain.tables.bandwidths ordered.within.bandwidths))
       then times-part
@@ -200,7 +200,7 @@ module _ (s : Session (List ℕ)) (plain : Plain s) (ordered : Ordered s) where
   medias_state ms = full (conns (length ms + 1)) (bands (length ms + 1)) (attrs (length ms + 1)) ms
 
   abbrev media_with : Media (List ℕ) → Option (List ℕ) → Media (List ℕ)
-  media_with m t = record { media = m.media; port = m.port; num_ports = m.num_ports; proto = m.proto; fmt = m.fmt; media_title = t; key = none }
+  media_with m t = record { media = m.media; port = m.port; num_ports = m.num_ports; proto = m.proto; fmt = m.fmt; media_title = t; key = None }
 
   media-part : (ms : List (Media (List ℕ))) (m : Media (List ℕ)) → MediaPlain m → length ms < 32 → Leads (medias_state ms) (media_lines id T (length ms + 1) m) (medias_state (ms ++ (m ∷ [])))
   unfolding form.media_lines

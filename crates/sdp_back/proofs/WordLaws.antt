@@ -2,7 +2,7 @@
 use mathlib.Core.Path.{◌≡◌, refl, sym, ap, ◌∙◌}
 use mathlib.Core.Bool.{Bool, true, false, cond, not}
 use mathlib.Core.List.{List, [], ◌∷◌, ◌++◌, map, append-nil}
-use mathlib.Core.Option.{Option, none, some}
+use Rattle.std.specs.Prelude.{Option, Some, None}
 use Prim.Native.Nat.{ℕ, zero, suc, ◌+◌, ◌≤◌, ◌<◌}
 use native.Mathlib.Omega.{arith}
 use lib.ListN.{length, take, drop, length-append}
@@ -148,7 +148,7 @@ time_word v = record {
 -- ---- a value cut at its first separator
 -- what stands after the separator at e
 abbrev pub behind : List ℕ → ℕ → Option (List ℕ)
-behind v e = cond (ltb e (length v)) (some (drop (e + 1) v)) none
+behind v e = cond (ltb e (length v)) (Some (drop (e + 1) v)) None
 
 -- the bytes before it, and those after it where there is one
 unfoldable pub cut : ℕ → List ℕ → List ℕ × Option (List ℕ)
@@ -156,10 +156,10 @@ cut sep s = (take (index_of sep s) s, behind s (index_of sep s))
 
 -- what is written after the front
 abbrev pub sep_text : ℕ → Option (List ℕ) → List ℕ
-sep_text sep none = []
-sep_text sep (some r) = (sep ∷ []) ++ r
+sep_text sep None = []
+sep_text sep (Some r) = (sep ∷ []) ++ r
 
-pub cut_none : (sep : ℕ) (a : List ℕ) → lacks sep a ≡ true → cut sep a ≡ (a, none)
+pub cut_none : (sep : ℕ) (a : List ℕ) → lacks sep a ≡ true → cut sep a ≡ (a, None)
 unfolding cut runs.index_of
 cut_none sep a h =
     let i : index_of sep a ≡ length a = ap (index_of sep) (sym (append-nil a)) ∙ index_append sep a [] h ∙ (let z : length a + 0 ≡ length a = omega arith in z) in
@@ -167,8 +167,8 @@ cut_none sep a h =
 
 pub cut_back : (sep : ℕ) (a : List ℕ) (o : Option (List ℕ)) → lacks sep a ≡ true → cut sep (a ++ sep_text sep o) ≡ (a, o)
 unfolding cut runs.index_of
-cut_back sep a none h = ap (cut sep) (append-nil a) ∙ cut_none sep a h
-cut_back sep a (some r) h =
+cut_back sep a None h = ap (cut sep) (append-nil a) ∙ cut_none sep a h
+cut_back sep a (Some r) h =
     let i : index_of sep (a ++ (sep ∷ r)) ≡ length a = index_append sep a (sep ∷ r) h ∙ rw (eq-eqb sep sep refl) (let z : length a + 0 ≡ length a = omega arith in z) in
     let l : ltb (length a) (length (a ++ (sep ∷ r))) ≡ true = lt-ltb (length a) (length (a ++ (sep ∷ r))) (omega (arith, length-append a (sep ∷ r))) in
     let t : take (length a) (a ++ (sep ∷ r)) ≡ a = take_at a (sep ∷ r) (length a) refl in

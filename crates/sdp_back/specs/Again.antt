@@ -1,12 +1,11 @@
 -- What a session has become after it was written and read again: the same, except what its written form adds.
-use Rattle.std.specs.Prelude.{ℕ, List, [], ◌∷◌}
-use Rattle.std.proofs.Math.Option.{Option, none, some}
+use Rattle.std.specs.Prelude.{ℕ, List, [], ◌∷◌, Option, Some, None}
 use Rattle.sdp_area.specs.Session.{Origin, Time, Session}
 
 -- "gives the placeholder written `o=- 0 0 IN IP4 0.0.0.0`, equal to a read origin with those values"
 abbrev pub placeholder : Origin (List ℕ)
 placeholder = record {
-  username = none;
+  username = None;
   sess_id = 0x30 ∷ [];
   sess_version = 0;
   nettype = 0x49 ∷ 0x4e ∷ [];
@@ -16,13 +15,13 @@ placeholder = record {
 
 -- "a missing `o` is marked absent"
 abbrev pub origin_again : Option (Origin (List ℕ)) → Origin (List ℕ)
-origin_again none = placeholder
-origin_again (some o) = o
+origin_again None = placeholder
+origin_again (Some o) = o
 
 -- "A missing `s` gives an empty name"
 abbrev pub name_again : Option (List ℕ) → List ℕ
-name_again none = []
-name_again (some x) = x
+name_again None = []
+name_again (Some x) = x
 
 -- "No times: `t=0 0`."
 abbrev pub times_again : List Time → List Time
@@ -33,8 +32,8 @@ times_again (t ∷ ts) = t ∷ ts
 abbrev pub again : Session (List ℕ) → Session (List ℕ)
 again s = record {
   head = record {
-    origin = some (origin_again s.head.origin);
-    name = some (name_again s.head.name);
+    origin = Some (origin_again s.head.origin);
+    name = Some (name_again s.head.name);
     description = s.head.description;
     uri = s.head.uri;
     connection = s.head.connection;

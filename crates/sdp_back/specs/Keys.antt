@@ -1,7 +1,6 @@
 -- Document 02, P4: "Areas kept from earlier are judged as before, written without their keys, and demand 3's reading back leaves those keys
 -- out."
-use Rattle.std.specs.Prelude.{◌≡◌, true, List, ◌++◌, map, ℕ, ◌≤◌, length}
-use Rattle.std.proofs.Math.Option.{none}
+use Rattle.std.specs.Prelude.{◌≡◌, true, List, ◌++◌, map, ℕ, ◌≤◌, length, None}
 use Rattle.sdp_numbers.specs.Refusals.{longest_text}
 use Rattle.sdp_lines.specs.Strings.{bytes_of}
 use Rattle.sdp_lines.specs.declared.Span.{Span}
@@ -26,7 +25,7 @@ unkeyed m = record {
   proto = m.proto;
   fmt = m.fmt;
   media_title = m.media_title;
-  key = none;
+  key = None;
 }
 
 -- a session without its keys
@@ -38,7 +37,7 @@ without_keys s = record {
     description = s.head.description;
     uri = s.head.uri;
     connection = s.head.connection;
-    key = none;
+    key = None;
   };
   tables = record {
     emails = s.tables.emails;

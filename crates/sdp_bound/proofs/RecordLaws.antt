@@ -2,7 +2,7 @@
 use mathlib.Core.Path.{◌≡◌, refl}
 use mathlib.Core.Bool.{Bool, true, false, cond, ◌&&◌}
 use mathlib.Core.List.{List, [], ◌∷◌, ◌++◌, map}
-use mathlib.Core.Option.{none, some}
+use Rattle.std.specs.Prelude.{Some, None}
 use Prim.Native.Nat.{ℕ, ◌+◌, ◌≤◌, ◌<◌}
 use native.Mathlib.Omega.{arith}
 use lib.ListN.{length, get_or, take, drop, length-take, length-drop, length-append}
@@ -86,7 +86,7 @@ module _ (v : List ℕ) where
       go true = omega arith
       go false = some_name (eqb (length (part v p)) 0)
 
-  pub origin_short : (o : Origin) → origin_of v ≡ got o → length (origin_line id (some (origin_in (part v) o))) ≤ length v + 4
+  pub origin_short : (o : Origin) → origin_of v ≡ got o → length (origin_line id (Some (origin_in (part v) o))) ≤ length v + 4
   unfolding Records.origin_of Read.next_text Read.next_number Written.origin_line Written.origin_value Written.line
   origin_short =
       let ws = words v in
@@ -143,7 +143,7 @@ module _ (v : List ℕ) where
 -- ---- the media, and its ports
 -- port or port/num
 abbrev port_text : Port → List ℕ
-port_text p = digits p.port ++ optional (λ n. (0x2f ∷ []) ++ digits n) (cond p.num_ports.there (some p.num_ports.value) none)
+port_text p = digits p.port ++ optional (λ n. (0x2f ∷ []) ++ digits n) (cond p.num_ports.there (Some p.num_ports.value) None)
 
 port-short : (v : List ℕ) (x : Piece) (p : Port) → port_of v x ≡ got p → length (port_text p) ≤ length (part v x)
 unfolding MediaLine.port_of

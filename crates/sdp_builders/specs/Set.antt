@@ -1,6 +1,6 @@
 -- Document 01, "Modules": "`username` and `num_ports`; each takes a record and hands it back with one field set". As in builders.rs, the
 -- field is present afterwards, whether it was before or not, and all others are as they were.
-use Rattle.std.specs.Prelude.{ℕ, true}
+use Rattle.std.specs.Prelude.{ℕ, Some}
 use Rattle.sdp_lines.specs.declared.Span.{Span}
 use Rattle.sdp_builders.specs.declared.Origin.{Origin}
 use Rattle.sdp_builders.specs.declared.Media.{Media}
@@ -8,7 +8,7 @@ use Rattle.sdp_builders.specs.declared.Media.{Media}
 -- the origin o with the username u
 abbrev pub with_username : Origin → Span → Origin
 with_username o u = record {
-  username = record { there = true; span = u };
+  username = Some u;
   sess_id = o.sess_id;
   sess_version = o.sess_version;
   nettype = o.nettype;
@@ -21,7 +21,7 @@ abbrev pub with_num_ports : Media → ℕ → Media
 with_num_ports m n = record {
   media = m.media;
   port = m.port;
-  num_ports = record { there = true; value = n };
+  num_ports = Some n;
   proto = m.proto;
   fmt = m.fmt;
 }

@@ -1,17 +1,16 @@
 // Document 01, module 6: small records by hand, after builders.rs. Each method takes a record and hands it back with one
-// field set. The records hold what set_origin and push_media of the record area take.
+// field set. The records are what set_origin and push_media of the record area take.
 #![tactic(auto)]
 
 ghost use Rattle.std.specs.Prelude.{◌≡◌};
 ghost use Rattle.sdp_builders.specs.Set.{with_username, with_num_ports};
 
-use sdp_area::{MaybePorts, MaybeSpan};
 use sdp_lines::Span;
 
 // An o line.
-#[derive(Drop)]
+#[derive(Clone, Copy)]
 pub struct Origin {
-    pub username: MaybeSpan,
+    pub username: Option<Span>,
     pub sess_id: Span,
     pub sess_version: u64,
     pub nettype: Span,
@@ -20,11 +19,11 @@ pub struct Origin {
 }
 
 // An m line.
-#[derive(Drop)]
+#[derive(Clone, Copy)]
 pub struct Media {
     pub media: Span,
     pub port: usize,
-    pub num_ports: MaybePorts,
+    pub num_ports: Option<usize>,
     pub proto: Span,
     pub fmt: Span,
 }
@@ -33,11 +32,7 @@ impl Origin {
     pub fn username(mut self, username: Span) -> Self
         ensures { result ≡ with_username self username }
     {
-        let set = MaybeSpan {
-            there: true,
-            span: username,
-        };
-        self.username = set;
+        self.username = Some(username);
         self
     }
 }
@@ -46,11 +41,7 @@ impl Media {
     pub fn num_ports(mut self, num_ports: u16) -> Self
         ensures { result ≡ with_num_ports self num_ports }
     {
-        let set = MaybePorts {
-            there: true,
-            value: num_ports as usize,
-        };
-        self.num_ports = set;
+        self.num_ports = Some(num_ports as usize);
         self
     }
 }

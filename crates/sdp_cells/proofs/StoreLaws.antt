@@ -16,13 +16,13 @@ pub length_pairs : (ws : List ℕ) → length (pairs ws) ≡ length ws * 2
 length_pairs ws = length-flat (le 2) 2 (length-le 2) ws
 
 -- one more written behind those before it
-pub put_more : (a₀ a b ws : List ℕ) (at p i : ℕ) → i < length ws → p ≡ at + i * 2 → at + length ws * 2 ≤ length a₀
-    → a ≡ over a₀ at (pairs (take i ws)) → b ≡ over a p (le 2 (get_or ws i 0)) → b ≡ over a₀ at (pairs (take (i + 1) ws))
-put_more a₀ a b ws at p i h e room is next =
+pub put_more : (a₀ a b ws : List ℕ) (at i : ℕ) → i < length ws → at + length ws * 2 ≤ length a₀
+    → a ≡ over a₀ at (pairs (take i ws)) → b ≡ over a (at + i * 2) (le 2 (get_or ws i 0)) → b ≡ over a₀ at (pairs (take (i + 1) ws))
+put_more a₀ a b ws at i h room is next =
     let l : length (pairs (take i ws)) ≡ i * 2 = length_pairs (take i ws) ∙ ap (λ (k : ℕ). k * 2) (length-take-le i ws (omega arith)) in
     next
-    ∙ ap (λ (l : List ℕ). over l p (le 2 (get_or ws i 0))) is
-    ∙ over_next a₀ (pairs (take i ws)) (le 2 (get_or ws i 0)) at p (omega arith) (rw length-le (omega arith))
+    ∙ ap (λ (l : List ℕ). over l (at + i * 2) (le 2 (get_or ws i 0))) is
+    ∙ over_next a₀ (pairs (take i ws)) (le 2 (get_or ws i 0)) at (at + i * 2) (omega arith) (rw length-le (omega arith))
     ∙ ap (over a₀ at) (sym (ap (λ (k : ℕ). pairs (take k ws)) (add-one i) ∙ ap pairs (take-suc ws i 0 h) ∙ flat_snoc (le 2) (take i ws) (get_or ws i 0)))
 
 -- a row below the capacity is within the table

@@ -1,8 +1,7 @@
 -- A table of fixed capacity in the area: two bytes of count, the rows, zero bytes.
-use Rattle.std.specs.Prelude.{List, [], ◌∷◌, ◌++◌, cond, ℕ, ◌+◌, ◌*◌, length, take, ltb}
+use Rattle.std.specs.Prelude.{List, [], ◌∷◌, ◌++◌, cond, ℕ, ◌+◌, ◌*◌, length, take, ltb, Result, Ok, Err}
 use Rattle.sdp_cells.specs.Bytes.{le, num, over, zeros}
-use Rattle.sdp_cells.specs.declared.Pushed.{Pushed}
-use Rattle.sdp_cells.specs.declared.Pushed.TheVariants.{Stored, Full}
+use Rattle.sdp_cells.specs.declared.Full.{Full}
 
 -- the rows' bytes, one after the other
 unfoldable pub flat : {X : Type 0} → (X → List ℕ) → List X → List ℕ
@@ -21,9 +20,13 @@ tab cap w f xs = le 2 (length xs) ++ fit (cap * w) (flat f xs)
 abbrev pub add : {X : Type 0} → ℕ → List X → X → List X
 add cap xs x = cond (ltb (length xs) cap) (xs ++ (x ∷ [])) xs
 
+-- that there is no room has one value
+abbrev pub full : Full
+full = record {}
+
 -- whether there was room
-abbrev pub pushed : {X : Type 0} → ℕ → List X → Pushed
-pushed cap xs = cond (ltb (length xs) cap) Stored Full
+abbrev pub pushed : {X : Type 0} → ℕ → List X → Result (Unit {0}) Full
+pushed cap xs = cond (ltb (length xs) cap) (Ok tt) (Err full)
 
 -- ---- the same of the bytes, for any table: base is its place, bs the row
 -- numbers as two bytes each
@@ -36,5 +39,5 @@ grown a base cap bs =
     (over (over a (base + (2 + num 2 a base * length bs)) bs) base (le 2 (num 2 a base + 1)))
     a
 
-unfoldable pub told : List ℕ → ℕ → ℕ → Pushed
-told a base cap = cond (ltb (num 2 a base) cap) Stored Full
+unfoldable pub told : List ℕ → ℕ → ℕ → Result (Unit {0}) Full
+told a base cap = cond (ltb (num 2 a base) cap) (Ok tt) (Err full)

@@ -5,12 +5,9 @@ ghost use Rattle.std.specs.Prelude.{◌≡◌, ◌+◌, ◌*◌, ◌≤◌, ◌<
 ghost use Rattle.sdp_cells.specs.Bytes.{le, num, over};
 ghost use Rattle.sdp_cells.specs.Tables.{pairs, grown, told};
 
-// Whether a row was stored.
-#[derive(Drop)]
-pub enum Pushed {
-    Stored,
-    Full,
-}
+// A table that has no room for one row more.
+#[derive(Clone, Copy, Debug, PartialEq, Eq)]
+pub struct Full;
 
 // A number in the two bytes at a place.
 fn put2(a: &mut [u8], at: usize, v: usize)
@@ -46,29 +43,25 @@ pub fn put_words(a: &mut [u8], at: usize, ws: &[usize])
     requires { at + length ws.now * 2 ≤ length a.old }
     ensures { a.new ≡ over a.old at (pairs ws.now) }
 {
-    let mut i: usize = 0;
-    let mut p = at;
-    while i < ws.len() {
-        put2(a, p, ws[i]);
-        p += 2;
-        i += 1;
+    for (i, w) in ws.iter().enumerate() {
+        put2(a, at + i * 2, *w);
     }
 }
 
 // One row more in the table at base.
-pub fn push_words(area: &mut [u8], base: usize, cap: usize, ws: &[usize]) -> Pushed
+pub fn push_words(area: &mut [u8], base: usize, cap: usize, ws: &[usize]) -> Result<(), Full>
     requires { base + (2 + cap * (length ws.now * 2)) ≤ length area.old }
     ensures value { result ≡ told area.old base cap }
     ensures area_after { area.new ≡ grown area.old base cap (pairs ws.now) }
 {
     let n = get2(area, base);
     if cap <= n {
-        return Pushed::Full;
+        return Err(Full);
     }
     let at = base + (2 + n * (ws.len() * 2));
     put_words(area, at, ws);
     put2(area, base, n + 1);
-    Pushed::Stored
+    Ok(())
 }
 
 // Whether the mark at a place says present.

@@ -4,7 +4,7 @@ use mathlib.Core.List.{List}
 use Prim.Native.Nat.{ℕ, zero, suc, ◌+◌, ◌≤◌}
 use native.Mathlib.Omega.{arith}
 use lib.ListN.{length, get_or-eq_default}
-use mathlib.Core.Option.{none, some}
+use Rattle.std.specs.Prelude.{Some, None}
 use borrow.Author.Tests.{ne_eqb}
 use Rattle.sdp_cells.specs.Bytes as bytes
 use Rattle.sdp_cells.specs.Bytes.{num}
@@ -17,10 +17,10 @@ num-past (suc k) a i h = omega (arith, get_or-eq_default a 0 {n = i} h, num-past
 
 -- ---- what may be absent
 module _ {X : Type 0} (rd : List ℕ → ℕ → X) (a : List ℕ) (p n : ℕ) (e : n ≡ num 2 a p) where
-  pub marked_none : n ≡ 0 → marked rd a p ≡ none
+  pub marked_none : n ≡ 0 → marked rd a p ≡ None
   unfolding marked
   marked_none z = rw (← e, z)
 
-  pub marked_some : (n ≡ 0 → ⊥) → marked rd a p ≡ some (rd a (p + 2))
+  pub marked_some : (n ≡ 0 → ⊥) → marked rd a p ≡ Some (rd a (p + 2))
   unfolding marked
   marked_some z = rw (← e, ne_eqb n 0 z)

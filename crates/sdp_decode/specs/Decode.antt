@@ -1,6 +1,5 @@
 -- The session that an area holds, whatever its bytes are: docs/AREA.md byte by byte. Bytes past the area's end count as 0.
-use Rattle.std.specs.Prelude.{List, ℕ, ◌+◌}
-use Rattle.std.proofs.Math.Option.{some}
+use Rattle.std.specs.Prelude.{List, ℕ, ◌+◌, Some}
 use Rattle.sdp_lines.specs.declared.Span.{Span}
 use Rattle.sdp_cells.specs.Bytes.{num}
 use Rattle.sdp_area.specs.Session.{Origin, Connection, Key, MediaConnection, Bandwidth, Time, Repeat, Offset, Zone, Attribute, Media, Session}
@@ -96,7 +95,7 @@ unfoldable pub decode : List ℕ → Session Span
 decode a = record {
   head = record {
     origin = marked origin_of a origin_at;
-    name = some (span_of a name_at);
+    name = Some (span_of a name_at);
     description = marked span_of a description_at;
     uri = marked span_of a uri_at;
     connection = marked connection_of a connection_at;

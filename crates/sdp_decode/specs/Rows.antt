@@ -1,6 +1,5 @@
 -- Rows of a fixed width, read from any bytes.
-use Rattle.std.specs.Prelude.{List, [], ◌∷◌, ◌++◌, cond, ℕ, zero, suc, ◌+◌, eqb}
-use Rattle.std.proofs.Math.Option.{Option, none, some}
+use Rattle.std.specs.Prelude.{List, [], ◌∷◌, ◌++◌, cond, ℕ, zero, suc, ◌+◌, eqb, Option, Some, None}
 use Rattle.sdp_cells.specs.Bytes.{num}
 
 -- n rows of w bytes each, from place p on
@@ -14,7 +13,7 @@ table rd w a base = rows_at rd w (num 2 a base) a (base + 2)
 
 -- what may be absent: a mark, 0 for absent, and what it marks
 unfoldable pub marked : {X : Type 0} → (List ℕ → ℕ → X) → List ℕ → ℕ → Option X
-marked rd a p = cond (eqb (num 2 a p) 0) none (some (rd a (p + 2)))
+marked rd a p = cond (eqb (num 2 a p) 0) None (Some (rd a (p + 2)))
 
 -- ---- what rows give, one after the other
 -- each row with its number, counted on from n

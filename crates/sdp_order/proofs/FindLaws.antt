@@ -5,12 +5,11 @@ use native.Mathlib.Omega.{arith}
 use mathlib.Core.Path.{◌≡◌, refl, sym, ap, ◌∙◌}
 use mathlib.Core.Bool.{Bool, true, false, ◌&&◌, and-false}
 use mathlib.Core.List.{List}
-use mathlib.Core.Option.{Option, none, some}
 use lib.ListN.{drop}
 use lib.Dec.{eqb}
 use borrow.Author.Tests.{eqb-true}
 use Rattle.std.specs.Bool.{then_some}
-use Rattle.std.specs.Prelude.{Some, None, Result, Ok, Err}
+use Rattle.std.specs.Prelude.{Some, None, Result, Ok, Err, Option}
 use Rattle.sdp_lines.specs.Lines.{split}
 use Rattle.sdp_lines.specs.declared.Cursor.{Cursor}
 use Rattle.sdp_lines.specs.declared.Fault.{Fault}
@@ -41,8 +40,8 @@ module _ (s : List ℕ) (c : Cursor) where
   good_more l d h = h.1 empty ∙ go (letters (split (drop d.at.0 s)))
     where
       go : (ls : Option (List ℕ)) → run (after l empty) ls ≡ false
-      go none = refl
-      go (some ls) = matches_nothing ls
+      go None = refl
+      go (Some ls) = matches_nothing ls
 
   module _ (l : ℕ) where
     pub finds_one : (k : ℕ) (d : Cursor) → Follows s c (Ok (Some (k, d))) → Finds s l c (then_some (eqb k l) d)
@@ -50,8 +49,8 @@ module _ (s : List ℕ) (c : Cursor) where
     finds_one k d h = go (eqb k l) refl
       where
         passed : (x y : Expr) → begins k x ≡ false → (ls : Option (List ℕ)) → run (after k (x · y)) ls ≡ maybe_empty x && run (after k y) ls
-        passed x y e none = sym (and-false (maybe_empty x))
-        passed x y e (some ls) = passed_over k x y e ls
+        passed x y e None = sym (and-false (maybe_empty x))
+        passed x y e (Some ls) = passed_over k x y e ls
 
         go : (t : Bool) → eqb k l ≡ t → Finds s l c (then_some t d)
         go true e = (h.0, λ x. h.1 x ∙ ap (λ (j : ℕ). run_from s d (after j x)) (eqb-true k l e))

@@ -6,13 +6,13 @@ use native.Mathlib.Omega.{arith}
 use mathlib.Core.Path.{◌≡◌, refl, ◌∙◌}
 use mathlib.Core.Bool.{false}
 use mathlib.Core.List.{List}
-use mathlib.Core.Option.{Option, none, some}
+use Rattle.std.specs.Prelude.{Option, Some, None}
 use lib.ListN.{length, drop, length-drop, drop_of_length-le}
 use Rattle.sdp_lines.specs.Lines
 use Rattle.sdp_lines.specs.Lines.{Raw, split, content, width, form_of, past, cut_form, cut_at, Form}
 use Rattle.sdp_lines.specs.Quick.{first_raw}
 use Rattle.sdp_lines.specs.declared.Cursor.{Cursor}
-use Rattle.std.specs.Prelude.{Some, None, Ok, Err}
+use Rattle.std.specs.Prelude.{Ok, Err}
 use Rattle.sdp_lines.specs.declared.Cut.{Cut}
 use Rattle.sdp_lines.specs.declared.Cut.TheVariants.{Line, Empty, Refused, End}
 use Rattle.sdp_lines.proofs.LineLaws.{split_at_place, width_pos}
@@ -27,8 +27,8 @@ unfolding run_from
 run_same s c x y h = go (letters (split (drop c.at.0 s)))
   where
     go : (ls : Option (List ℕ)) → run x ls ≡ run y ls
-    go none = refl
-    go (some ls) = h ls
+    go None = refl
+    go (Some ls) = h ls
 
 -- what was cut at c says of the lines from there on
 abbrev pub Seen : List ℕ → Cursor → Cut → Type 0
@@ -60,8 +60,8 @@ module _ (s : List ℕ) (c : Cursor) where
     by_form (Ok (Some l)) e = (behind, λ x. runs x ∙ rw e (go x (letters (split (drop (c.at.0 + width raw) s)))))
       where
         go : (x : Expr) (ls : Option (List ℕ)) → run x (before (Ok (Some l)) ls) ≡ run (after l x) ls
-        go x none = refl
-        go x (some ls) = refl
+        go x None = refl
+        go x (Some ls) = refl
 
     at_line : Seen s c (cut_at s c)
     unfolding Lines.cut_at

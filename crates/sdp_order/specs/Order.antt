@@ -1,6 +1,5 @@
 -- Document 01, "Letter order", with the zones' place by document 02, P6: the grammar of RFC 8866, section 9.
-use Rattle.std.specs.Prelude.{ℕ, Bool, true, false, cond, List, [], ◌∷◌, length, ltb, Result, Ok, Err, Some, None}
-use Rattle.std.proofs.Math.Option.{Option, none, some}
+use Rattle.std.specs.Prelude.{ℕ, Bool, true, false, cond, List, [], ◌∷◌, length, ltb, Result, Ok, Err, Option, Some, None}
 use Rattle.sdp_numbers.specs.Refusals as refusals
 use Rattle.sdp_numbers.specs.Refusals.{longest_text}
 use Rattle.sdp_lines.specs.Lines.{Raw, split, content, form_of, Form}
@@ -78,19 +77,19 @@ grammar = v · o · s · i ⁇ · u ⁇ · e * · p * · c ⁇ · b * · time_de
 -- a line before the others by its form: an empty one has no letter; after one of bad form nothing counts
 abbrev pub before : Form → Option (List ℕ) → Option (List ℕ)
 before (Ok None) ls = ls
-before (Err f) ls = none
-before (Ok (Some l)) none = none
-before (Ok (Some l)) (some ls) = some (l ∷ ls)
+before (Err f) ls = None
+before (Ok (Some l)) None = None
+before (Ok (Some l)) (Some ls) = Some (l ∷ ls)
 
 -- the letters of the lines, where "every non-empty line has good form"
 unfoldable pub letters : List Raw → Option (List ℕ)
-letters [] = some []
+letters [] = Some []
 letters (x ∷ xs) = before (form_of (content x)) (letters xs)
 
 -- there are such letters, and they run as x says
 abbrev pub run : Expr → Option (List ℕ) → Bool
-run x none = false
-run x (some ls) = matches x ls
+run x None = false
+run x (Some ls) = matches x ls
 
 -- "Yes exactly when every non-empty line has good form and the letters run .."; "a text over 32,768 bytes is refused with 1"
 unfoldable pub order_of : List ℕ → Result Bool Refusal

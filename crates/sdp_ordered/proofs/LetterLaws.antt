@@ -4,7 +4,7 @@ use Prim.Native.Nat.{ℕ, ◌+◌}
 use mathlib.Core.Path.{◌≡◌, refl, sym, ap, ◌∙◌}
 use mathlib.Core.Bool.{Bool, true, false, cond, not}
 use mathlib.Core.List.{List, [], ◌∷◌, ◌++◌, append-nil, append_assoc}
-use mathlib.Core.Option.{Option, none, some}
+use Rattle.std.specs.Prelude.{Option, Some, None}
 use lib.ListN.{length}
 use lib.Dec.{eqb}
 use Rattle.sdp_lines.specs.Lines as cutter
@@ -64,8 +64,8 @@ mine_bare n owner {v} f = go (eqb owner n)
     go false = nothing
 
 optional_bare : {X : Type 0} (f : X → List ℕ) → ((x : X) → Bare (f x)) → (o : Option X) → Bare (optional f o)
-optional_bare f h none = nothing
-optional_bare f h (some x) = h x
+optional_bare f h None = nothing
+optional_bare f h (Some x) = h x
 
 signed : (n : ℕ) → Bare (signed_text n)
 signed n = offset_form Bare time (λ t. dash (time t)) _ _
@@ -80,7 +80,7 @@ zone k z = go (eqb k 1) and (number z.adjustment_time and space (signed z.offset
 
 -- ---- the letters of lines: ls, and then those of the lines behind xs
 pub record Lettered (ls xs : List ℕ) : Type 0 where
-  pub says : (rest ms : List ℕ) → letters (split rest) ≡ some ms → letters (split (xs ++ rest)) ≡ some (ls ++ ms)
+  pub says : (rest ms : List ℕ) → letters (split rest) ≡ Some ms → letters (split (xs ++ rest)) ≡ Some (ls ++ ms)
 
 line_letter : (l : ℕ) → letter l ≡ true → {v : List ℕ} → Bare v → Lettered (l ∷ []) (line l v)
 unfolding order.letters cutter.content
@@ -96,8 +96,8 @@ infixr 50 ◌then◌
 ◌then◌ {ls} {ms} {xs} {ys} a b = record { says = λ rest ns e. rw (append_assoc xs ys rest, append_assoc ls ms ns) (a.says (ys ++ rest) (ms ++ ns) (b.says rest ns e)) }
 
 optional-letters : {X : Type 0} (l : ℕ) (f : X → List ℕ) → ((x : X) → Lettered (l ∷ []) (f x)) → (o : Option X) → Lettered (optional (λ x. l ∷ []) o) (optional f o)
-optional-letters l f h none = none_here
-optional-letters l f h (some x) = h x
+optional-letters l f h None = none_here
+optional-letters l f h (Some x) = h x
 
 each-letters : {X : Type 0} (g f : ℕ → X → List ℕ) → ((k : ℕ) (x : X) → Lettered (g k x) (f k x)) → (n : ℕ) (xs : List X) → Lettered (each g n xs) (each f n xs)
 unfolding rows.each
@@ -197,8 +197,8 @@ module _ {S : Type 0} (str : S → List ℕ) where
 
   user : (o : Option S) → Bare (username_text str o)
   unfolding form.username_text form.or_dash
-  user none = dash nothing
-  user (some x) = go (eqb (length (str x)) 0)
+  user None = dash nothing
+  user (Some x) = go (eqb (length (str x)) 0)
     where
       go : (b : Bool) → Bare (cond b (0x2d ∷ []) (clean (str x)))
       go true = dash nothing
@@ -206,8 +206,8 @@ module _ {S : Type 0} (str : S → List ℕ) where
 
   origin_letter : (o : Option (Origin S)) → Lettered (0x6f ∷ []) (origin_line str o)
   unfolding form.origin_line form.origin_value every
-  origin_letter none = line_letter 0x6f refl (record { is = refl })
-  origin_letter (some o) =
+  origin_letter None = line_letter 0x6f refl (record { is = refl })
+  origin_letter (Some o) =
       line_letter 0x6f refl
       (user o.username
       and (space (string o.sess_id)
@@ -215,8 +215,8 @@ module _ {S : Type 0} (str : S → List ℕ) where
       and (space (string o.nettype) and (space (string o.addrtype) and space (string o.unicast_address))))))
 
   name_letter : (o : Option S) → Lettered (0x73 ∷ []) (name_line str o)
-  name_letter none = line_letter 0x73 refl nothing
-  name_letter (some x) = line_letter 0x73 refl (string x)
+  name_letter None = line_letter 0x73 refl nothing
+  name_letter (Some x) = line_letter 0x73 refl (string x)
 
   connection_letter : (c : Connection S) → Lettered (0x63 ∷ []) (connection_line str c)
   unfolding form.connection_line
@@ -285,9 +285,9 @@ module _ {S : Type 0} (str : S → List ℕ) where
       then closing_letters_lem s
       then each-letters _ _ (media-letters s.tables) 1 s.tables.medias
 
-  pub written-letters : (s : Session S) → letters (split (written str s)) ≡ some (written_letters s)
+  pub written-letters : (s : Session S) → letters (split (written str s)) ≡ Some (written_letters s)
   unfolding order.letters cutter.split
   written-letters s =
       ap (λ (w : List ℕ). letters (split w)) (sym (append-nil (written str s)))
       ∙ (all_letters s).says [] [] refl
-      ∙ ap some (append-nil (written_letters s))
+      ∙ ap Some (append-nil (written_letters s))

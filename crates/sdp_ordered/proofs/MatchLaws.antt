@@ -5,7 +5,7 @@ use mathlib.Core.Path.{◌≡◌, refl, sym, ap, ◌∙◌}
 use mathlib.Core.Logic.{◌⊎◌, inl, inr}
 use mathlib.Core.Bool.{Bool, true, false, ◌||◌, cond, true≢false, false≢true}
 use mathlib.Core.List.{List, [], ◌∷◌, ◌++◌, append-nil, append_assoc}
-use mathlib.Core.Option.{Option, none, some}
+use Rattle.std.specs.Prelude.{Option, Some, None}
 use lib.ListN.{length}
 use lib.Dec.{eqb}
 use Rattle.sdp_area.specs.Session.{Time, Repeat, Zone}
@@ -36,8 +36,8 @@ pub absent : {x : Expr} → Describes (x ⁇) []
 absent = right [] no_letter
 
 pub given : {X : Type 0} (l : ℕ) (o : Option X) → Describes (letter l ⁇) (given_letter l o)
-given l none = absent
-given l (some x) = left _ (one_letter l)
+given l None = absent
+given l (Some x) = left _ (one_letter l)
 
 -- one or more of them are any number
 some_more : {x : Expr} {ls : List ℕ} → Describes (x · x *) ls → Describes (x *) ls

@@ -5,7 +5,7 @@ ghost use Rattle.std.specs.Prelude.{◌≡◌};
 ghost use Rattle.sdp_roles.specs.Roles.{before_media, from_media, role_at};
 
 // What a line's letter is for at its place.
-#[derive(Drop)]
+#[derive(Clone, Copy, Debug, PartialEq, Eq)]
 pub enum Role {
     Origin,
     Name,
@@ -22,10 +22,12 @@ pub enum Role {
     Media,
     MediaTitle,
     MediaConnection,
+    // no Option around the others: a letter of no use is one more row of the one table of letters
     Nothing,
 }
 
 // What a letter is for before the first m line.
+#[tactic(auto, unfolding(crate::specs::Roles::before_media))]
 fn before_media(letter: u8) -> Role
     ensures { result ≡ before_media letter }
 {
@@ -48,6 +50,7 @@ fn before_media(letter: u8) -> Role
 }
 
 // What a letter is for from an m line on.
+#[tactic(auto, unfolding(crate::specs::Roles::from_media))]
 fn from_media(letter: u8) -> Role
     ensures { result ≡ from_media letter }
 {

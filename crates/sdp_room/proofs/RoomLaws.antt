@@ -2,7 +2,7 @@
 use mathlib.Core.Path.{◌≡◌, refl, ap}
 use mathlib.Core.Bool.{Bool, true, false, cond}
 use mathlib.Core.List.{List, [], ◌∷◌, ◌++◌}
-use mathlib.Core.Option.{none, some}
+use Rattle.std.specs.Prelude.{Some, None}
 use Prim.Native.Nat.{ℕ, zero, suc, ◌+◌, ◌*◌, ◌≤◌, ◌<◌, ◌^◌}
 use native.Mathlib.Nat.{suc-mul}
 use native.Mathlib.Omega.{arith}
@@ -80,7 +80,7 @@ module _ (t a : List ℕ) (byte : (i : ℕ) → get_or a i 0 < 256) where
   unfolding rows.marked
   if_marked f rd k p h = go (eqb (num 2 a p) 0)
     where
-      go : (b : Bool) → length (optional f (cond b none (some (rd a (p + 2))))) ≤ k
+      go : (b : Bool) → length (optional f (cond b None (Some (rd a (p + 2))))) ≤ k
       go true = omega arith
       go false = h
 
@@ -92,7 +92,7 @@ module _ (t a : List ℕ) (byte : (i : ℕ) → get_or a i 0 < 256) where
       dash true = omega arith
       dash false = omega (arith, string (p + 2) (p + 4) (omega arith))
 
-      go : (b : Bool) → length (username_text (bytes_of t) (cond b none (some (span_of a (p + 2))))) ≤ 1 + num 2 a (p + 4)
+      go : (b : Bool) → length (username_text (bytes_of t) (cond b None (Some (span_of a (p + 2))))) ≤ 1 + num 2 a (p + 4)
       go true = omega arith
       go false = dash (eqb (length (bytes_of t (span_of a (p + 2)))) 0)
 
@@ -106,7 +106,7 @@ module _ (t a : List ℕ) (byte : (i : ℕ) → get_or a i 0 < 256) where
   unfolding Written.origin_line rows.marked origin_room
   origin_line_lem p = go (eqb (num 2 a p) 0)
     where
-      go : (b : Bool) → length (origin_line (bytes_of t) (cond b none (some (origin_of a (p + 2))))) ≤ origin_room a (p + 2)
+      go : (b : Bool) → length (origin_line (bytes_of t) (cond b None (Some (origin_of a (p + 2))))) ≤ origin_room a (p + 2)
       go true = rw length-line (omega arith)
       go false = rw length-line (origin_value_lem (p + 2))
 

@@ -1,7 +1,6 @@
 -- Document 01, "Writing", and document 02, P4: the written form of a session, a concatenation of lines in the crate's order. Keys are never
 -- written. str gives the bytes of a string.
-use Rattle.std.specs.Prelude.{ℕ, ◌+◌, ◌-◌, ◌^◌, cond, List, [], ◌∷◌, ◌++◌, length, leb, eqb}
-use Rattle.std.proofs.Math.Option.{Option, none, some}
+use Rattle.std.specs.Prelude.{ℕ, ◌+◌, ◌-◌, ◌^◌, cond, List, [], ◌∷◌, ◌++◌, length, leb, eqb, Option, Some, None}
 use Rattle.sdp_put.specs.Digits.{digits, time_text, offset_text}
 use Rattle.sdp_put.specs.Strings.{clean}
 use Rattle.sdp_decode.specs.Rows.{each, mine}
@@ -21,8 +20,8 @@ spaced bs = (0x20 ∷ []) ++ bs
 
 -- what is there only where a field is
 abbrev pub optional : {X : Type 0} → (X → List ℕ) → Option X → List ℕ
-optional f none = []
-optional f (some x) = f x
+optional f None = []
+optional f (Some x) = f x
 
 -- ---- t, r, z: numbers only
 -- start-time stop-time
@@ -80,8 +79,8 @@ module _ {S : Type 0} (str : S → List ℕ) where
 
   -- "an absent or empty username is `-`, judged before the dropping"
   unfoldable pub username_text : Option S → List ℕ
-  username_text none = 0x2d ∷ []
-  username_text (some x) = or_dash (str x)
+  username_text None = 0x2d ∷ []
+  username_text (Some x) = or_dash (str x)
 
   -- username sess-id sess-version nettype addrtype unicast-address
   unfoldable pub origin_value : Origin S → List ℕ
@@ -95,14 +94,14 @@ module _ {S : Type 0} (str : S → List ℕ) where
 
   -- "a missing `o` .. gives the placeholder written `o=- 0 0 IN IP4 0.0.0.0`"
   unfoldable pub origin_line : Option (Origin S) → List ℕ
-  origin_line none =
+  origin_line None =
       line 0x6f (0x2d ∷ 0x20 ∷ 0x30 ∷ 0x20 ∷ 0x30 ∷ 0x20 ∷ 0x49 ∷ 0x4e ∷ 0x20 ∷ 0x49 ∷ 0x50 ∷ 0x34 ∷ 0x20 ∷ 0x30 ∷ 0x2e ∷ 0x30 ∷ 0x2e ∷ 0x30 ∷ 0x2e ∷ 0x30 ∷ [])
-  origin_line (some o) = line 0x6f (origin_value o)
+  origin_line (Some o) = line 0x6f (origin_value o)
 
   -- "A missing `s` gives an empty name"
   abbrev pub name_line : Option S → List ℕ
-  name_line none = line 0x73 []
-  name_line (some x) = string_line 0x73 x
+  name_line None = line 0x73 []
+  name_line (Some x) = string_line 0x73 x
 
   -- nettype addrtype connection-address
   unfoldable pub connection_line : Connection S → List ℕ

@@ -1,7 +1,7 @@
 -- The area loses nothing: what the bytes of a session say is the session, with a name. Assumes nothing.
 use mathlib.Core.Path.{◌≡◌, refl, ap, ◌∙◌}
 use mathlib.Core.List.{List, [], ◌∷◌, ◌++◌}
-use mathlib.Core.Option.{Option, none, some}
+use Rattle.std.specs.Prelude.{Option, Some, None}
 use Prim.Native.Nat.{ℕ, ◌+◌, ◌<◌}
 use lib.Dec.{lit<}
 use lib.ListN.{length}
@@ -29,8 +29,8 @@ Back {X} P f rd = (a : List ℕ) (n : ℕ) (x : X) → P x → Stands a n (f x) 
 module _ {X : Type 0} (P : X → Type 0) (f : X → List ℕ) (rd : List ℕ → ℕ → X) (back : Back P f rd) where
   marked_back : (k : ℕ) → Back (IfGiven P) (opt k f) (marked rd)
   unfolding cells.marked
-  marked_back k a n none h w = rw (absent-mark k f w)
-  marked_back k a n (some x) h w = let q = present_mark k f x w in rw q.0 (ap some (back a (n + 2) x h q.1))
+  marked_back k a n None h w = rw (absent-mark k f w)
+  marked_back k a n (Some x) h w = let q = present_mark k f x w in rw q.0 (ap Some (back a (n + 2) x h q.1))
 
   module _ (k : ℕ) (wide : (x : X) → length (f x) ≡ k) (a : List ℕ) where
     rows_back : (xs : List X) (n : ℕ) → Each P xs → Stands a n (flat f xs) → rows_at rd k (length xs) a n ≡ xs
@@ -74,8 +74,8 @@ module _ (P : Span → Type 0) (room : (x : Span) → P x → FitsSpan x) where
 
   name_back : (a : List ℕ) (n : ℕ) (o : Option Span) → IfGiven P o → Stands a n (name_bytes o) → span_of a n ≡ name_of o
   unfolding area.name_bytes area.span bytes.le bytes.zeros
-  name_back a n none h w = span_fits a n (name_of none) (record { at = lit< tt; len = lit< tt }) w
-  name_back a n (some x) h w = span_back a n x h w
+  name_back a n None h w = span_fits a n (name_of None) (record { at = lit< tt; len = lit< tt }) w
+  name_back a n (Some x) h w = span_back a n x h w
 
   connection_back : Back (FitConnection P) connection_bytes connection_of
   connection_back a n c h w =
@@ -135,7 +135,7 @@ module _ (P : Span → Type 0) (room : (x : Span) → P x → FitsSpan x) where
       λ i. record {
         head = record {
           origin = marked_back (FitOrigin P) origin_bytes origin_of origin_back 30 a origin_at s.head.origin h.head.origin (segment s x 0 (lit< tt)) i;
-          name = some (name_back a name_at s.head.name h.head.name (segment s x 1 (lit< tt)) i);
+          name = Some (name_back a name_at s.head.name h.head.name (segment s x 1 (lit< tt)) i);
           description = maybe_back a description_at s.head.description h.head.description (segment s x 2 (lit< tt)) i;
           uri = maybe_back a uri_at s.head.uri h.head.uri (segment s x 3 (lit< tt)) i;
           connection = marked_back (FitConnection P) connection_bytes connection_of connection_back 12 a connection_at s.head.connection h.head.connection (segment s x 4 (lit< tt)) i;

@@ -5,7 +5,7 @@ use native.Mathlib.Omega.{arith}
 use mathlib.Core.Path.{◌≡◌, refl, ap, ◌∙◌}
 use mathlib.Core.Bool.{Bool, true, false, ◌&&◌, cond, false≢true}
 use mathlib.Core.List.{List, [], ◌∷◌, map}
-use mathlib.Core.Option.{none, some}
+use Rattle.std.specs.Prelude.{Some, None}
 use borrow.Author.Tests.{ltb-true, eqb-false}
 use lib.Dec.{ltb, leb, eqb, lit<}
 use lib.ListN.{length, get_or, take, drop}
@@ -237,7 +237,7 @@ module _ (v : List ℕ) (mk : Piece → Span) (P : Span → Type 0) (fine : (p :
   maybe-fit : (m : MaybePiece) → MaybeFine v m → IfGiven P (maybe_in mk m)
   maybe-fit m h = go m.there refl
     where
-      go : (b : Bool) → m.there ≡ b → IfGiven P (cond b (some (mk m.piece)) none)
+      go : (b : Bool) → m.there ≡ b → IfGiven P (cond b (Some (mk m.piece)) None)
       go true q = fine m.piece (h q)
       go false q = tt
 
@@ -290,7 +290,7 @@ module _ (v : List ℕ) (mk : Piece → Span) (P : Span → Type 0) (fine : (p :
   ports_fit : (m : MaybeNumber) → m.value < 65536 → IfGiven (λ n. n < 65536) (ports_in mk m)
   ports_fit m h = go m.there
     where
-      go : (b : Bool) → IfGiven (λ n. n < 65536) (cond b (some m.value) none)
+      go : (b : Bool) → IfGiven (λ n. n < 65536) (cond b (Some m.value) None)
       go true = h
       go false = tt
 

@@ -5,7 +5,7 @@ use native.Mathlib.Omega.{arith}
 use mathlib.Core.Path.{◌≡◌, refl}
 use mathlib.Core.Bool.{Bool, true, ◌&&◌}
 use mathlib.Core.List.{List, [], ◌∷◌, ◌++◌}
-use mathlib.Core.Option.{Option, none, some}
+use Rattle.std.specs.Prelude.{Option, Some, None}
 use borrow.Author.Tests.{le-leb}
 use lib.Dec.{leb, lit<}
 use lib.ListN.{length}
@@ -42,8 +42,8 @@ module _ (a : List ℕ) where
   module _ {X : Type 0} (P : X → Type 0) (f : X → List ℕ) (test : ℕ → Bool) (passes : Passes P f test) where
     if_passes : (k : ℕ) → Passes (IfGiven P) (opt k f) (fine_if a test)
     unfolding judge.judged
-    if_passes k n none h w = rw (absent-mark k f w)
-    if_passes k n (some x) h w = let q = present_mark k f x w in rw q.0 (passes (n + 2) x h q.1)
+    if_passes k n None h w = rw (absent-mark k f w)
+    if_passes k n (Some x) h w = let q = present_mark k f x w in rw q.0 (passes (n + 2) x h q.1)
 
     rows_pass : (k : ℕ) → ((x : X) → length (f x) ≡ k) → (xs : List X) (n : ℕ) → Each P xs → Stands a n (flat f xs) → every_at test k (length xs) n ≡ true
     unfolding judge.every_at
@@ -103,8 +103,8 @@ module _ (a : List ℕ) where
 
     name_passes : (n : ℕ) (o : Option Span) → IfGiven (FineIn t) o → Stands a n (name_bytes o) → fine_string a t n ≡ true
     unfolding area.name_bytes area.span bytes.le bytes.zeros utf8.is_utf8 utf8.utf8_end utf8.end_from
-    name_passes n none h w = string_passes n (name_of none) (record { inside = omega arith; utf8 = refl }) w
-    name_passes n (some x) h w = string_passes n x h w
+    name_passes n None h w = string_passes n (name_of None) (record { inside = omega arith; utf8 = refl }) w
+    name_passes n (Some x) h w = string_passes n x h w
 
     attribute_passes : Passes (FitAttribute (FineIn t)) attribute_row (fine_row a t Attribute)
     unfolding judge.fine_pair

@@ -5,7 +5,7 @@ use mathlib.Core.Path.{◌≡◌, refl, sym, ap, ◌∙◌}
 use mathlib.Core.Logic.{◌⊎◌, inl, inr}
 use mathlib.Core.Bool.{Bool, true, false, cond}
 use mathlib.Core.List.{List, [], ◌∷◌, ◌++◌}
-use mathlib.Core.Option.{Option, none, some}
+use Rattle.std.specs.Prelude.{Option, Some, None}
 use borrow.Author.Tests.{le-ltb, ltb-false}
 use lib.Dec.{ltb}
 use lib.ListN.{length, drop}
@@ -36,10 +36,10 @@ use Rattle.sdp_same.proofs.ColumnLaws.{lines_full, lines_fine}
 
 -- ---- no name is written as an empty one
 module _ (t : List ℕ) where
-  name_same : (o : Option Span) → name_line (bytes_of t) (some (name_of o)) ≡ name_line (bytes_of t) o
+  name_same : (o : Option Span) → name_line (bytes_of t) (Some (name_of o)) ≡ name_line (bytes_of t) o
   unfolding strings.clean
-  name_same none = refl
-  name_same (some x) = refl
+  name_same None = refl
+  name_same (Some x) = refl
 
   head_same : (s : Session Span) → head_lines (bytes_of t) (named s).head ≡ head_lines (bytes_of t) s.head
   unfolding form.head_lines

@@ -1,7 +1,7 @@
 -- Bytes that stand at a place of a list, and the numbers, marks and rows that stand there. Assumes nothing.
 use mathlib.Core.Path.{◌≡◌, refl, sym, ap, ◌∙◌}
 use mathlib.Core.List.{List, [], ◌∷◌, ◌++◌, append_assoc}
-use mathlib.Core.Option.{none, some}
+use Rattle.std.specs.Prelude.{Some, None}
 use Prim.Native.Nat.{ℕ, zero, suc, ◌+◌, ◌^◌, ◌<◌}
 use native.Mathlib.Nat.{add-zero, add_assoc}
 use native.Mathlib.Omega.{arith}
@@ -51,13 +51,13 @@ num_back k v h {a} {n} w =
 
 -- ---- what may be absent
 module _ {X : Type 0} (k : ℕ) (f : X → List ℕ) {a : List ℕ} {n : ℕ} where
-  pub absent-mark : Stands a n (opt k f none) → num 2 a n ≡ 0
+  pub absent-mark : Stands a n (opt k f None) → num 2 a n ≡ 0
   unfolding area.opt
   absent-mark w =
       let e : zeros (2 + k) ≡ le 2 0 ++ zeros k = sym (zeros-add 2 k) ∙ ap (λ (l : List ℕ). l ++ zeros k) (sym le_zero) in
       num_back 2 0 (lit< tt) (front (le 2 0) _ (rw e at w))
 
-  pub present_mark : (x : X) → Stands a n (opt k f (some x)) → (num 2 a n ≡ 1) × Stands a (n + 2) (f x)
+  pub present_mark : (x : X) → Stands a n (opt k f (Some x)) → (num 2 a n ≡ 1) × Stands a (n + 2) (f x)
   unfolding area.opt
   present_mark x w = (num_back 2 1 (lit< tt) (front (le 2 1) _ w), past (le 2 1) _ w (length-le 2 1) (n + 2) refl)
 

@@ -3,8 +3,7 @@ use Prim.Native.Nat.{ℕ, ◌+◌}
 use mathlib.Core.Path.{◌≡◌, refl, sym, ap, ◌∙◌}
 use mathlib.Core.Bool.{Bool, true, false, cond}
 use mathlib.Core.List.{List, [], ◌∷◌, ◌++◌, map, map-append}
-use mathlib.Core.Option
-use mathlib.Core.Option.{Option, none, some}
+use Rattle.std.specs.Prelude.{Option, Some, None, option_map}
 use lib.Dec.{ltb, leb, eqb}
 use lib.ListN.{length, length-map}
 use Rattle.sdp_judge.specs.Read.{Read, got, refused, whole_of}
@@ -33,9 +32,9 @@ use Rattle.sdp_roles.specs.declared.Role.TheVariants as role
 use Rattle.sdp_same.specs.Said.{said_origin, said_connection, said_media_connection, said_bandwidth, said_attribute, said_media, said_reading, said_step}
 
 -- ---- lists and what may be absent
-given-said : {X Y : Type 0} (h : X → Y) (o : Option X) → given o ≡ given (Option.map h o)
-given-said h none = refl
-given-said h (some x) = refl
+given-said : {X Y : Type 0} (h : X → Y) (o : Option X) → given o ≡ given (option_map h o)
+given-said h None = refl
+given-said h (Some x) = refl
 
 -- one row more
 snoc_said : {X Y : Type 0} (h : X → Y) (xs : List X) (x : X) (y : Y) → h x ≡ y → map h (xs ++ (x ∷ [])) ≡ map h xs ++ (y ∷ [])
@@ -79,11 +78,11 @@ module _ {S T : Type 0} (f : S → T) where
 
   -- ---- a line whose value is v: mk makes its strings, and what f says of them mk' makes
   module _ (v : List ℕ) (mk : Piece → S) (mk' : Piece → T) (same : (p : Piece) → Inside v p → f (mk p) ≡ mk' p) where
-    maybe-said : (m : MaybePiece) → Inside v m.piece → Option.map f (maybe_in mk m) ≡ maybe_in mk' m
+    maybe-said : (m : MaybePiece) → Inside v m.piece → option_map f (maybe_in mk m) ≡ maybe_in mk' m
     maybe-said m h = go m.there
       where
-        go : (b : Bool) → Option.map f (cond b (some (mk m.piece)) none) ≡ cond b (some (mk' m.piece)) none
-        go true = ap some (same m.piece h)
+        go : (b : Bool) → option_map f (cond b (Some (mk m.piece)) None) ≡ cond b (Some (mk' m.piece)) None
+        go true = ap Some (same m.piece h)
         go false = refl
 
     origin_said : (o : origin.Origin) → OriginInside v o → said_origin f (origin_in mk o) ≡ origin_in mk' o
@@ -96,7 +95,7 @@ module _ {S T : Type 0} (f : S → T) where
 
     media-said : (m : media.Media) → MediaInside v m → said_media f (media_in mk m) ≡ media_in mk' m
     media-said m h = λ i.
-        record { media = same m.media h.media i; port = m.port; num_ports = steps.ports_in mk m.num_ports; proto = same m.proto h.proto i; fmt = same m.fmt h.fmt i; media_title = none; key = none }
+        record { media = same m.media h.media i; port = m.port; num_ports = steps.ports_in mk m.num_ports; proto = same m.proto h.proto i; fmt = same m.fmt h.fmt i; media_title = None; key = None }
 
     module _ (ρ : Reading S) where
       abbrev s : Session S

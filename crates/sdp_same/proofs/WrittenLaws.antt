@@ -2,8 +2,7 @@
 use Prim.Native.Nat.{ℕ, ◌+◌}
 use mathlib.Core.Path.{◌≡◌, refl, ap}
 use mathlib.Core.List.{List, [], ◌∷◌, ◌++◌, map}
-use mathlib.Core.Option
-use mathlib.Core.Option.{Option, none, some}
+use Rattle.std.specs.Prelude.{Option, Some, None, option_map}
 use Rattle.sdp_area.specs.Session.{Origin, Bandwidth, MediaConnection, Attribute, Media, Head, Tables, Session}
 use Rattle.sdp_decode.specs.Rows as rows
 use Rattle.sdp_decode.specs.Rows.{each, mine}
@@ -24,9 +23,9 @@ module _ {X Y : Type 0} (h : X → Y) where
   each-said f g e [] n = refl
   each-said f g e (x ∷ xs) n = join (e n x) (each-said f g e xs (n + 1))
 
-  optional-said : (f : X → List ℕ) (g : Y → List ℕ) → ((x : X) → f x ≡ g (h x)) → (o : Option X) → optional f o ≡ optional g (Option.map h o)
-  optional-said f g e none = refl
-  optional-said f g e (some x) = e x
+  optional-said : (f : X → List ℕ) (g : Y → List ℕ) → ((x : X) → f x ≡ g (h x)) → (o : Option X) → optional f o ≡ optional g (option_map h o)
+  optional-said f g e None = refl
+  optional-said f g e (Some x) = e x
 
 -- the bytes of a string that is its bytes
 abbrev pub id : List ℕ → List ℕ
@@ -34,21 +33,21 @@ id x = x
 
 module _ {S : Type 0} (f : S → List ℕ) where
   -- ---- lines
-  username-said : (o : Option S) → username_text f o ≡ username_text id (Option.map f o)
+  username-said : (o : Option S) → username_text f o ≡ username_text id (option_map f o)
   unfolding form.username_text
-  username-said none = refl
-  username-said (some x) = refl
+  username-said None = refl
+  username-said (Some x) = refl
 
-  origin_said : (o : Option (Origin S)) → origin_line f o ≡ origin_line id (Option.map (said_origin f) o)
+  origin_said : (o : Option (Origin S)) → origin_line f o ≡ origin_line id (option_map (said_origin f) o)
   unfolding form.origin_line form.origin_value
-  origin_said none = refl
-  origin_said (some o) = ap (line 0x6f) (join (username-said o.username) refl)
+  origin_said None = refl
+  origin_said (Some o) = ap (line 0x6f) (join (username-said o.username) refl)
 
-  name-said : (o : Option S) → name_line f o ≡ name_line id (Option.map f o)
-  name-said none = refl
-  name-said (some x) = refl
+  name-said : (o : Option S) → name_line f o ≡ name_line id (option_map f o)
+  name-said None = refl
+  name-said (Some x) = refl
 
-  string_said : (letter : ℕ) (o : Option S) → optional (string_line f letter) o ≡ optional (string_line id letter) (Option.map f o)
+  string_said : (letter : ℕ) (o : Option S) → optional (string_line f letter) o ≡ optional (string_line id letter) (option_map f o)
   string_said letter = optional-said f _ _ (λ x. refl)
 
   attribute-said : (a : Attribute S) → attribute_line f a ≡ attribute_line id (said_attribute f a)

@@ -1,6 +1,5 @@
 -- A session whose numbers all have room in the cells of the area: docs/AREA.md. P is what is asked of a string.
-use Rattle.std.specs.Prelude.{ℕ, ◌^◌, ◌<◌, ◌≤◌, List, [], ◌∷◌, length}
-use Rattle.std.proofs.Math.Option.{Option, none, some}
+use Rattle.std.specs.Prelude.{ℕ, ◌^◌, ◌<◌, ◌≤◌, List, [], ◌∷◌, length, Option, Some, None}
 use Rattle.sdp_numbers.specs.Tables.{most_emails, most_phones, most_media_connections, most_bandwidths, most_times}
 use Rattle.sdp_numbers.specs.Tables.{most_repeats, most_offsets, most_zones, most_attributes, most_medias}
 use Rattle.sdp_lines.specs.declared.Span.{Span}
@@ -14,8 +13,8 @@ pub record FitsSpan (x : Span) : Type 0 where
 
 -- P of what is there
 abbrev pub IfGiven : {X : Type 0} → (X → Type 0) → Option X → Type 0
-IfGiven P none = Unit {0}
-IfGiven P (some x) = P x
+IfGiven P None = Unit {0}
+IfGiven P (Some x) = P x
 
 -- P of each row
 abbrev pub Each : {X : Type 0} → (X → Type 0) → List X → Type 0
@@ -124,8 +123,8 @@ pub record Fits (P : Span → Type 0) (s : Session Span) : Type 0 where
 
 -- ---- "A missing `s` gives an empty name, place and length 0": the area has no mark for it
 abbrev pub name_of : Option Span → Span
-name_of none = record { at = record { 0 = 0 }; len = 0 }
-name_of (some x) = x
+name_of None = record { at = record { 0 = 0 }; len = 0 }
+name_of (Some x) = x
 
 -- s with a name
 abbrev pub named : Session Span → Session Span

@@ -1,7 +1,6 @@
 -- "Strings are places in the text; two sessions are the same when counts, numbers, presence, owners and string bytes agree": a session with
 -- every string replaced by what f says of it.
-use Rattle.std.specs.Prelude.{ℕ, List, map}
-use Rattle.std.proofs.Math.Option
+use Rattle.std.specs.Prelude.{ℕ, List, map, option_map}
 use Rattle.sdp_split.specs.Split.{part}
 use Rattle.sdp_split.specs.declared.Piece.{Piece}
 use Rattle.sdp_area.specs.Session.{Origin, Connection, Key, MediaConnection, Bandwidth, Attribute, Media, Head, Tables, Session}
@@ -15,7 +14,7 @@ bytes_at p v x = part v x
 module _ {S T : Type 0} (f : S → T) where
   abbrev pub said_origin : Origin S → Origin T
   said_origin o = record {
-    username = Option.map f o.username;
+    username = option_map f o.username;
     sess_id = f o.sess_id;
     sess_version = o.sess_version;
     nettype = f o.nettype;
@@ -27,7 +26,7 @@ module _ {S T : Type 0} (f : S → T) where
   said_connection c = record { nettype = f c.nettype; addrtype = f c.addrtype; connection_address = f c.connection_address }
 
   abbrev pub said_key : Key S → Key T
-  said_key k = record { method = f k.method; encryption_key = Option.map f k.encryption_key }
+  said_key k = record { method = f k.method; encryption_key = option_map f k.encryption_key }
 
   -- ---- rows
   abbrev pub said_media_connection : MediaConnection S → MediaConnection T
@@ -37,7 +36,7 @@ module _ {S T : Type 0} (f : S → T) where
   said_bandwidth b = record { owner = b.owner; bwtype = f b.bwtype; bandwidth = b.bandwidth }
 
   abbrev pub said_attribute : Attribute S → Attribute T
-  said_attribute a = record { owner = a.owner; attribute = f a.attribute; value = Option.map f a.value }
+  said_attribute a = record { owner = a.owner; attribute = f a.attribute; value = option_map f a.value }
 
   abbrev pub said_media : Media S → Media T
   said_media m = record {
@@ -46,19 +45,19 @@ module _ {S T : Type 0} (f : S → T) where
     num_ports = m.num_ports;
     proto = f m.proto;
     fmt = f m.fmt;
-    media_title = Option.map f m.media_title;
-    key = Option.map said_key m.key;
+    media_title = option_map f m.media_title;
+    key = option_map said_key m.key;
   }
 
   -- ---- the whole
   abbrev pub said_head : Head S → Head T
   said_head h = record {
-    origin = Option.map said_origin h.origin;
-    name = Option.map f h.name;
-    description = Option.map f h.description;
-    uri = Option.map f h.uri;
-    connection = Option.map said_connection h.connection;
-    key = Option.map said_key h.key;
+    origin = option_map said_origin h.origin;
+    name = option_map f h.name;
+    description = option_map f h.description;
+    uri = option_map f h.uri;
+    connection = option_map said_connection h.connection;
+    key = option_map said_key h.key;
   }
 
   -- times, repeats, offsets and zones have no strings

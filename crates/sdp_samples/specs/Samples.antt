@@ -1,6 +1,5 @@
 -- Document 01, "Samples": those marked P, over what read and write promise. A text is a list of bytes; the text itself stands above it.
-use Rattle.std.specs.Prelude.{ℕ, ◌≤◌, ◌-◌, ◌^◌, ◌≡◌, List, [], ◌∷◌, ◌++◌, length, drop}
-use Rattle.std.proofs.Math.Option.{none, some}
+use Rattle.std.specs.Prelude.{ℕ, ◌≤◌, ◌-◌, ◌^◌, ◌≡◌, List, [], ◌∷◌, ◌++◌, length, drop, Some, None}
 use Rattle.sdp_lines.specs.declared.Answer.{Answer}
 use Rattle.sdp_lines.specs.declared.Span.{Span}
 use Rattle.sdp_cells.specs.Bytes.{over, zeros}
@@ -157,7 +156,7 @@ pub record Samples : Type 0 where
   -- "two o lines, the second junk: 12"
   pub two_origins : Refuses («V» next some_origin next junk_origin) (five 12 3 0 0 0)
   -- "`a=x:` has an empty value, `a=x` none"
-  pub empty_value_lem : Accepts («V» next empty_value) (with_attributes empty (record { owner = 0; attribute = span 6 1; value = some (span 8 0) } ∷ []))
+  pub empty_value_lem : Accepts («V» next empty_value) (with_attributes empty (record { owner = 0; attribute = span 6 1; value = Some (span 8 0) } ∷ []))
       (only_in attributes_cell 2)
-  pub no_value_lem : Accepts («V» next no_value) (with_attributes empty (record { owner = 0; attribute = span 6 1; value = none } ∷ []))
+  pub no_value_lem : Accepts («V» next no_value) (with_attributes empty (record { owner = 0; attribute = span 6 1; value = None } ∷ []))
       (only_in attributes_cell 2)

@@ -18,12 +18,13 @@ use sdp_roles::Role;
 
 // Where a line's number goes: into the cell of a field, or of the latest row of the table at base. An r line has rows of two
 // tables, a z line all zones.
-#[derive(Drop)]
+#[derive(Clone, Copy)]
 enum Column {
     Field(usize),
     Rows { base: usize, most: usize, at: usize },
     Repeat,
     Zone,
+    // no Option around the others: as in Role, each of sixteen arms would say Some
     Nothing,
 }
 
@@ -115,10 +116,8 @@ fn put_since(area: &mut [u8], base: usize, most: usize, at: usize, from: usize, 
     if most < n {
         return;
     }
-    let mut i = from;
-    while i < n {
+    for i in from..n {
         put_line(area, at + i * 2, line);
-        i += 1;
     }
 }
 

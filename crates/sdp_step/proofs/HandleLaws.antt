@@ -11,13 +11,12 @@ use borrow.Author.Tests.{ltb-true}
 use Rattle.sdp_lines.specs.declared.Span.{Span}
 use Rattle.sdp_judge.specs.Read.{Read, got, refused, plain}
 use Rattle.sdp_judge.specs.declared.Wrong.{Wrong}
-use mathlib.Core.Option.{Option}
+use Rattle.std.specs.Prelude.{Option, Result, Ok, Err}
 use Rattle.sdp_area.specs.Session.{Session, Within}
 use Rattle.sdp_area.specs.Latest.{given}
 use Rattle.sdp_area.specs.Area.{encode, size}
-use Rattle.sdp_cells.specs.Tables.{add, pushed}
-use Rattle.sdp_cells.specs.declared.Pushed.{Pushed}
-use Rattle.sdp_cells.specs.declared.Pushed.TheVariants.{Stored, Full}
+use Rattle.sdp_cells.specs.Tables.{add, full, pushed}
+use Rattle.sdp_cells.specs.declared.Full.{Full}
 use Rattle.sdp_step.specs.Step.{Reading, Stepped, goes, stop, once, row}
 use Rattle.sdp_step.specs.Hold.{Holds, Handled, stored_of}
 use Rattle.sdp_step.specs.declared.Marks.{Marks}
@@ -48,7 +47,7 @@ module _ {A : Type 0} (table cap c : ℕ) (r : Read A) (k : A → Reading Span) 
 
 -- p is what the push of q behind the rows xs answered, and a the area then; the session has a head and zones as before
 module _ {A X : Type 0} (table cap : ℕ) (xs : List X) (r : Read A) (k : A → Reading Span) (x : A) (f : r ≡ got x) (q : X) (put : List X → Session Span)
-    (m : Marks) (t a₀ a : List ℕ) (ρ : Reading Span) (h : Holds ρ m a₀ t) (p : Pushed) (told : p ≡ pushed cap xs) (bytes : a ≡ encode (put (add cap xs q)) ++ t)
+    (m : Marks) (t a₀ a : List ℕ) (ρ : Reading Span) (h : Holds ρ m a₀ t) (p : Result (Unit {0}) Full) (told : p ≡ pushed cap xs) (bytes : a ≡ encode (put (add cap xs q)) ++ t)
     (within : (ys : List X) → length ys ≤ cap → Within (put ys)) (is : k x ≡ record { session = put (xs ++ (q ∷ [])); zoned = ρ.zoned })
     (name : (put (xs ++ (q ∷ []))).head.name ≡ ρ.session.head.name) (zones : (put (xs ++ (q ∷ []))).tables.zones ≡ ρ.session.tables.zones) where
   kept : length xs < cap → a ≡ encode (put (xs ++ (q ∷ []))) ++ t → Holds (record { session = put (xs ++ (q ∷ [])); zoned = ρ.zoned }) m a t
@@ -65,6 +64,6 @@ module _ {A X : Type 0} (table cap : ℕ) (xs : List X) (r : Read A) (k : A → 
   row_pushed = rw (f, told, is) (go (ltb (length xs) cap) refl bytes)
     where
       go : (b : Bool) → ltb (length xs) cap ≡ b → a ≡ encode (put (cond b (xs ++ (q ∷ [])) xs)) ++ t
-          → Handled (cond b (goes (record { session = put (xs ++ (q ∷ [])); zoned = ρ.zoned })) (stop 21 table)) (stored_of (cond b Stored Full) table m) a t
+          → Handled (cond b (goes (record { session = put (xs ++ (q ∷ [])); zoned = ρ.zoned })) (stop 21 table)) (stored_of (cond b (Ok tt) (Err full)) table m) a t
       go true e u = kept (ltb-true (length xs) cap e) u
       go false e u = (refl, ap (drop size) u ∙ behind (put xs) t)

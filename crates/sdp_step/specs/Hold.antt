@@ -1,13 +1,12 @@
 -- What the functions that take a line promise, for every session that the area holds: the step's answer, and the area for it.
-use Rattle.std.specs.Prelude.{◌≡◌, false, List, [], ◌++◌, ℕ, length, drop}
+use Rattle.std.specs.Prelude.{◌≡◌, false, List, [], ◌++◌, ℕ, length, drop, Result, Ok, Err}
 use Rattle.sdp_numbers.specs.Refusals as refusals
 use Rattle.sdp_lines.specs.declared.Span.{Span}
 use Rattle.sdp_area.specs.Session.{Within}
 use Rattle.sdp_area.specs.Area.{encode, size}
 use Rattle.sdp_area.specs.Latest.{given}
 use Rattle.sdp_judge.specs.Read.{plain}
-use Rattle.sdp_cells.specs.declared.Pushed.{Pushed}
-use Rattle.sdp_cells.specs.declared.Pushed.TheVariants.{Stored, Full}
+use Rattle.sdp_cells.specs.declared.Full.{Full}
 use Rattle.sdp_step.specs.Step.{Reading, Stepped, goes, stops, step_role}
 use Rattle.sdp_strings.specs.Strings.{span_at}
 use Rattle.sdp_roles.specs.Roles.{role_at}
@@ -42,9 +41,9 @@ abbrev pub Takes : (Reading Span → Stepped Span) → Marks → Taken → List 
 Takes f m r a a' = (ρ : Reading Span) (t : List ℕ) → Holds ρ m a t → Handled (f ρ) r a' t
 
 -- a row that was stored, or did not fit the table
-abbrev pub stored_of : Pushed → ℕ → Marks → Taken
-stored_of Stored table m = Kept m
-stored_of Full table m = Refused (plain refusals.table_full table)
+abbrev pub stored_of : Result (Unit {0}) Full → ℕ → Marks → Taken
+stored_of (Ok _) table m = Kept m
+stored_of (Err _) table m = Refused (plain refusals.table_full table)
 
 -- a line of the role x, whose value v stands at place p
 abbrev pub Reads : Role → ℕ → List ℕ → Marks → Taken → List ℕ → List ℕ → Type 0

@@ -1,7 +1,6 @@
 -- Document 01, "Lines", "Fields", "Tables": what one line does to a session. mk makes a string of a piece of the line's value, so nothing
 -- here knows the text, nor a line's number.
-use Rattle.std.specs.Prelude.{ℕ, ◌+◌, Bool, true, false, cond, List, [], ◌∷◌, ◌++◌, map, length, ltb, leb, eqb}
-use Rattle.std.proofs.Math.Option.{Option, none, some}
+use Rattle.std.specs.Prelude.{ℕ, ◌+◌, Bool, true, false, cond, List, [], ◌∷◌, ◌++◌, map, length, ltb, leb, eqb, Option, Some, None}
 use Rattle.sdp_numbers.specs.Refusals as refusals
 use Rattle.sdp_numbers.specs.Fields as fields
 use Rattle.sdp_numbers.specs.Tables as tables
@@ -59,7 +58,7 @@ row table cap c (refused w) k = stops w
 -- ---- a record's pieces as strings
 module _ {S : Type 0} (mk : Piece → S) where
   abbrev pub maybe_in : MaybePiece → Option S
-  maybe_in m = cond m.there (some (mk m.piece)) none
+  maybe_in m = cond m.there (Some (mk m.piece)) None
 
   abbrev pub origin_in : origin.Origin → Origin S
   origin_in o =
@@ -85,7 +84,7 @@ module _ {S : Type 0} (mk : Piece → S) where
   bandwidth_in n b = record { owner = n; bwtype = mk b.bwtype; bandwidth = b.bandwidth }
 
   abbrev pub ports_in : MaybeNumber → Option ℕ
-  ports_in m = cond m.there (some m.value) none
+  ports_in m = cond m.there (Some m.value) None
 
   abbrev pub media_in : media.Media → Media S
   media_in m =
@@ -95,8 +94,8 @@ module _ {S : Type 0} (mk : Piece → S) where
         num_ports = ports_in m.num_ports;
         proto = mk m.proto;
         fmt = mk m.fmt;
-        media_title = none;
-        key = none;
+        media_title = None;
+        key = None;
       }
 
 -- records without strings

@@ -4,7 +4,7 @@
 ghost use Rattle.std.specs.Prelude.{◌≡◌};
 ghost use Rattle.sdp_step.specs.Hold.{stored_of};
 
-use sdp_cells::Pushed;
+use sdp_cells::Full;
 use sdp_judge::Wrong;
 
 // What the area does not keep: whether there was an s line, and a z line.
@@ -23,12 +23,12 @@ pub enum Taken {
 }
 
 // A row that was stored, or did not fit.
-pub fn stored(p: Pushed, table: u64, marks: Marks) -> Taken
+pub fn stored(p: Result<(), Full>, table: u64, marks: Marks) -> Taken
     ensures { result ≡ stored_of p table marks }
 {
     match p {
-        Pushed::Stored => Taken::Kept(marks),
-        Pushed::Full => Taken::Refused(Wrong {
+        Ok(()) => Taken::Kept(marks),
+        Err(Full) => Taken::Refused(Wrong {
             number: 21,
             field: table,
             at: 0,

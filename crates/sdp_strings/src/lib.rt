@@ -1,11 +1,10 @@
 // The strings of a line's value as places in the text.
 #![tactic(auto)]
 
-ghost use Rattle.std.specs.Prelude.{◌≡◌, [], ◌+◌, ◌≤◌};
+ghost use Rattle.std.specs.Prelude.{◌≡◌, [], ◌+◌, ◌≤◌, cond, Some, None};
 ghost use Rattle.sdp_numbers.specs.Refusals.{longest_text};
 ghost use Rattle.sdp_strings.specs.Strings.{span_at};
 
-use sdp_area::MaybeSpan;
 use sdp_judge::MaybePiece;
 use sdp_lines::{Place, Span};
 use sdp_split::Piece;
@@ -22,13 +21,10 @@ pub fn span_of(at: usize, p: Piece) -> Span
 }
 
 // The same where it may be absent.
-pub fn maybe_of(at: usize, m: MaybePiece) -> MaybeSpan
+pub fn maybe_of(at: usize, m: MaybePiece) -> Option<Span>
     requires { at + m.piece.at ≤ longest_text }
-    ensures { result ≡ record { there = m.there; span = span_at at [] m.piece } }
+    ensures { result ≡ cond m.there (Some (span_at at [] m.piece)) None }
 {
     let p = m.piece;
-    MaybeSpan {
-        there: m.there,
-        span: span_of(at, p),
-    }
+    if m.there { Some(span_of(at, p)) } else { None }
 }

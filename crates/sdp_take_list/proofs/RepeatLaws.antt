@@ -22,8 +22,9 @@ use Rattle.sdp_area.specs.Session.{Repeat, Offset, Session, Within}
 use Rattle.sdp_area.specs.With.{with_repeats, with_offsets}
 use Rattle.sdp_cells.specs.Tables.{add, pushed, told, grown}
 use Rattle.sdp_area.specs.Area.{encode, size, offset_row, offsets_at}
-use Rattle.sdp_cells.specs.declared.Pushed.{Pushed}
-use Rattle.sdp_cells.specs.declared.Pushed.TheVariants.{Stored, Full}
+use Rattle.std.specs.Prelude.{Result, Ok, Err}
+use Rattle.sdp_cells.specs.declared.Full.{Full}
+use Rattle.sdp_cells.specs.Tables.{full}
 use Rattle.sdp_area.proofs.GrownLaws.{offsets-grown}
 use Rattle.sdp_step.specs.Step.{Reading, stops, with_repeat, repeated}
 use Rattle.sdp_step.specs.Hold.{Holds, Handled}
@@ -74,7 +75,7 @@ module _ (s : Session Span) (ok : Within s) (q : Repeat) (ns : List ℕ) (n : �
       rw (g.0, g.1) (go (ltb (length (s.tables.offsets ++ map (offset_in s) ns)) 256) refl)
     where
       go : (b : Bool) → ltb (length (s.tables.offsets ++ map (offset_in s) ns)) 256 ≡ b
-          → RoomHolds s q (ns ++ (n ∷ [])) (room_after Open (cond b Stored Full))
+          → RoomHolds s q (ns ++ (n ∷ [])) (room_after Open (cond b (Ok tt) (Err full)))
           (encode (with_offsets (with_repeat s q ns) (cond b ((s.tables.offsets ++ map (offset_in s) ns) ++ (offset_in s n ∷ [])) (s.tables.offsets ++ map (offset_in s) ns))) ++ t) t
       go true e = (h.0, omega (arith, ltb-true (length (s.tables.offsets ++ map (offset_in s) ns)) 256 e, count_rows, lists.length_more ns n), ap (λ (l : List Offset). encode (with_offsets (with_repeat s q ns) l) ++ t) rows_more)
       go false e = (h.0, omega (arith, ltb-false (length (s.tables.offsets ++ map (offset_in s) ns)) 256 e, count_rows, lists.length_more ns n), behind (with_offsets (with_repeat s q ns) (s.tables.offsets ++ map (offset_in s) ns)) t)
@@ -143,12 +144,12 @@ some_latest n k = go (eqb n 0)
     go false e = (refl, cc)
 
 -- the repeat pushed
-pub room_begin : (s : Session Span) (ok : Within s) (q : Repeat) (p : Pushed) (a t : List ℕ) → p ≡ pushed 64 s.tables.repeats
+pub room_begin : (s : Session Span) (ok : Within s) (q : Repeat) (p : Result (Unit {0}) Full) (a t : List ℕ) → p ≡ pushed 64 s.tables.repeats
     → a ≡ encode (with_repeats s (add 64 s.tables.repeats q)) ++ t → RoomHolds s q [] (repeat_room p) a t
 room_begin s ok q p a t e b = rw e (go (ltb (length s.tables.repeats) 64) refl b)
   where
     go : (c : Bool) → ltb (length s.tables.repeats) 64 ≡ c → a ≡ encode (with_repeats s (cond c (s.tables.repeats ++ (q ∷ [])) s.tables.repeats)) ++ t
-        → RoomHolds s q [] (repeat_room (cond c Stored Full)) a t
+        → RoomHolds s q [] (repeat_room (cond c (Ok tt) (Err full))) a t
     go true f u =
         (ltb-true (length s.tables.repeats) 64 f, omega (arith, ok.offsets), u ∙ ap (λ (l : List Offset). encode (with_offsets (with_repeats s (s.tables.repeats ++ (q ∷ []))) l) ++ t) (sym (append-nil s.tables.offsets)))
     go false f u = (ltb-false (length s.tables.repeats) 64 f, ap (drop size) u ∙ behind (with_repeats s s.tables.repeats) t)

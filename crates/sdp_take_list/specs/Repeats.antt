@@ -1,5 +1,5 @@
 -- An r line while its offsets are read: whether all of its records fitted so far.
-use Rattle.std.specs.Prelude.{ℕ, ◌+◌, ◌≤◌, ◌<◌, ◌≡◌, cond, List, [], ◌++◌, eqb, length, drop}
+use Rattle.std.specs.Prelude.{ℕ, ◌+◌, ◌≤◌, ◌<◌, ◌≡◌, cond, List, [], ◌++◌, eqb, length, drop, Result, Ok, Err}
 use Rattle.sdp_numbers.specs.Tables.{most_repeats, most_offsets}
 use Rattle.sdp_lines.specs.declared.Span.{Span}
 use Rattle.sdp_split.specs.Split.{words_at}
@@ -7,8 +7,7 @@ use Rattle.sdp_judge.specs.Read.{Read, got, refused}
 use Rattle.sdp_lists.specs.Lists.{offsets_of}
 use Rattle.sdp_area.specs.Session.{Repeat, Session}
 use Rattle.sdp_area.specs.Area.{encode, size}
-use Rattle.sdp_cells.specs.declared.Pushed.{Pushed}
-use Rattle.sdp_cells.specs.declared.Pushed.TheVariants.{Stored, Full}
+use Rattle.sdp_cells.specs.declared.Full.{Full}
 use Rattle.sdp_step.specs.Step.{Reading, Stepped, stops, with_repeat, repeat_taken}
 use Rattle.sdp_step.specs.Hold.{Holds, Handled}
 use Rattle.sdp_step.specs.declared.Marks.{Marks}
@@ -23,17 +22,17 @@ abbrev pub latest_of : ℕ → Latest
 latest_of n = cond (eqb n 0) latest.Nothing (latest.Time n)
 
 -- the room after the repeat was pushed
-abbrev pub repeat_room : Pushed → Room
-repeat_room Stored = Open
-repeat_room Full = NoRepeats
+abbrev pub repeat_room : Result (Unit {0}) Full → Room
+repeat_room (Ok _) = Open
+repeat_room (Err _) = NoRepeats
 
 -- the same of an offset
-abbrev pub offset_room : Pushed → Room
-offset_room Stored = Open
-offset_room Full = NoOffsets
+abbrev pub offset_room : Result (Unit {0}) Full → Room
+offset_room (Ok _) = Open
+offset_room (Err _) = NoOffsets
 
 -- an offset is pushed only where all fitted so far
-abbrev pub room_after : Room → Pushed → Room
+abbrev pub room_after : Room → Result (Unit {0}) Full → Room
 room_after Open p = offset_room p
 room_after NoRepeats p = NoRepeats
 room_after NoOffsets p = NoOffsets

@@ -11,7 +11,7 @@ ghost use Rattle.sdp_step.specs.Hold.{Reads};
 ghost use Rattle.sdp_take_list.specs.Repeats.{latest_of, repeat_room, offset_room, room_after, area_after, Offsets};
 
 use sdp_area::{push_offset, push_repeat, push_zone, repeats, times};
-use sdp_cells::Pushed;
+use sdp_cells::Full;
 use sdp_judge::Wrong;
 use sdp_lists::{RepeatHead, RepeatOffset, RepeatRead, Zone, ZoneRead, repeat_offset};
 use sdp_roles::Role;
@@ -43,21 +43,21 @@ enum Room {
     NoOffsets,
 }
 
-fn repeat_room(p: Pushed) -> Room
+fn repeat_room(p: Result<(), Full>) -> Room
     ensures { result ≡ repeat_room p }
 {
     match p {
-        Pushed::Stored => Room::Open,
-        Pushed::Full => Room::NoRepeats,
+        Ok(()) => Room::Open,
+        Err(Full) => Room::NoRepeats,
     }
 }
 
-fn offset_room(p: Pushed) -> Room
+fn offset_room(p: Result<(), Full>) -> Room
     ensures { result ≡ offset_room p }
 {
     match p {
-        Pushed::Stored => Room::Open,
-        Pushed::Full => Room::NoOffsets,
+        Ok(()) => Room::Open,
+        Err(Full) => Room::NoOffsets,
     }
 }
 
@@ -163,7 +163,7 @@ pub fn take_zone(area: &mut [u8], v: &[u8], at: usize, marks: Marks) -> Taken
             }
             ZoneRead::Got { zone, next } => {
                 // a pair past the table's end is judged and not stored
-                push_zone(area, zone.adjustment_time, zone.offset);
+                let _ = push_zone(area, zone.adjustment_time, zone.offset);
                 n += 1;
                 i = next;
             }

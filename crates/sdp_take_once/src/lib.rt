@@ -41,15 +41,15 @@ fn take_origin(area: &mut [u8], v: &[u8], at: usize, marks: Marks) -> Taken
             let addrtype = span_of(at, addrtype);
             let address = o.unicast_address;
             let address = span_of(at, address);
-            set_origin(
-                area,
+            let origin = sdp_builders::Origin {
                 username,
                 sess_id,
-                o.sess_version,
+                sess_version: o.sess_version,
                 nettype,
                 addrtype,
-                address,
-            );
+                unicast_address: address,
+            };
+            set_origin(area, origin);
             Taken::Kept(marks)
         }
     }
@@ -145,7 +145,12 @@ fn take_connection(area: &mut [u8], v: &[u8], at: usize, marks: Marks) -> Taken
             let addrtype = span_of(at, addrtype);
             let address = c.connection_address;
             let address = span_of(at, address);
-            set_connection(area, nettype, addrtype, address);
+            let connection = sdp_area::Connection {
+                nettype,
+                addrtype,
+                connection_address: address,
+            };
+            set_connection(area, connection);
             Taken::Kept(marks)
         }
     }

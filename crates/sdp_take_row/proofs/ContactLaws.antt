@@ -8,7 +8,8 @@ use Rattle.sdp_split.specs.declared.Piece.{Piece}
 use Rattle.sdp_judge.specs.Read.{got, refused, whole_of}
 use Rattle.sdp_judge.specs.declared.Wrong.{Wrong}
 use Rattle.sdp_cells.specs.Tables.{told, grown}
-use Rattle.sdp_cells.specs.declared.Pushed.{Pushed}
+use Rattle.sdp_cells.specs.declared.Full.{Full}
+use Rattle.std.specs.Prelude.{Result}
 use Rattle.sdp_area.specs.With.{with_emails, with_phones}
 use Rattle.sdp_area.specs.Area.{span}
 use Rattle.sdp_area.specs.Which.{contacts_at, most_contacts}
@@ -33,7 +34,7 @@ module _ (ρ : Reading Span) (m : Marks) (a t : List ℕ) (h : Holds ρ m a t) (
   contact_wrong Phone is w f = rw (← is) (row_wrong 2 16 _ _ _ a t w f (tail_of h))
 
   -- p is what the push answered, and a' the area then
-  pub contact_pushed : (x : Contact) → n ≡ contact_field x → (q : Piece) (p : Pushed) (a' : List ℕ) → whole_of n v ≡ got q
+  pub contact_pushed : (x : Contact) → n ≡ contact_field x → (q : Piece) (p : Result (Unit {0}) Full) (a' : List ℕ) → whole_of n v ≡ got q
       → p ≡ told a (contacts_at x) (most_contacts x) → a' ≡ grown a (contacts_at x) (most_contacts x) (span (mk q)) → Handled (step_role mk ρ v (contact_role x)) (stored_of p (contact_table x) m) a' t
   unfolding step_role
   contact_pushed Email is q p a' f e b =

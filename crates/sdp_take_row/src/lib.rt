@@ -1,15 +1,15 @@
 // Document 01, module 4: a line that is one row more of a table.
 #![tactic(auto)]
 
-ghost use Rattle.std.specs.Prelude.{◌≡◌, ◌+◌, ◌≤◌, length};
+ghost use Rattle.std.specs.Prelude.{◌≡◌, ◌+◌, ◌≤◌, length, cond, Some, None};
 ghost use Rattle.sdp_numbers.specs.Refusals.{longest_text};
 ghost use Rattle.sdp_area.specs.Area.{size};
 ghost use Rattle.sdp_step.specs.Hold.{Reads};
 ghost use Rattle.sdp_take_row.specs.Rows.{contact_role, contact_field, contact_table, row_role};
 
 use sdp_area::{
-    Contact, MaybePorts, medias, push_attribute, push_bandwidth, push_connection, push_contact,
-    push_media, push_time,
+    Contact, medias, push_attribute, push_bandwidth, push_connection, push_contact, push_media,
+    push_time,
 };
 use sdp_fields::{
     Attribute, AttributeRead, Bandwidth, BandwidthRead, Connection, ConnectionRead, Time, TimeRead,
@@ -70,7 +70,12 @@ fn take_media_connection(area: &mut [u8], v: &[u8], at: usize, marks: Marks) -> 
             let address = c.connection_address;
             let address = span_of(at, address);
             let owner = medias(area);
-            let p = push_connection(area, owner, nettype, addrtype, address);
+            let connection = sdp_area::Connection {
+                nettype,
+                addrtype,
+                connection_address: address,
+            };
+            let p = push_connection(area, owner, connection);
             stored(p, 3, marks)
         }
     }
@@ -142,19 +147,27 @@ fn take_media(area: &mut [u8], v: &[u8], at: usize, marks: Marks) -> Taken
             let proto = span_of(at, proto);
             let fmt = m.fmt;
             let fmt = span_of(at, fmt);
-            let p = push_media(area, media, m.port as usize, ports, proto, fmt);
+            let row = sdp_builders::Media {
+                media,
+                port: m.port as usize,
+                num_ports: ports,
+                proto,
+                fmt,
+            };
+            let p = push_media(area, row);
             stored(p, 10, marks)
         }
     }
 }
 
 // The number of ports of an m line, as the area keeps it.
-fn ports_of(n: MaybeNumber) -> MaybePorts
-    ensures { result ≡ record { there = n.there; value = n.value } }
+fn ports_of(n: MaybeNumber) -> Option<usize>
+    ensures { result ≡ cond n.there (Some n.value) None }
 {
-    MaybePorts {
-        there: n.there,
-        value: n.value as usize,
+    if n.there {
+        Some(n.value as usize)
+    } else {
+        None
     }
 }
 

@@ -5,7 +5,7 @@ use native.Mathlib.Omega.{arith}
 use mathlib.Core.Path.{◌≡◌, refl, sym}
 use mathlib.Core.Bool.{false, false≢true}
 use mathlib.Core.List.{List, [], ◌∷◌, ◌++◌}
-use mathlib.Core.Option.{none}
+use Rattle.std.specs.Prelude.{None}
 use lib.Dec.{ltb, leb, eqb}
 use lib.ListN.{length, get_or, set, length-append}
 use Rattle.sdp_lines.specs.declared.Span.{Span}
@@ -50,7 +50,7 @@ up_two (suc k) i j (x ∷ is) h h' = (omega arith, up_two k i j is h h')
 -- the medias stay, one more comes, without title and key, or the latest, which had no title, gets one
 pub data Grew (ms ms' : List (Media Span)) : Type 0 where
   stay : ms' ≡ ms → Grew ms ms'
-  added : (m : Media Span) → ms' ≡ ms ++ (m ∷ []) → m.media_title ≡ none → m.key ≡ none → Grew ms ms'
+  added : (m : Media Span) → ms' ≡ ms ++ (m ∷ []) → m.media_title ≡ None → m.key ≡ None → Grew ms ms'
   entitled : (x : Span) → ms' ≡ set_last (titled x) ms → last_titled ms ≡ false → Grew ms ms'
 
 -- before the z line there are no zones

@@ -7,7 +7,7 @@ use mathlib.Core.Path.{◌≡◌, refl, ap, ◌∙◌}
 use mathlib.Core.Logic.{◌⊎◌, inl, inr}
 use mathlib.Core.Bool.{Bool, true, false, ◌||◌}
 use mathlib.Core.List.{List, [], ◌∷◌, ◌++◌, map}
-use mathlib.Core.Option.{Option, none}
+use Rattle.std.specs.Prelude.{Option, None}
 use borrow.Author.Tests.{le-leb, lt-leb}
 use lib.ListN.{length, get_or, length-map, get_or-eq_default}
 use Rattle.sdp_lines.specs.declared.Span.{Span}
@@ -33,7 +33,7 @@ abbrev pub marks : {X : Type 0} → (Media Span → Option X) → List (Media Sp
 marks f ms j = get_or (map (λ m. given (f m)) ms) j false
 
 -- a media that has not the field changes nothing
-marks_more : {X : Type 0} (f : Media Span → Option X) (ms : List (Media Span)) (m : Media Span) (j : ℕ) → f m ≡ none → marks f (ms ++ (m ∷ [])) j ≡ marks f ms j
+marks_more : {X : Type 0} (f : Media Span → Option X) (ms : List (Media Span)) (m : Media Span) (j : ℕ) → f m ≡ None → marks f (ms ++ (m ∷ [])) j ≡ marks f ms j
 marks_more f [] m zero e = ap given e
 marks_more f [] m (suc j) e = refl
 marks_more f (x ∷ ms) m zero e = refl

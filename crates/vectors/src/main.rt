@@ -9,7 +9,6 @@ ghost use Rattle.std.specs.Prelude.{◌≤◌, length};
 ghost use Rattle.std.specs.Io.{ReadsAtMost};
 
 use sdp_answers::{Numeral, Piece};
-use sdp_area::{MaybePorts, MaybeSpan};
 use sdp_builders::{Media, Origin};
 use sdp_fields::OriginRead;
 use sdp_judge::Amount;
@@ -185,14 +184,31 @@ fn string_out(rt: &impl Print, s: &[u8], x: Span) -> io::Result<()> {
     part_out(rt, s, x.at.0, x.len)
 }
 
+// Whether there is a string, and the string, which is empty where there is none.
+fn optional_out(rt: &impl Print, s: &[u8], x: Option<Span>) -> io::Result<()> {
+    flag_out(rt, x.is_some())?;
+    let x = x.unwrap_or(Span {
+        at: Place(0),
+        len: 0,
+    });
+    string_out(rt, s, x)
+}
+
 fn origin_out(rt: &impl Print, s: &[u8], o: Origin) -> io::Result<()> {
-    flag_out(rt, o.username.there)?;
-    string_out(rt, s, o.username.span)?;
+    optional_out(rt, s, o.username)?;
     string_out(rt, s, o.sess_id)?;
     number_out(rt, o.sess_version)?;
     string_out(rt, s, o.nettype)?;
     string_out(rt, s, o.addrtype)?;
     string_out(rt, s, o.unicast_address)
+}
+
+fn username_of(m: sdp_judge::MaybePiece) -> Option<Span> {
+    if m.there {
+        Some(span_of(m.piece))
+    } else {
+        None
+    }
 }
 
 // The address of an o line becomes its username.
@@ -205,10 +221,7 @@ fn username_out(rt: &impl Print, s: &[u8]) -> io::Result<()> {
             len: address.len,
         };
         let before = Origin {
-            username: MaybeSpan {
-                there: o.username.there,
-                span: span_of(o.username.piece),
-            },
+            username: username_of(o.username),
             sess_id: span_of(o.sess_id),
             sess_version: o.sess_version,
             nettype: span_of(o.nettype),
@@ -223,8 +236,8 @@ fn username_out(rt: &impl Print, s: &[u8]) -> io::Result<()> {
 fn media_out(rt: &impl Print, s: &[u8], m: Media) -> io::Result<()> {
     string_out(rt, s, m.media)?;
     number_out(rt, m.port as u64)?;
-    flag_out(rt, m.num_ports.there)?;
-    number_out(rt, m.num_ports.value as u64)?;
+    flag_out(rt, m.num_ports.is_some())?;
+    number_out(rt, m.num_ports.unwrap_or(0) as u64)?;
     string_out(rt, s, m.proto)?;
     string_out(rt, s, m.fmt)
 }
@@ -239,6 +252,14 @@ fn ports_at(s: &[u8], at: usize) -> u16 {
     0
 }
 
+fn ports_of(m: sdp_media_line::MaybeNumber) -> Option<usize> {
+    if m.there {
+        Some(m.value as usize)
+    } else {
+        None
+    }
+}
+
 // The first format of an m line becomes its number of ports.
 fn num_ports_out(rt: &impl Print, s: &[u8]) -> io::Result<()> {
     letter_out(rt, b'm')?;
@@ -247,10 +268,7 @@ fn num_ports_out(rt: &impl Print, s: &[u8]) -> io::Result<()> {
         let before = Media {
             media: span_of(m.media),
             port: m.port as usize,
-            num_ports: MaybePorts {
-                there: m.num_ports.there,
-                value: m.num_ports.value as usize,
-            },
+            num_ports: ports_of(m.num_ports),
             proto: span_of(m.proto),
             fmt: span_of(m.fmt),
         };

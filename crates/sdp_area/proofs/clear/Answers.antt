@@ -1,30 +1,17 @@
--- `sdp_area::clear` meets its contract. The invariant: the first i bytes are zero and the others as they were.
+-- `sdp_area::clear` meets its contract.
 -- Assumes nothing.
-use mathlib.Core.Path.{◌≡◌, refl, ap, ◌∙◌}
+use mathlib.Core.Path.{◌≡◌, ap, ◌∙◌}
 use mathlib.Core.List.{List, ◌++◌}
-use native.Mathlib.Omega.{arith}
-use Prim.Native.Nat.{ℕ, ◌-◌}
-use lib.ListN.{drop, set, length-set}
-use borrow.Author.Fill.{fill_more}
+use Prim.Native.Nat.{ℕ, ◌≤◌}
+use lib.ListN.{length, take, drop, replicate}
+use lib.Seq.{length-take-le}
 use Rattle.sdp_cells.specs.Bytes.{zeros}
-use Rattle.sdp_area.specs.Columns.{area_size}
 use Rattle.sdp_area.proofs.clear.Goals as goal
 
-pub loop-i-init : goal.loop-i-init
+-- the first n bytes, filled with zeros
+cleared : (a b : List ℕ) (n : ℕ) → n ≤ length a → b ≡ replicate (length (take n a)) 0 → b ++ drop n a ≡ zeros n ++ drop n a
 unfolding zeros
-loop-i-init c = (omega arith, refl, refl)
-
-pub loop-i-preserved : goal.loop-i-preserved
-unfolding zeros
-loop-i-preserved c =
-    let a₀ = c.args.area.now in
-    let i = c.loop-i.i in (
-      omega arith,
-      ap (λ (l : List ℕ). set l i 0) c.loop-i.invariant.1 ∙ fill_more i 0 a₀ (omega arith),
-      simp length-set (omega arith),
-    )
+cleared a b n h e = ap (λ (l : List ℕ). l ++ drop n a) (e ∙ ap (λ (k : ℕ). replicate k 0) (length-take-le n a h))
 
 pub returns : goal.returns
-returns c =
-    let done : c.loop-i.i ≡ area_size = omega arith in
-    c.loop-i.invariant.1 ∙ ap (λ (k : ℕ). zeros k ++ drop k c.args.area.now) done
+returns c = cleared _ _ _ c.requires (c.fill.ensures.after (λ y e. e))

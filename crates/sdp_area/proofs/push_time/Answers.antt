@@ -3,13 +3,12 @@
 use mathlib.Core.Path.{ap, ◌∙◌}
 use Rattle.sdp_cells.specs.Tables.{grown}
 use Rattle.sdp_area.specs.Area.{time_row}
-use Rattle.sdp_area.proofs.WordLaws.{◌and◌, eight_is}
+use Rattle.sdp_area.proofs.WordLaws.{◌and◌, eight_in}
 use Rattle.sdp_area.proofs.push_time.Goals as goal
 
-pub returns : goal.returns
+pub returns-clause-area_after : goal.returns-clause-area_after
 unfolding time_row
-returns c =
+returns-clause-area_after c =
     let b = c.args in
-    let k = c.push_words.ensures in
-    let row = eight_is b.start and eight_is b.stop in
-    record { value = k.value; area_after = k.area_after ∙ ap (grown _ _ _) row.is }
+    let row = eight_in _ b.start c.words.ensures and eight_in _ b.stop c.words-2.ensures in
+    c.push_words.ensures.area_after ∙ ap (grown _ _ _) row.is

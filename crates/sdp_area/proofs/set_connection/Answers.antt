@@ -10,6 +10,5 @@ pub returns : goal.returns
 unfolding connection_bytes
 returns c =
     let b = c.args in
-    let k = c.put_words.ensures in
-    let row = word_is 1 and span_is b.nettype and span_is b.addrtype and span_is b.address in
-    k ∙ ap (over _ _) row.is
+    let row = word_is 1 and span_is b.c.nettype and span_is b.c.addrtype and span_is b.c.connection_address in
+    c.put_words.ensures ∙ ap (over _ _) row.is
