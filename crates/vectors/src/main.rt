@@ -9,7 +9,12 @@ ghost use Rattle.std.specs.Prelude.{◌≤◌, length};
 ghost use Rattle.std.specs.Io.{ReadsAtMost};
 
 use sdp_answers::{Numeral, Piece};
+use sdp_area::{
+    AREA_SIZE, ATTRIBUTES, BANDWIDTHS, CONNECTIONS, EMAILS, MEDIAS, OFFSETS, PHONES, REPEATS,
+    TIMES, ZONES,
+};
 use sdp_builders::{Media, Origin};
+use sdp_decode::num2;
 use sdp_fields::OriginRead;
 use sdp_judge::Amount;
 use sdp_lines::{Answer, Cursor, Cut, Place, Span};
@@ -38,11 +43,7 @@ fn numeral_out(rt: &impl Print, n: Numeral) -> io::Result<()> {
 }
 
 fn flag_out(rt: &impl Print, b: bool) -> io::Result<()> {
-    if b {
-        number_out(rt, 1)
-    } else {
-        number_out(rt, 0)
-    }
+    number_out(rt, u64::from(b))
 }
 
 fn piece_out(rt: &impl Print, p: Piece) -> io::Result<()> {
@@ -60,8 +61,7 @@ fn piece_out(rt: &impl Print, p: Piece) -> io::Result<()> {
 fn cuts_out(rt: &impl Print, s: &[u8]) -> io::Result<()> {
     let mut place: usize = 0;
     let mut line: usize = 1;
-    let mut turns = s.len();
-    while turns > 0 {
+    for _ in 0..s.len() {
         let p = sdp::sdp_cut(s, place, line);
         if p.kind == 0 {
             break;
@@ -72,38 +72,27 @@ fn cuts_out(rt: &impl Print, s: &[u8]) -> io::Result<()> {
         place = p.next_place as usize;
         line = p.next_line as usize;
         piece_out(rt, p)?;
-        turns -= 1;
     }
     piece_out(rt, sdp::sdp_cut(s, place, line))
 }
 
-fn wide(b: u8) -> u64
-    ensures { result ≤ 255 }
-{
-    b as u64
-}
-
-// The count of the table at a place of the area.
-fn count_out(rt: &impl Print, area: &[u8], at: usize) -> io::Result<()> {
-    if at < area.len() {
-        if at + 1 < area.len() {
-            number_out(rt, wide(area[at]) + 256 * wide(area[at + 1]))?;
-        }
+// The counts of all tables of the area.
+fn counts_out(rt: &impl Print, area: &[u8; AREA_SIZE]) -> io::Result<()> {
+    for at in [
+        EMAILS,
+        PHONES,
+        CONNECTIONS,
+        BANDWIDTHS,
+        TIMES,
+        REPEATS,
+        OFFSETS,
+        ZONES,
+        ATTRIBUTES,
+        MEDIAS,
+    ] {
+        number_out(rt, num2(area, at) as u64)?;
     }
     Ok(())
-}
-
-fn counts_out(rt: &impl Print, area: &[u8]) -> io::Result<()> {
-    count_out(rt, area, 74)?;
-    count_out(rt, area, 140)?;
-    count_out(rt, area, 206)?;
-    count_out(rt, area, 1104)?;
-    count_out(rt, area, 2002)?;
-    count_out(rt, area, 2516)?;
-    count_out(rt, area, 3670)?;
-    count_out(rt, area, 6232)?;
-    count_out(rt, area, 7258)?;
-    count_out(rt, area, 13404)
 }
 
 fn answer_out(rt: &impl Print, a: Answer) -> io::Result<()> {
@@ -115,7 +104,7 @@ fn answer_out(rt: &impl Print, a: Answer) -> io::Result<()> {
 }
 
 fn read_out(rt: &impl Print, s: &[u8]) -> io::Result<()> {
-    let mut area = [0u8; 16938];
+    let mut area = [0u8; AREA_SIZE];
     let told = sdp::sdp_read(s, &mut area);
     letter_out(rt, b'r')?;
     answer_out(rt, told.answer)?;
@@ -127,14 +116,10 @@ fn read_out(rt: &impl Print, s: &[u8]) -> io::Result<()> {
 }
 
 fn part_out(rt: &impl Print, s: &[u8], at: usize, len: usize) -> io::Result<()> {
-    if s.len() < at {
-        return Ok(());
+    if len <= s.len() && at <= s.len() - len {
+        rt.write_all(&s[at..at + len])?;
     }
-    if s.len() - at < len {
-        return Ok(());
-    }
-    let end = at + len;
-    rt.write_all(&s[at..end])
+    Ok(())
 }
 
 // The answers of the writer: its length, to an output without room and to one with room; and then what it wrote.
@@ -150,7 +135,7 @@ fn both_out(rt: &impl Print, s: &[u8], area: &[u8], out: &mut [u8]) -> io::Resul
 }
 
 fn written_out(rt: &impl Print, s: &[u8]) -> io::Result<()> {
-    let mut area = [0u8; 16938];
+    let mut area = [0u8; AREA_SIZE];
     let told = sdp::sdp_read(s, &mut area);
     letter_out(rt, b'w')?;
     number_out(rt, told.counts.empty)?;
@@ -322,35 +307,26 @@ fn hex_digit(b: u8) -> u8
 fn unhex(s: &[u8], out: &mut [u8]) -> usize
     ensures { result ≤ length out.new }
 {
-    let mut n: usize = 0;
-    while n < out.len() {
-        if s.len() / 2 <= n {
-            break;
-        }
-        out[n] = hex_digit(s[n * 2]) * 16 + hex_digit(s[n * 2 + 1]);
-        n += 1;
+    let n = out.len().min(s.len() / 2);
+    for i in 0..n {
+        out[i] = hex_digit(s[i * 2]) * 16 + hex_digit(s[i * 2 + 1]);
     }
     n
 }
 
 fn vector(rt: &impl Print, kind: u8, text: &[u8], at: usize, len: usize) -> io::Result<()> {
-    if text.len() < at {
+    if text.len() < at || text.len() - at < len {
         return Ok(());
     }
-    if text.len() - at < len {
-        return Ok(());
-    }
-    let end = at + len;
     let mut bytes = [0u8; 2048];
-    let n = unhex(&text[at..end], &mut bytes);
+    let n = unhex(&text[at..at + len], &mut bytes);
     answer(rt, kind, &bytes[..n])
 }
 
 // The list's own lines are cut by the cutter that it tests.
 fn vectors(rt: &impl Print, text: &[u8]) -> io::Result<()> {
     let mut c = Cursor::new();
-    let mut turns = text.len();
-    while turns > 0 {
+    for _ in 0..text.len() {
         match c.cut(text) {
             Cut::End => {
                 return Ok(());
@@ -370,7 +346,6 @@ fn vectors(rt: &impl Print, text: &[u8]) -> io::Result<()> {
                 c = next;
             }
         }
-        turns -= 1;
     }
     Ok(())
 }
@@ -380,6 +355,7 @@ fn read_full(stdin: &mut Stdin, buf: &mut [u8]) -> io::Result<usize>
     ensures { ReadsAtMost result buf.new }
 {
     let mut n: usize = 0;
+    // by hand: how many reads it takes shows only when they are made
     while n < buf.len() {
         let k = stdin.read(&mut buf[n..])?;
         if k == 0 {
