@@ -10,19 +10,18 @@ use lib.ListN.{length, drop, length-append}
 use borrow.Author.Tests.{lt-ltb, le-ltb, le-leb, lt-leb, ltb-true, ltb-false}
 use Rattle.sdp_lines.specs.declared.Span.{Span}
 use Rattle.sdp_split.specs.Split.{words_at}
-use Rattle.sdp_judge.specs.Read.{Read, got, refused, plain, and_then}
+use Rattle.sdp_judge.specs.Read.{Read, plain, and_then}
 use Rattle.sdp_lists.specs.Lists.{offsets_of, repeat_of}
 use Rattle.sdp_lists.specs.Answers.{repeat_head, offset_at}
 use Rattle.sdp_split.specs.declared.Piece.{Piece}
 use Rattle.sdp_lists.specs.declared.RepeatHead.{RepeatHead}
 use Rattle.sdp_judge.specs.declared.Wrong.{Wrong}
-use Rattle.sdp_lists.specs.declared.RepeatOffset.TheVariants as offsets
 use Rattle.sdp_lists.proofs.RestLaws.{offset_done, offset_next, offset-refused, repeat_head_lem}
 use Rattle.sdp_area.specs.Session.{Repeat, Offset, Session, Within}
 use Rattle.sdp_area.specs.With.{with_repeats, with_offsets}
 use Rattle.sdp_cells.specs.Tables.{add, pushed, told, grown}
 use Rattle.sdp_area.specs.Area.{encode, size, offset_row, offsets_at}
-use Rattle.std.specs.Prelude.{Result, Ok, Err}
+use Rattle.std.specs.Prelude.{Result, Ok, Err, Some, None}
 use Rattle.sdp_cells.specs.declared.Full.{Full}
 use Rattle.sdp_cells.specs.Tables.{full}
 use Rattle.sdp_area.proofs.GrownLaws.{offsets-grown}
@@ -41,7 +40,7 @@ use Rattle.sdp_step.proofs.WithinLaws.{within-repeats, within-offsets}
 -- before the offset that is due at place i: s is the session before the line, q its repeat
 pub record Repeating (v : List ℕ) (from : ℕ) (s : Session Span) (q : Repeat) (t : List ℕ) (room : Room) (a : List ℕ) (i : ℕ) : Type 0 where
   pub done : List ℕ
-  pub left : offsets_of v (words_at v from) ≡ and_then (offsets_of v (words_at v i)) (λ ns. got (done ++ ns))
+  pub left : offsets_of v (words_at v from) ≡ and_then (offsets_of v (words_at v i)) (λ ns. Ok (done ++ ns))
   pub holds : RoomHolds s q done room a t
 
 pub repeating-begin : (v : List ℕ) (from : ℕ) (s : Session Span) (q : Repeat) (t : List ℕ) (room : Room) (a : List ℕ) → RoomHolds s q [] room a t
@@ -87,7 +86,7 @@ module _ (s : Session Span) (ok : Within s) (q : Repeat) (ns : List ℕ) (n : �
   room_next NoOffsets h = (h.0, omega (arith, h.1, lists.length_more ns n), h.2)
 
 module _ (v : List ℕ) (from : ℕ) (s : Session Span) (ok : Within s) (q : Repeat) (t : List ℕ) (room : Room) (a : List ℕ) (i : ℕ) (z : Repeating v from s q t room a i) where
-  pub repeating_next : (n e : ℕ) (room' : Room) (a' : List ℕ) → offset_at v i ≡ offsets.Got n e → room' ≡ room_after room (told a offsets_at 256)
+  pub repeating_next : (n e : ℕ) (room' : Room) (a' : List ℕ) → offset_at v i ≡ Ok (Some (n, e)) → room' ≡ room_after room (told a offsets_at 256)
       → a' ≡ area_after room a (grown a offsets_at 256 (offset_row (offset_in s n))) → Repeating v from s q t room' a' e
   repeating_next n e room' a' p r b =
       record {
@@ -96,10 +95,10 @@ module _ (v : List ℕ) (from : ℕ) (s : Session Span) (ok : Within s) (q : Rep
         holds = rw (r, b) (room_next s ok q z.done n a t room z.holds);
       }
 
-  pub repeating_wrong : (w : Wrong) → offset_at v i ≡ offsets.Refused w → offsets_of v (words_at v from) ≡ refused w
+  pub repeating_wrong : (w : Wrong) → offset_at v i ≡ Err w → offsets_of v (words_at v from) ≡ Err w
   repeating_wrong w p = z.left ∙ rw (offset-refused v i w p)
 
-  pub repeating_all : offset_at v i ≡ offsets.Done → offsets_of v (words_at v from) ≡ got z.done
+  pub repeating_all : offset_at v i ≡ Ok None → offsets_of v (words_at v from) ≡ Ok z.done
   repeating_all p = z.left ∙ rw (offset_done v i p) (lists.all_read z.done)
 
 -- the bytes behind the session stay
@@ -110,11 +109,11 @@ room_tail s q ns NoOffsets a t h = h.2
 
 -- ---- the answers after the last offset
 module _ (ρ : Reading Span) (m : Marks) (a₀ t a : List ℕ) (h : Holds ρ m a₀ t) (q : Repeat) (r : Read (List ℕ)) where
-  pub offsets_wrong : (w : Wrong) (room : Room) (ns : List ℕ) → r ≡ refused w → RoomHolds ρ.session q ns room a t
+  pub offsets_wrong : (w : Wrong) (room : Room) (ns : List ℕ) → r ≡ Err w → RoomHolds ρ.session q ns room a t
       → Handled (offsets_step ρ q r) (Refused w) a t
   offsets_wrong w room ns e k = rw e (refl, room_tail ρ.session q ns room a t k)
 
-  module _ (ns : List ℕ) (e : r ≡ got ns) where
+  module _ (ns : List ℕ) (e : r ≡ Ok ns) where
     pub offsets-kept : RoomHolds ρ.session q ns Open a t → Handled (offsets_step ρ q r) (Kept m) a t
     offsets-kept k =
         rw (e, lt-ltb (length ρ.session.tables.repeats) 64 k.0, le-leb (length ρ.session.tables.offsets + length ns) 256 k.1)
@@ -156,16 +155,16 @@ room_begin s ok q p a t e b = rw e (go (ltb (length s.tables.repeats) 64) refl b
 
 -- the step by the line's head
 module _ (mk : Piece → Span) (ρ : Reading Span) (v : List ℕ) where
-  pub head_wrong : (w : Wrong) → repeat_head v ≡ refused w → repeated mk ρ v (repeat_of v) ≡ stops w
+  pub head_wrong : (w : Wrong) → repeat_head v ≡ Err w → repeated mk ρ v (repeat_of v) ≡ stops w
   head_wrong w e = rw (repeat_head_lem v, e)
 
-  pub head_got : (x : RepeatHead) → repeat_head v ≡ got x
+  pub head_got : (x : RepeatHead) → repeat_head v ≡ Ok x
       → repeated mk ρ v (repeat_of v)
       ≡ offsets_step ρ (record { owner = length ρ.session.tables.times; repeat_interval = x.repeat_interval; active_duration = x.active_duration }) (offsets_of v (words_at v x.next))
   head_got x e = rw (repeat_head_lem v, e) (go (offsets_of v (words_at v x.next)))
     where
       go : (r : Read (List ℕ))
-          → repeated mk ρ v (and_then r (λ os. got (record { interval = x.repeat_interval; duration = x.active_duration; offsets = os })))
+          → repeated mk ρ v (and_then r (λ os. Ok (record { interval = x.repeat_interval; duration = x.active_duration; offsets = os })))
           ≡ offsets_step ρ (record { owner = length ρ.session.tables.times; repeat_interval = x.repeat_interval; active_duration = x.active_duration }) r
-      go (got os) = refl
-      go (refused w) = refl
+      go (Ok os) = refl
+      go (Err w) = refl

@@ -3,7 +3,7 @@ use Rattle.std.specs.Prelude.{ℕ, ◌+◌, ◌≤◌, ◌<◌, ◌≡◌, cond,
 use Rattle.sdp_numbers.specs.Tables.{most_repeats, most_offsets}
 use Rattle.sdp_lines.specs.declared.Span.{Span}
 use Rattle.sdp_split.specs.Split.{words_at}
-use Rattle.sdp_judge.specs.Read.{Read, got, refused}
+use Rattle.sdp_judge.specs.Read.{Read}
 use Rattle.sdp_lists.specs.Lists.{offsets_of}
 use Rattle.sdp_area.specs.Session.{Repeat, Session}
 use Rattle.sdp_area.specs.Area.{encode, size}
@@ -53,8 +53,8 @@ RoomHolds s q ns NoOffsets a t =
 
 -- the step of an r line whose repeat is q
 abbrev pub offsets_step : Reading Span → Repeat → Read (List ℕ) → Stepped Span
-offsets_step ρ q (refused w) = stops w
-offsets_step ρ q (got ns) = repeat_taken ρ q ns
+offsets_step ρ q (Err w) = stops w
+offsets_step ρ q (Ok ns) = repeat_taken ρ q ns
 
 -- what taking the offsets promises. a₀ held the session before the line
 abbrev pub Offsets : List ℕ → ℕ → ℕ → Room → Marks → Taken → List ℕ → List ℕ → Type 0

@@ -13,7 +13,7 @@ ghost use Rattle.sdp_take_list.specs.Repeats.{latest_of, repeat_room, offset_roo
 use sdp_area::{push_offset, push_repeat, push_zone, repeats, times};
 use sdp_cells::Full;
 use sdp_judge::Wrong;
-use sdp_lists::{RepeatHead, RepeatOffset, RepeatRead, Zone, ZoneRead, repeat_offset};
+use sdp_lists::{RepeatHead, Zone, repeat_offset};
 use sdp_roles::Role;
 use sdp_step::{Marks, Taken};
 
@@ -90,13 +90,13 @@ fn take_offsets(
     let mut i = from;
     loop {
         match repeat_offset(v, i) {
-            RepeatOffset::Done => {
+            Ok(None) => {
                 break;
             }
-            RepeatOffset::Refused(w) => {
+            Err(w) => {
                 return Taken::Refused(w);
             }
-            RepeatOffset::Got { value, next } => {
+            Ok(Some((value, next))) => {
                 room = add_offset(area, room, owner, value);
                 i = next;
             }
@@ -130,8 +130,8 @@ pub fn take_repeat(area: &mut [u8], v: &[u8], at: usize, marks: Marks) -> Taken
         });
     };
     match RepeatHead::parse(v) {
-        RepeatRead::Refused(w) => Taken::Refused(w),
-        RepeatRead::Got(h) => {
+        Err(w) => Taken::Refused(w),
+        Ok(h) => {
             let owner = repeats(area) + 1;
             let p = push_repeat(area, time, h.repeat_interval, h.active_duration);
             take_offsets(area, v, h.next, owner, repeat_room(p), marks)
@@ -155,13 +155,9 @@ pub fn take_zone(area: &mut [u8], v: &[u8], at: usize, marks: Marks) -> Taken
     let mut n: usize = 0;
     let pairs = loop {
         match Zone::parse(v, i) {
-            ZoneRead::Done => {
-                break n;
-            }
-            ZoneRead::Refused(w) => {
-                return Taken::Refused(w);
-            }
-            ZoneRead::Got { zone, next } => {
+            Ok(None) => break n,
+            Err(w) => return Taken::Refused(w),
+            Ok(Some((zone, next))) => {
                 // a pair past the table's end is judged and not stored
                 let _ = push_zone(area, zone.adjustment_time, zone.offset);
                 n += 1;

@@ -10,8 +10,8 @@ ghost use Rattle.sdp_take_once.specs.Onces.{text_role, text_number, text_field, 
 use sdp_area::{
     Text, has_connection, has_origin, has_text, set_connection, set_name, set_origin, set_text,
 };
-use sdp_fields::{Connection, ConnectionRead, Origin, OriginRead};
-use sdp_judge::{WholeRead, Wrong, whole};
+use sdp_fields::{Connection, Origin};
+use sdp_judge::{Wrong, whole};
 use sdp_roles::Role;
 use sdp_step::{Marks, Taken};
 use sdp_strings::{maybe_of, span_of};
@@ -29,8 +29,8 @@ fn take_origin(area: &mut [u8], v: &[u8], at: usize, marks: Marks) -> Taken
         });
     }
     match Origin::parse(v) {
-        OriginRead::Refused(w) => Taken::Refused(w),
-        OriginRead::Got(o) => {
+        Err(w) => Taken::Refused(w),
+        Ok(o) => {
             let username = o.username;
             let username = maybe_of(at, username);
             let sess_id = o.sess_id;
@@ -68,8 +68,8 @@ fn take_name(area: &mut [u8], v: &[u8], at: usize, marks: Marks) -> Taken
         });
     }
     match whole(v, 34) {
-        WholeRead::Refused(w) => Taken::Refused(w),
-        WholeRead::Got(p) => {
+        Err(w) => Taken::Refused(w),
+        Ok(p) => {
             let x = span_of(at, p);
             set_name(area, x);
             Taken::Kept(Marks {
@@ -115,8 +115,8 @@ fn take_text(area: &mut [u8], v: &[u8], at: usize, marks: Marks, which: Text) ->
         });
     }
     match whole(v, text_field(which)) {
-        WholeRead::Refused(w) => Taken::Refused(w),
-        WholeRead::Got(p) => {
+        Err(w) => Taken::Refused(w),
+        Ok(p) => {
             let x = span_of(at, p);
             set_text(area, which, x);
             Taken::Kept(marks)
@@ -137,8 +137,8 @@ fn take_connection(area: &mut [u8], v: &[u8], at: usize, marks: Marks) -> Taken
         });
     }
     match Connection::parse(v) {
-        ConnectionRead::Refused(w) => Taken::Refused(w),
-        ConnectionRead::Got(c) => {
+        Err(w) => Taken::Refused(w),
+        Ok(c) => {
             let nettype = c.nettype;
             let nettype = span_of(at, nettype);
             let addrtype = c.addrtype;

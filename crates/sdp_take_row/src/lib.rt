@@ -11,11 +11,9 @@ use sdp_area::{
     Contact, medias, push_attribute, push_bandwidth, push_connection, push_contact, push_media,
     push_time,
 };
-use sdp_fields::{
-    Attribute, AttributeRead, Bandwidth, BandwidthRead, Connection, ConnectionRead, Time, TimeRead,
-};
-use sdp_judge::{WholeRead, whole};
-use sdp_media_line::{MaybeNumber, Media, MediaRead};
+use sdp_fields::{Attribute, Bandwidth, Connection, Time};
+use sdp_judge::whole;
+use sdp_media_line::Media;
 use sdp_roles::Role;
 use sdp_step::{Marks, Taken, stored};
 use sdp_strings::{maybe_of, span_of};
@@ -46,8 +44,8 @@ fn take_contact(area: &mut [u8], v: &[u8], at: usize, marks: Marks, which: Conta
     ensures { Reads (contact_role which) at v.now marks result area.old area.new }
 {
     match whole(v, contact_field(which)) {
-        WholeRead::Refused(w) => Taken::Refused(w),
-        WholeRead::Got(p) => {
+        Err(w) => Taken::Refused(w),
+        Ok(p) => {
             let x = span_of(at, p);
             let p = push_contact(area, which, x);
             stored(p, contact_table(which), marks)
@@ -61,8 +59,8 @@ fn take_media_connection(area: &mut [u8], v: &[u8], at: usize, marks: Marks) -> 
     ensures { Reads Role.MediaConnection at v.now marks result area.old area.new }
 {
     match Connection::parse(v) {
-        ConnectionRead::Refused(w) => Taken::Refused(w),
-        ConnectionRead::Got(c) => {
+        Err(w) => Taken::Refused(w),
+        Ok(c) => {
             let nettype = c.nettype;
             let nettype = span_of(at, nettype);
             let addrtype = c.addrtype;
@@ -87,8 +85,8 @@ fn take_bandwidth(area: &mut [u8], v: &[u8], at: usize, marks: Marks) -> Taken
     ensures { Reads Role.Bandwidth at v.now marks result area.old area.new }
 {
     match Bandwidth::parse(v) {
-        BandwidthRead::Refused(w) => Taken::Refused(w),
-        BandwidthRead::Got(b) => {
+        Err(w) => Taken::Refused(w),
+        Ok(b) => {
             let bwtype = b.bwtype;
             let bwtype = span_of(at, bwtype);
             let owner = medias(area);
@@ -104,8 +102,8 @@ fn take_time(area: &mut [u8], v: &[u8], at: usize, marks: Marks) -> Taken
     ensures { Reads Role.Time at v.now marks result area.old area.new }
 {
     match Time::parse(v) {
-        TimeRead::Refused(w) => Taken::Refused(w),
-        TimeRead::Got(t) => {
+        Err(w) => Taken::Refused(w),
+        Ok(t) => {
             let p = push_time(area, t.start_time, t.stop_time);
             stored(p, 5, marks)
         }
@@ -118,8 +116,8 @@ fn take_attribute(area: &mut [u8], v: &[u8], at: usize, marks: Marks) -> Taken
     ensures { Reads Role.Attribute at v.now marks result area.old area.new }
 {
     match Attribute::parse(v) {
-        AttributeRead::Refused(w) => Taken::Refused(w),
-        AttributeRead::Got(k) => {
+        Err(w) => Taken::Refused(w),
+        Ok(k) => {
             let name = k.attribute;
             let name = span_of(at, name);
             let value = k.value;
@@ -137,8 +135,8 @@ fn take_media(area: &mut [u8], v: &[u8], at: usize, marks: Marks) -> Taken
     ensures { Reads Role.Media at v.now marks result area.old area.new }
 {
     match Media::parse_m_line(v) {
-        MediaRead::Refused(w) => Taken::Refused(w),
-        MediaRead::Got(m) => {
+        Err(w) => Taken::Refused(w),
+        Ok(m) => {
             let media = m.media;
             let media = span_of(at, media);
             let ports = m.num_ports;
@@ -161,14 +159,10 @@ fn take_media(area: &mut [u8], v: &[u8], at: usize, marks: Marks) -> Taken
 }
 
 // The number of ports of an m line, as the area keeps it.
-fn ports_of(n: MaybeNumber) -> Option<usize>
-    ensures { result ≡ cond n.there (Some n.value) None }
+fn ports_of(n: Option<u64>) -> Option<usize>
+    ensures { result ≡ n }
 {
-    if n.there {
-        Some(n.value as usize)
-    } else {
-        None
-    }
+    Some(n? as usize)
 }
 
 // What is one row of a table.
