@@ -20,28 +20,26 @@ use Rattle.sdp_cells.specs.declared.Full.{Full}
 use Rattle.sdp_step.specs.Step.{Reading, Stepped, goes, stop, once, row}
 use Rattle.sdp_step.specs.Hold.{Holds, Handled, stored_of}
 use Rattle.sdp_step.specs.declared.Marks.{Marks}
-use Rattle.sdp_step.specs.declared.Taken.{Taken}
-use Rattle.sdp_step.specs.declared.Taken.TheVariants.{Kept, Refused}
 use Rattle.sdp_step.proofs.TailLaws.{behind}
 
 -- ---- at most once
 module _ {A : Type 0} (n : ℕ) (b : Bool) (r : Read A) (k : A → Stepped Span) (a t : List ℕ) where
-  pub once-second : b ≡ true → drop size a ≡ t → Handled (once n b r k) (Refused (plain n 0)) a t
+  pub once-second : b ≡ true → drop size a ≡ t → Handled (once n b r k) (Err (plain n 0)) a t
   once-second e d = rw e (refl, d)
 
   module _ (e : b ≡ false) where
-    pub once_wrong : (w : Wrong) → r ≡ Err w → drop size a ≡ t → Handled (once n b r k) (Refused w) a t
+    pub once_wrong : (w : Wrong) → r ≡ Err w → drop size a ≡ t → Handled (once n b r k) (Err w) a t
     once_wrong w f d = rw (e, f) (refl, d)
 
-    pub once_then : (x : A) (y : Taken) → r ≡ Ok x → Handled (k x) y a t → Handled (once n b r k) y a t
+    pub once_then : (x : A) (y : Result Marks Wrong) → r ≡ Ok x → Handled (k x) y a t → Handled (once n b r k) y a t
     once_then x y f h = rw (e, f) h
 
-    pub once-kept : (x : A) (ρ : Reading Span) (m : Marks) → r ≡ Ok x → k x ≡ goes ρ → Holds ρ m a t → Handled (once n b r k) (Kept m) a t
+    pub once-kept : (x : A) (ρ : Reading Span) (m : Marks) → r ≡ Ok x → k x ≡ goes ρ → Holds ρ m a t → Handled (once n b r k) (Ok m) a t
     once-kept x ρ m f g h = rw (e, f, g) h
 
 -- ---- one row more
 module _ {A : Type 0} (table cap c : ℕ) (r : Read A) (k : A → Reading Span) (a t : List ℕ) where
-  pub row_wrong : (w : Wrong) → r ≡ Err w → drop size a ≡ t → Handled (row table cap c r k) (Refused w) a t
+  pub row_wrong : (w : Wrong) → r ≡ Err w → drop size a ≡ t → Handled (row table cap c r k) (Err w) a t
   unfolding row
   row_wrong w f d = rw f (refl, d)
 

@@ -27,12 +27,9 @@ use Rattle.sdp_cells.specs.Tables.{full}
 use Rattle.sdp_area.proofs.GrownLaws.{offsets-grown}
 use Rattle.sdp_step.specs.Step.{Reading, stops, with_repeat, repeated}
 use Rattle.sdp_step.specs.Hold.{Holds, Handled}
-use Rattle.sdp_take_list.specs.Repeats.{latest_of, repeat_room, room_after, area_after, RoomHolds, offsets_step}
+use Rattle.sdp_take_list.specs.declared.Lacking.TheVariants.{Repeats, Offsets}
+use Rattle.sdp_take_list.specs.Repeats.{Room, latest_of, offsets_told, repeat_room, room_after, area_after, RoomHolds, offsets_step}
 use Rattle.sdp_step.specs.declared.Marks.{Marks}
-use Rattle.sdp_step.specs.declared.Taken.TheVariants.{Kept, Refused}
-use Rattle.sdp_take_list.specs.declared.Latest.TheVariants as latest
-use Rattle.sdp_take_list.specs.declared.Room.{Room}
-use Rattle.sdp_take_list.specs.declared.Room.TheVariants.{Open, NoRepeats, NoOffsets}
 use Rattle.sdp_take_list.proofs.ListLaws as lists
 use Rattle.sdp_step.proofs.TailLaws.{behind}
 use Rattle.sdp_step.proofs.WithinLaws.{within-repeats, within-offsets}
@@ -66,24 +63,24 @@ module _ (s : Session Span) (ok : Within s) (q : Repeat) (ns : List ℕ) (n : �
   count_rows = length-append s.tables.offsets (map (offset_in s) ns) ∙ ap (λ (k : ℕ). length s.tables.offsets + k) (lists.length-map (offset_in s) ns)
 
   -- one offset more, where all fitted so far
-  room_open : RoomHolds s q ns Open a t
-      → RoomHolds s q (ns ++ (n ∷ [])) (room_after Open (told a offsets_at 256)) (grown a offsets_at 256 (offset_row (offset_in s n))) t
+  room_open : RoomHolds s q ns (Ok tt) a t
+      → RoomHolds s q (ns ++ (n ∷ [])) (room_after (Ok tt) (told a offsets_at 256)) (grown a offsets_at 256 (offset_row (offset_in s n))) t
   room_open h =
       let w = within-rows h.0 h.1 in
       let g = offsets-grown (with_repeat s q ns) t w a h.2 (offset_in s n) in
       rw (g.0, g.1) (go (ltb (length (s.tables.offsets ++ map (offset_in s) ns)) 256) refl)
     where
       go : (b : Bool) → ltb (length (s.tables.offsets ++ map (offset_in s) ns)) 256 ≡ b
-          → RoomHolds s q (ns ++ (n ∷ [])) (room_after Open (cond b (Ok tt) (Err full)))
+          → RoomHolds s q (ns ++ (n ∷ [])) (room_after (Ok tt) (cond b (Ok tt) (Err full)))
           (encode (with_offsets (with_repeat s q ns) (cond b ((s.tables.offsets ++ map (offset_in s) ns) ++ (offset_in s n ∷ [])) (s.tables.offsets ++ map (offset_in s) ns))) ++ t) t
       go true e = (h.0, omega (arith, ltb-true (length (s.tables.offsets ++ map (offset_in s) ns)) 256 e, count_rows, lists.length_more ns n), ap (λ (l : List Offset). encode (with_offsets (with_repeat s q ns) l) ++ t) rows_more)
       go false e = (h.0, omega (arith, ltb-false (length (s.tables.offsets ++ map (offset_in s) ns)) 256 e, count_rows, lists.length_more ns n), behind (with_offsets (with_repeat s q ns) (s.tables.offsets ++ map (offset_in s) ns)) t)
 
   pub room_next : (room : Room) → RoomHolds s q ns room a t
       → RoomHolds s q (ns ++ (n ∷ [])) (room_after room (told a offsets_at 256)) (area_after room a (grown a offsets_at 256 (offset_row (offset_in s n)))) t
-  room_next Open h = room_open h
-  room_next NoRepeats h = h
-  room_next NoOffsets h = (h.0, omega (arith, h.1, lists.length_more ns n), h.2)
+  room_next (Ok _) h = room_open h
+  room_next (Err Repeats) h = h
+  room_next (Err Offsets) h = (h.0, omega (arith, h.1, lists.length_more ns n), h.2)
 
 module _ (v : List ℕ) (from : ℕ) (s : Session Span) (ok : Within s) (q : Repeat) (t : List ℕ) (room : Room) (a : List ℕ) (i : ℕ) (z : Repeating v from s q t room a i) where
   pub repeating_next : (n e : ℕ) (room' : Room) (a' : List ℕ) → offset_at v i ≡ Ok (Some (n, e)) → room' ≡ room_after room (told a offsets_at 256)
@@ -103,42 +100,38 @@ module _ (v : List ℕ) (from : ℕ) (s : Session Span) (ok : Within s) (q : Rep
 
 -- the bytes behind the session stay
 pub room_tail : (s : Session Span) (q : Repeat) (ns : List ℕ) (room : Room) (a t : List ℕ) → RoomHolds s q ns room a t → drop size a ≡ t
-room_tail s q ns Open a t h = ap (drop size) h.2 ∙ behind (with_repeat s q ns) t
-room_tail s q ns NoRepeats a t h = h.1
-room_tail s q ns NoOffsets a t h = h.2
+room_tail s q ns (Ok _) a t h = ap (drop size) h.2 ∙ behind (with_repeat s q ns) t
+room_tail s q ns (Err Repeats) a t h = h.1
+room_tail s q ns (Err Offsets) a t h = h.2
 
 -- ---- the answers after the last offset
 module _ (ρ : Reading Span) (m : Marks) (a₀ t a : List ℕ) (h : Holds ρ m a₀ t) (q : Repeat) (r : Read (List ℕ)) where
   pub offsets_wrong : (w : Wrong) (room : Room) (ns : List ℕ) → r ≡ Err w → RoomHolds ρ.session q ns room a t
-      → Handled (offsets_step ρ q r) (Refused w) a t
+      → Handled (offsets_step ρ q r) (Err w) a t
   offsets_wrong w room ns e k = rw e (refl, room_tail ρ.session q ns room a t k)
 
   module _ (ns : List ℕ) (e : r ≡ Ok ns) where
-    pub offsets-kept : RoomHolds ρ.session q ns Open a t → Handled (offsets_step ρ q r) (Kept m) a t
-    offsets-kept k =
+    pub offsets_end : (room : Room) → RoomHolds ρ.session q ns room a t → Handled (offsets_step ρ q r) (offsets_told room m) a t
+    offsets_end (Ok _) k =
         rw (e, lt-ltb (length ρ.session.tables.repeats) 64 k.0, le-leb (length ρ.session.tables.offsets + length ns) 256 k.1)
         (record { marks = h.marks; bytes = k.2; within = within-rows ρ.session h.within q ns 0 a t k.0 k.1; unzoned = h.unzoned })
-
-    pub offsets_six : RoomHolds ρ.session q ns NoRepeats a t → Handled (offsets_step ρ q r) (Refused (plain 21 6)) a t
-    offsets_six k = rw (e, le-ltb (length ρ.session.tables.repeats) 64 k.0) (refl, k.1)
-
-    pub offsets_seven : RoomHolds ρ.session q ns NoOffsets a t → Handled (offsets_step ρ q r) (Refused (plain 21 7)) a t
-    offsets_seven k =
+    offsets_end (Err Repeats) k = rw (e, le-ltb (length ρ.session.tables.repeats) 64 k.0) (refl, k.1)
+    offsets_end (Err Offsets) k =
         rw (e, lt-ltb (length ρ.session.tables.repeats) 64 k.0, lt-leb (length ρ.session.tables.offsets + length ns) 256 k.1) (refl, k.2)
 
 -- ---- the r line before its offsets
 -- whether there is a latest time
-pub none_latest : (n : ℕ) → latest_of n ≡ latest.Nothing → eqb n 0 ≡ true
+pub none_latest : (n : ℕ) → latest_of n ≡ None → eqb n 0 ≡ true
 none_latest n = go (eqb n 0)
   where
-    go : (b : Bool) → cond b latest.Nothing (latest.Time n) ≡ latest.Nothing → b ≡ true
+    go : (b : Bool) → cond b None (Some n) ≡ None → b ≡ true
     go true e = refl
     go false e = absurd (let z : ◌≡◌ {A = ℕ} 0 1 = cc in omega arith)
 
-pub some_latest : (n k : ℕ) → latest_of n ≡ latest.Time k → (eqb n 0 ≡ false) × (k ≡ n)
+pub some_latest : (n k : ℕ) → latest_of n ≡ Some k → (eqb n 0 ≡ false) × (k ≡ n)
 some_latest n k = go (eqb n 0)
   where
-    go : (b : Bool) → cond b latest.Nothing (latest.Time n) ≡ latest.Time k → (b ≡ false) × (k ≡ n)
+    go : (b : Bool) → cond b None (Some n) ≡ Some k → (b ≡ false) × (k ≡ n)
     go true e = absurd (let z : ◌≡◌ {A = ℕ} 0 1 = cc in omega arith)
     go false e = (refl, cc)
 

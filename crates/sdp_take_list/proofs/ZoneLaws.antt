@@ -25,7 +25,7 @@ use Rattle.sdp_area.proofs.GrownLaws.{zones-grown}
 use Rattle.sdp_step.specs.Step.{Reading, zone_in, zones_taken}
 use Rattle.sdp_step.specs.Hold.{Holds, Handled}
 use Rattle.sdp_step.specs.declared.Marks.{Marks}
-use Rattle.sdp_step.specs.declared.Taken.TheVariants.{Kept, Refused}
+use Rattle.std.specs.Prelude.{Ok, Err}
 use Rattle.sdp_take_list.proofs.ListLaws as lists
 use Rattle.sdp_step.proofs.TailLaws.{behind}
 use Rattle.sdp_step.proofs.WithinLaws.{within-zones}
@@ -75,12 +75,12 @@ module _ (v : List ℕ) (s : Session Span) (ok : Within s) (t a : List ℕ) (i n
 
 -- ---- the answers after the last pair
 module _ (mk : Piece → Span) (v : List ℕ) (ρ : Reading Span) (m : Marks) (a₀ t a : List ℕ) (h : Holds ρ m a₀ t) (i n : ℕ) (z : Zoning v ρ.session t a i n) where
-  pub zones_full : 64 < n → Handled (zones_taken mk ρ v z.done) (Refused (plain 21 8)) a t
+  pub zones_full : 64 < n → Handled (zones_taken mk ρ v z.done) (Err (plain 21 8)) a t
   zones_full l =
       let k = z.count in
       rw (lt-leb (length z.done) 64 (omega arith)) (refl, zoning_tail v ρ.session h.within t a i n z)
 
-  pub zones-kept : n ≤ 64 → Handled (zones_taken mk ρ v z.done) (Kept (record { named = m.named; zoned = true })) a t
+  pub zones-kept : n ≤ 64 → Handled (zones_taken mk ρ v z.done) (Ok (record { named = m.named; zoned = true })) a t
   zones-kept l =
       let k = z.count in
       let d : length z.done ≤ 64 = omega arith in

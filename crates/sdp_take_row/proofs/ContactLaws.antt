@@ -19,7 +19,6 @@ use Rattle.sdp_area.proofs.GrownLaws.{emails-grown, phones-grown}
 use Rattle.sdp_step.specs.Step.{Reading, step_role}
 use Rattle.sdp_step.specs.Hold.{Holds, Handled, stored_of}
 use Rattle.sdp_step.specs.declared.Marks.{Marks}
-use Rattle.sdp_step.specs.declared.Taken.TheVariants.{Refused}
 use Rattle.sdp_step.proofs.HandleLaws.{row_wrong, row_pushed}
 use Rattle.sdp_step.proofs.TailLaws.{tail_of}
 use Rattle.sdp_step.proofs.WithinLaws.{within-emails, within-phones}
@@ -28,7 +27,7 @@ use Rattle.sdp_take_row.specs.Rows.{contact_role, contact_field, contact_table}
 -- n is the field that the code asked for
 module _ (ρ : Reading Span) (m : Marks) (a t : List ℕ) (h : Holds ρ m a t) (mk : Piece → Span) (v : List ℕ) (n : ℕ) where
   pub contact_wrong : (x : Contact) → n ≡ contact_field x → (w : Wrong) → whole_of n v ≡ Err w
-      → Handled (step_role mk ρ v (contact_role x)) (Refused w) a t
+      → Handled (step_role mk ρ v (contact_role x)) (Err w) a t
   unfolding step_role
   contact_wrong Email is w f = rw (← is) (row_wrong 1 16 _ _ _ a t w f (tail_of h))
   contact_wrong Phone is w f = rw (← is) (row_wrong 2 16 _ _ _ a t w f (tail_of h))

@@ -12,10 +12,10 @@ use sdp_area::{
     push_time,
 };
 use sdp_fields::{Attribute, Bandwidth, Connection, Time};
-use sdp_judge::whole;
+use sdp_judge::{Wrong, whole};
 use sdp_media_line::Media;
 use sdp_roles::Role;
-use sdp_step::{Marks, Taken, stored};
+use sdp_step::{Marks, stored};
 use sdp_strings::{maybe_of, span_of};
 
 // The field that an e or a p line is refused at.
@@ -39,12 +39,18 @@ fn contact_table(which: Contact) -> u64
 }
 
 // An e or a p line.
-fn take_contact(area: &mut [u8], v: &[u8], at: usize, marks: Marks, which: Contact) -> Taken
+fn take_contact(
+    area: &mut [u8],
+    v: &[u8],
+    at: usize,
+    marks: Marks,
+    which: Contact,
+) -> Result<Marks, Wrong>
     requires { (size ≤ length area.old) × (at + length v.now ≤ longest_text) }
     ensures { Reads (contact_role which) at v.now marks result area.old area.new }
 {
     match whole(v, contact_field(which)) {
-        Err(w) => Taken::Refused(w),
+        Err(w) => Err(w),
         Ok(p) => {
             let x = span_of(at, p);
             let p = push_contact(area, which, x);
@@ -54,12 +60,12 @@ fn take_contact(area: &mut [u8], v: &[u8], at: usize, marks: Marks, which: Conta
 }
 
 // A c line of a media.
-fn take_media_connection(area: &mut [u8], v: &[u8], at: usize, marks: Marks) -> Taken
+fn take_media_connection(area: &mut [u8], v: &[u8], at: usize, marks: Marks) -> Result<Marks, Wrong>
     requires { (size ≤ length area.old) × (at + length v.now ≤ longest_text) }
     ensures { Reads Role.MediaConnection at v.now marks result area.old area.new }
 {
     match Connection::parse(v) {
-        Err(w) => Taken::Refused(w),
+        Err(w) => Err(w),
         Ok(c) => {
             let nettype = c.nettype;
             let nettype = span_of(at, nettype);
@@ -80,12 +86,12 @@ fn take_media_connection(area: &mut [u8], v: &[u8], at: usize, marks: Marks) -> 
 }
 
 // A b line.
-fn take_bandwidth(area: &mut [u8], v: &[u8], at: usize, marks: Marks) -> Taken
+fn take_bandwidth(area: &mut [u8], v: &[u8], at: usize, marks: Marks) -> Result<Marks, Wrong>
     requires { (size ≤ length area.old) × (at + length v.now ≤ longest_text) }
     ensures { Reads Role.Bandwidth at v.now marks result area.old area.new }
 {
     match Bandwidth::parse(v) {
-        Err(w) => Taken::Refused(w),
+        Err(w) => Err(w),
         Ok(b) => {
             let bwtype = b.bwtype;
             let bwtype = span_of(at, bwtype);
@@ -97,12 +103,12 @@ fn take_bandwidth(area: &mut [u8], v: &[u8], at: usize, marks: Marks) -> Taken
 }
 
 // A t line.
-fn take_time(area: &mut [u8], v: &[u8], at: usize, marks: Marks) -> Taken
+fn take_time(area: &mut [u8], v: &[u8], at: usize, marks: Marks) -> Result<Marks, Wrong>
     requires { (size ≤ length area.old) × (at + length v.now ≤ longest_text) }
     ensures { Reads Role.Time at v.now marks result area.old area.new }
 {
     match Time::parse(v) {
-        Err(w) => Taken::Refused(w),
+        Err(w) => Err(w),
         Ok(t) => {
             let p = push_time(area, t.start_time, t.stop_time);
             stored(p, 5, marks)
@@ -111,12 +117,12 @@ fn take_time(area: &mut [u8], v: &[u8], at: usize, marks: Marks) -> Taken
 }
 
 // An a line.
-fn take_attribute(area: &mut [u8], v: &[u8], at: usize, marks: Marks) -> Taken
+fn take_attribute(area: &mut [u8], v: &[u8], at: usize, marks: Marks) -> Result<Marks, Wrong>
     requires { (size ≤ length area.old) × (at + length v.now ≤ longest_text) }
     ensures { Reads Role.Attribute at v.now marks result area.old area.new }
 {
     match Attribute::parse(v) {
-        Err(w) => Taken::Refused(w),
+        Err(w) => Err(w),
         Ok(k) => {
             let name = k.attribute;
             let name = span_of(at, name);
@@ -130,12 +136,12 @@ fn take_attribute(area: &mut [u8], v: &[u8], at: usize, marks: Marks) -> Taken
 }
 
 // An m line.
-fn take_media(area: &mut [u8], v: &[u8], at: usize, marks: Marks) -> Taken
+fn take_media(area: &mut [u8], v: &[u8], at: usize, marks: Marks) -> Result<Marks, Wrong>
     requires { (size ≤ length area.old) × (at + length v.now ≤ longest_text) }
     ensures { Reads Role.Media at v.now marks result area.old area.new }
 {
     match Media::parse_m_line(v) {
-        Err(w) => Taken::Refused(w),
+        Err(w) => Err(w),
         Ok(m) => {
             let media = m.media;
             let media = span_of(at, media);
@@ -166,7 +172,7 @@ fn ports_of(n: Option<u64>) -> Option<usize>
 }
 
 // What is one row of a table.
-#[derive(Drop)]
+#[derive(Clone, Copy)]
 pub enum Row {
     Contact(Contact),
     MediaConnection,
@@ -177,7 +183,13 @@ pub enum Row {
 }
 
 // Its line.
-pub fn take_row(area: &mut [u8], v: &[u8], at: usize, marks: Marks, what: Row) -> Taken
+pub fn take_row(
+    area: &mut [u8],
+    v: &[u8],
+    at: usize,
+    marks: Marks,
+    what: Row,
+) -> Result<Marks, Wrong>
     requires { (size ≤ length area.old) × (at + length v.now ≤ longest_text) }
     ensures { Reads (row_role what) at v.now marks result area.old area.new }
 {

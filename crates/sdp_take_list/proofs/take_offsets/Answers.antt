@@ -5,7 +5,7 @@ use mathlib.Core.Path.{refl, sym, ap, ◌∙◌}
 use Rattle.std.specs.Prelude.{Ok}
 use borrow.Author.Rules.{rules}
 use Rattle.sdp_lists.proofs.RestLaws.{offset_next}
-use Rattle.sdp_take_list.proofs.RepeatLaws.{repeating-begin, repeating_next, repeating_wrong, repeating_all, offsets_wrong, offsets-kept, offsets_six, offsets_seven}
+use Rattle.sdp_take_list.proofs.RepeatLaws.{repeating-begin, repeating_next, repeating_wrong, repeating_all, offsets_wrong, offsets_end}
 use Rattle.sdp_take_list.proofs.take_offsets.Goals as goal
 
 pub loop-value-init : goal.loop-value-init
@@ -25,17 +25,7 @@ loop-value-preserved c =
     let m = (offset_next _ _ _ _ e).1 in
     (search rules, omega arith, λ ρ q a₀ t h o k. repeating_next _ _ ρ.session h.within q t _ _ _ (c.loop-value.invariant.2 ρ q a₀ t h o k) _ _ _ _ e c.add_offset-room.ensures.value (rw o at c.add_offset-room.ensures.area_after))
 
-pub returns-in-Open : goal.returns-in-Open
-returns-in-Open c ρ q a₀ t h o k =
+pub returns : goal.returns
+returns c ρ q a₀ t h o k =
     let z = (c.loop-value.invariant.2 ρ q a₀ t h o k) in
-    offsets-kept ρ _ a₀ t _ h q _ z.done (repeating_all _ _ ρ.session h.within q t _ _ _ z (sym c.repeat_offset.ensures ∙ c.in-Ok-None.is ∙ ap Ok c.in-Ok-None.field-0-is)) (rw c.in-Open.is at z.holds)
-
-pub returns-in-NoRepeats : goal.returns-in-NoRepeats
-returns-in-NoRepeats c ρ q a₀ t h o k =
-    let z = (c.loop-value.invariant.2 ρ q a₀ t h o k) in
-    offsets_six ρ _ a₀ t _ h q _ z.done (repeating_all _ _ ρ.session h.within q t _ _ _ z (sym c.repeat_offset.ensures ∙ c.in-Ok-None.is ∙ ap Ok c.in-Ok-None.field-0-is)) (rw c.in-NoRepeats.is at z.holds)
-
-pub returns-in-NoOffsets : goal.returns-in-NoOffsets
-returns-in-NoOffsets c ρ q a₀ t h o k =
-    let z = (c.loop-value.invariant.2 ρ q a₀ t h o k) in
-    offsets_seven ρ _ a₀ t _ h q _ z.done (repeating_all _ _ ρ.session h.within q t _ _ _ z (sym c.repeat_offset.ensures ∙ c.in-Ok-None.is ∙ ap Ok c.in-Ok-None.field-0-is)) (rw c.in-NoOffsets.is at z.holds)
+    rw c.offsets_told.ensures (offsets_end ρ _ a₀ t _ h q _ z.done (repeating_all _ _ ρ.session h.within q t _ _ _ z (sym c.repeat_offset.ensures ∙ c.in-Ok-None.is ∙ ap Ok c.in-Ok-None.field-0-is)) _ z.holds)

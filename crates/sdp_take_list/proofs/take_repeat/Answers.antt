@@ -25,14 +25,14 @@ take_offsets-requires c = (omega arith, head_next _ _ (sym c.parse.ensures ∙ c
 pub returns-in-Err : goal.returns-in-Err
 unfolding step_role
 returns-in-Err c ρ t h =
-    let e = (some_latest (num 2 c.args.area.now times_at) _ (sym c.latest_time.ensures ∙ c.in-Time.is)).0 in
+    let e = (some_latest (num 2 c.args.area.now times_at) _ (sym c.latest_time.ensures ∙ c.in-Some.is)).0 in
     let f = (sym c.parse.ensures ∙ c.in-Err.is) in
     rw (rw (times_count ρ.session t h.within c.args.area.now h.bytes) at e, head_wrong (span_at c.args.at []) ρ c.args.v.now c.in-Err.w f) (refl, tail_of h)
 
 pub returns-in-Ok : goal.returns-in-Ok
 unfolding step_role
 returns-in-Ok c ρ t h =
-    let s = some_latest (num 2 c.args.area.now times_at) _ (sym c.latest_time.ensures ∙ c.in-Time.is) in
+    let s = some_latest (num 2 c.args.area.now times_at) _ (sym c.latest_time.ensures ∙ c.in-Some.is) in
     let f = (sym c.parse.ensures ∙ c.in-Ok.is) in
     let k = s.1 ∙ times_count ρ.session t h.within c.args.area.now h.bytes in
     let o = ap (λ (i : ℕ). i + 1) (c.repeats-owner.ensures.0 ∙ repeats_count ρ.session t h.within _ h.bytes) in
