@@ -25,7 +25,6 @@ use Rattle.sdp_area.proofs.GrownLaws.{zones-grown}
 use Rattle.sdp_step.specs.Step.{Reading, zone_in, zones_taken}
 use Rattle.sdp_step.specs.Hold.{Holds, Handled}
 use Rattle.sdp_step.specs.declared.Marks.{Marks}
-use Rattle.std.specs.Prelude.{Ok, Err}
 use Rattle.sdp_take_list.proofs.ListLaws as lists
 use Rattle.sdp_step.proofs.TailLaws.{behind}
 use Rattle.sdp_step.proofs.WithinLaws.{within-zones}

@@ -20,7 +20,6 @@ use Rattle.sdp_area.proofs.LatestLaws.{title_mark, title_set}
 use Rattle.sdp_step.specs.Step.{Reading, goes, once, keep, step_role}
 use Rattle.sdp_step.specs.Hold.{Holds, Handled}
 use Rattle.sdp_step.specs.declared.Marks.{Marks}
-use Rattle.std.specs.Prelude.{Ok, Err}
 use Rattle.sdp_step.proofs.HandleLaws.{once-second, once_wrong, once-kept}
 use Rattle.sdp_step.proofs.OnceLaws.{head_kept, medias-kept, length_last}
 use Rattle.sdp_step.proofs.TailLaws.{tail_of}
