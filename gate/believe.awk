@@ -241,7 +241,7 @@ function rattle_types(file, text, crate,    w, n, k, word, to) {
     for (k = 1; k <= n; k++) {
         word = w[k]
         if (word == ":" || w[k + 1] == ":" || word ~ /^\047/) continue
-        if (word ~ /^(pub|mut|bool|str|[ui](8|16|32|64|128|size))$/ || word ~ /^[0-9]+$/) continue
+        if (word ~ /^(pub|mut|bool|str|Option|Result|[ui](8|16|32|64|128|size))$/ || word ~ /^[0-9]+$/) continue
         to = ""
         if (word ~ /@/) { to = word; sub(/@.*@|@/, ":", to) }
         else if ((file, word) in brought) to = brought[file, word]
@@ -563,7 +563,7 @@ function close_over(name,    todo, n, k, w, i, what, any) {
         for (; i > 1; i--) todo[++n] = w[i]
     }
     # every field that is named is one of a record that was found
-    split("now old new", w, " ")
+    split("now old new 0 1", w, " ")
     split("", any)
     for (k in w) any[w[k]]
     for (what in seen) {

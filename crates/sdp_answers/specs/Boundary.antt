@@ -1,7 +1,6 @@
 -- How the leaves' answers cross to Rust and C, as numbers.
 use Rattle.std.specs.Prelude.{ℕ}
-use Rattle.sdp_number.specs.Number.{refusal, value_of}
-use Rattle.sdp_number.specs.declared.Number.{Number}
+use Rattle.sdp_number.specs.Number.{Number, refusal, value_of}
 use Rattle.sdp_lines.specs.Answers.{fault_number}
 use Rattle.sdp_lines.specs.declared.Cursor.{Cursor}
 use Rattle.sdp_lines.specs.declared.Cut.{Cut}

@@ -5,7 +5,7 @@ ghost use Rattle.std.specs.Prelude.{◌≡◌};
 ghost use Rattle.sdp_answers.specs.Boundary.{numeral_of, piece_of};
 
 use sdp_lines::Cut;
-use sdp_number::Number;
+use sdp_number::NumberError;
 
 // A number that was read: refusal number 0 and the value, or 8 or 9 and 0.
 #[repr(C)]
@@ -29,19 +29,16 @@ pub struct Piece {
     pub next_line: u64,
 }
 
-pub fn numeral_of(n: Number) -> Numeral
+pub fn numeral_of(n: Result<u64, NumberError>) -> Numeral
     ensures { result ≡ numeral_of n }
 {
     match n {
-        Number::Value(v) => Numeral {
-            number: 0,
-            value: v,
-        },
-        Number::Encoding => Numeral {
+        Ok(value) => Numeral { number: 0, value },
+        Err(NumberError::Encoding) => Numeral {
             number: 8,
             value: 0,
         },
-        Number::Format => Numeral {
+        Err(NumberError::Format) => Numeral {
             number: 9,
             value: 0,
         },

@@ -2,7 +2,7 @@
 use mathlib.Core.Path.{◌≡◌, refl, sym, ap, ◌∙◌}
 use mathlib.Core.Bool.{Bool, true, false, cond, ◌&&◌}
 use mathlib.Core.List.{List, [], ◌∷◌, ◌++◌, map, append-nil}
-use Rattle.std.specs.Prelude.{Option, Some, None}
+use Rattle.std.specs.Prelude.{Option, Some, None, Ok, Err}
 use Prim.Native.Nat.{ℕ, ◌+◌, ◌^◌, ◌<◌}
 use native.Mathlib.Omega.{arith}
 use lib.ListN.{length, get_or, take, drop, length-take, length-drop}
@@ -19,7 +19,7 @@ use Rattle.sdp_split.specs.Split.{part, words, next_word, later, Inside}
 use Rattle.sdp_split.specs.declared.Piece.{Piece}
 use Rattle.sdp_split.proofs.WordLaws.{words_inside, next_inside}
 use Rattle.sdp_judge.specs.Read as field-read
-use Rattle.sdp_judge.specs.Read.{Read, got, refused, encoding, and_then, entire, whole_of}
+use Rattle.sdp_judge.specs.Read.{Read, encoding, and_then, entire, whole_of}
 use Rattle.sdp_fields.specs.Records as records
 use Rattle.sdp_fields.specs.Records.{username_of, address_of, origin_of, connection_of}
 use Rattle.sdp_fields.specs.declared.Origin as origin
@@ -40,11 +40,11 @@ use Rattle.sdp_back.proofs.WordLaws.{Word, spell, are_words, tails, joined_bare,
 use Rattle.sdp_back.proofs.FieldLaws.{Backs, map_read, on_seen, unseen, first, text_in, token_in, amount_in, see_text, see_token, see_number, see_end, see_next, see_then, Gives, gives_got, gives_then, gives_test, gives_number, gives_unseen, gives_word}
 
 -- ---- one string: s, i, u, e, p
-pub whole_back : (w u : ℕ) (v : List ℕ) (p : Piece) → bare v ≡ true → whole_of w v ≡ got p → Backs (whole_of u) part (clean (part v p)) (part v p)
+pub whole_back : (w u : ℕ) (v : List ℕ) (p : Piece) → bare v ≡ true → whole_of w v ≡ Ok p → Backs (whole_of u) part (clean (part v p)) (part v p)
 unfolding field-read.whole_of
 whole_back w u v p h e = go (is_utf8 v) refl e
   where
-    go : (b : Bool) → is_utf8 v ≡ b → cond b (got (entire v)) (refused (encoding w v (entire v))) ≡ got p → Backs (whole_of u) part (clean (part v p)) (part v p)
+    go : (b : Bool) → is_utf8 v ≡ b → cond b (Ok (entire v)) (Err (encoding w v (entire v))) ≡ Ok p → Backs (whole_of u) part (clean (part v p)) (part v p)
     go true q e =
         let z : record { at = 0; len = length v } ≡ p = cc in
         let t : take (length v) v ≡ v = take-length v in
@@ -57,7 +57,7 @@ address_from ws =
     on_seen (first ws) (λ s ws. and_then (token_in s) (λ net.
     on_seen (first ws) (λ s ws. and_then (token_in s) (λ kind.
     on_seen (first ws) (λ s ws. and_then (text_in s) (λ address.
-    unseen (first ws) (got (record { nettype = net; addrtype = kind; connection_address = address }))))))))
+    unseen (first ws) (Ok (record { nettype = net; addrtype = kind; connection_address = address }))))))))
 
 -- three words: two tokens and a string
 record Address (c : Connection (List ℕ)) : Type 0 where
@@ -76,7 +76,7 @@ address_given ws h =
     gives_word _ ws _ h (λ address ws c h. gives_test _ is_utf8 address _ (λ r.
     gives_unseen _ (first ws) _ (record { net = a; kind = b; address = c; net_token = p; kind_token = q; address_text = r })))))))
 
-address_again : (c : Connection (List ℕ)) → Address c → address_from (c.nettype ∷ c.addrtype ∷ c.connection_address ∷ []) ≡ got c
+address_again : (c : Connection (List ℕ)) → Address c → address_from (c.nettype ∷ c.addrtype ∷ c.connection_address ∷ []) ≡ Ok c
 unfolding address_from
 address_again c a = rw (a.net_token, a.kind_token, a.address_text)
 
@@ -87,7 +87,7 @@ module _ (v : List ℕ) where
       see_token _ w v _ (next_word ws) _ (see_next v ws) _ _ (λ net e q.
       see_token _ (w + 1) v _ (next_word (later ws)) _ (see_next v (later ws)) _ _ (λ kind e q.
       see_text _ (w + 2) v _ (next_word (later (later ws))) _ (see_next v (later (later ws))) _ _ (λ address e q.
-      see_end _ (w + 3) v _ (next_word (later (later (later ws)))) _ (see_next v (later (later (later ws)))) (got _))))
+      see_end _ (w + 3) v _ (next_word (later (later (later ws)))) _ (see_next v (later (later (later ws)))) (Ok _))))
 
 -- the c line
 abbrev pub connection_value : Connection (List ℕ) → List ℕ
@@ -109,7 +109,7 @@ module _ (c : Connection (List ℕ)) (a : Address c) where
         bare = joined_bare c.nettype (c.addrtype ∷ c.connection_address ∷ []) a.net (a.kind, (a.address, tt));
       })
 
-pub connection_back : (v : List ℕ) (c : connection.Connection) → bare v ≡ true → connection_of v ≡ got c → ConnectionBack (connection_in (part v) c)
+pub connection_back : (v : List ℕ) (c : connection.Connection) → bare v ≡ true → connection_of v ≡ Ok c → ConnectionBack (connection_in (part v) c)
 unfolding records.connection_of
 connection_back v c h e =
     connection_again _ (gives_got Address (address_from (spell v)) _ (sym (see_address v 8 (words v)) ∙ ap (map_read (connection_in (part v))) e) (address_given (spell v) (are_words v h)))
@@ -139,7 +139,7 @@ origin_from ws =
     on_seen (first ws) (λ s ws. and_then (text_in s) (λ sess.
     on_seen (first ws) (λ s ws. and_then (amount_in (whole_number 64 s)) (λ n.
     and_then (address_from ws) (λ c.
-    got (record { username = user_in user; sess_id = sess; sess_version = n; nettype = c.nettype; addrtype = c.addrtype; unicast_address = c.connection_address }))))))))
+    Ok (record { username = user_in user; sess_id = sess; sess_version = n; nettype = c.nettype; addrtype = c.addrtype; unicast_address = c.connection_address }))))))))
 
 module _ (v : List ℕ) where
   see_user : (p : Piece) → Inside v p → maybe_in (part v) (username_of v p) ≡ user_in (part v p)
@@ -148,13 +148,13 @@ module _ (v : List ℕ) where
       rw l (go (eqb p.len 1) refl)
     where
       go : (b : Bool) → eqb p.len 1 ≡ b
-          → maybe_in (part v) (cond (b && eqb (get_or v p.at 0) 0x2d) (record { there = false; piece = record { at = 0; len = 0 } }) (record { there = true; piece = p })) ≡ cond (b && eqb (get_or (part v p) 0 0) 0x2d) None (Some (part v p))
+          → maybe_in (part v) (cond (b && eqb (get_or v p.at 0) 0x2d) None (Some p)) ≡ cond (b && eqb (get_or (part v p) 0 0) 0x2d) None (Some (part v p))
       go true e =
           let n = eqb-true p.len 1 e in
           let g : get_or (part v p) 0 0 ≡ get_or v p.at 0 = get_or-take p.len (drop p.at v) 0 0 (omega arith) ∙ get_or-drop p.at v 0 0 ∙ ap (λ (k : ℕ). get_or v k 0) (let z : p.at + 0 ≡ p.at = omega arith in z) in
           rw g (pick (eqb (get_or v p.at 0) 0x2d))
         where
-          pick : (b : Bool) → maybe_in (part v) (cond b (record { there = false; piece = record { at = 0; len = 0 } }) (record { there = true; piece = p })) ≡ cond b None (Some (part v p))
+          pick : (b : Bool) → maybe_in (part v) (cond b None (Some p)) ≡ cond b None (Some (part v p))
           pick true = refl
           pick false = refl
       go false e = refl
@@ -167,7 +167,7 @@ module _ (v : List ℕ) where
       see_text _ 2 v _ (next_word (later ws)) _ (see_next v (later ws)) _ _ (λ sess e z.
       see_number _ 3 v _ (next_word (later (later ws))) _ (see_next v (later (later ws))) _ _ (λ n e.
       see_then _ (connection_in (part v)) (address_of 4 v (later (later (later ws)))) _ (see_address v 4 (later (later (later ws)))) _ _ (λ c.
-      ap (λ o. got (record { username = o; sess_id = part v sess; sess_version = n; nettype = part v c.nettype; addrtype = part v c.addrtype; unicast_address = part v c.connection_address })) (see_user user (next_inside v ws (words_inside v) user _ q).0)))))
+      ap (λ o. Ok (record { username = o; sess_id = part v sess; sess_version = n; nettype = part v c.nettype; addrtype = part v c.addrtype; unicast_address = part v c.connection_address })) (see_user user (next_inside v ws (words_inside v) user _ q).0)))))
 
 abbrev pub OriginBack : Origin (List ℕ) → Type 0
 OriginBack o = Backs origin_of (λ v. origin_in (part v)) (origin_value id o) o
@@ -181,11 +181,11 @@ origin_again_lem user sess n c u s p q l a =
     rw (user_text user u, clean_bare sess s.bare, clean_bare c.nettype a.net.bare, clean_bare c.addrtype a.kind.bare, clean_bare c.connection_address a.address.bare)
     (rw (← (let z : user ++ tails rest ≡ user ++ (spaced sess ++ (spaced (digits n) ++ (spaced c.nettype ++ (spaced c.addrtype ++ spaced c.connection_address)))) = simp append-nil in z))
     (record {
-      says = see_origin _ ∙ ap origin_from (words_back user rest u fine) ∙ rw (p, q, number_back 64 n l) (ap (λ r. and_then r (λ c. got (record { username = user_in user; sess_id = sess; sess_version = n; nettype = c.nettype; addrtype = c.addrtype; unicast_address = c.connection_address }))) (address_again c a));
+      says = see_origin _ ∙ ap origin_from (words_back user rest u fine) ∙ rw (p, q, number_back 64 n l) (ap (λ r. and_then r (λ c. Ok (record { username = user_in user; sess_id = sess; sess_version = n; nettype = c.nettype; addrtype = c.addrtype; unicast_address = c.connection_address }))) (address_again c a));
       bare = joined_bare user rest u fine;
     }))
 
-pub origin_back : (v : List ℕ) (o : origin.Origin) → bare v ≡ true → origin_of v ≡ got o → OriginBack (origin_in (part v) o)
+pub origin_back : (v : List ℕ) (o : origin.Origin) → bare v ≡ true → origin_of v ≡ Ok o → OriginBack (origin_in (part v) o)
 unfolding origin_from
 origin_back v o h e =
     gives_got OriginBack (origin_from (spell v)) _ (sym (see_origin v) ∙ ap (map_read (origin_in (part v))) e)

@@ -8,7 +8,7 @@ use lib.ListN.{length, length-map}
 use lib.Dec.{eqb}
 use borrow.Author.Tests.{lt-ltb, le-leb, ne_eqb}
 use Rattle.sdp_split.specs.Split.{part}
-use Rattle.sdp_judge.specs.Read.{Read, got, refused}
+use Rattle.sdp_judge.specs.Read.{Read}
 use Rattle.sdp_lists.specs.Lists.{zones_of}
 use Rattle.sdp_lists.specs.declared.Zone as zone
 use Rattle.sdp_area.specs.Session.{Origin, Connection, MediaConnection, Bandwidth, Time, Repeat, Zone, Attribute, Media, Session}
@@ -33,23 +33,24 @@ use Rattle.sdp_back.proofs.PieceLaws.{BandwidthBack, AttributeBack, MediaBack, m
 use Rattle.sdp_back.proofs.TimeLaws.{time_line_back, repeat_value, repeat_line_back, zones_value, zones_line_back}
 use Rattle.sdp_back.proofs.PlainLaws.{TextBack}
 use Rattle.sdp_back.proofs.LeadLaws.{Leads, line_leads}
+use Rattle.std.specs.Prelude.{Ok, Err}
 
 -- ---- the shapes of a step
 module _ {A X : Type 0} (read : List ℕ → Read A) (mk : List ℕ → A → X) (v : List ℕ) (x : X) (b : Backs read mk v x) where
   once_steps : (n : ℕ) (c : Bool) → c ≡ false → (k : X → Reading (List ℕ)) → once n c (read v) (λ a. goes (k (mk v a))) ≡ goes (k x)
   once_steps n c e k = rw e (go (read v) b.says)
     where
-      go : (r : Read A) → map_read (mk v) r ≡ got x → once n false r (λ a. goes (k (mk v a))) ≡ goes (k x)
-      go (got a) q = let z : mk v a ≡ x = cc in ap (λ y. goes (k y)) z
-      go (refused w) q = absurd (let z : ◌≡◌ {A = ℕ} 0 1 = cc in omega arith)
+      go : (r : Read A) → map_read (mk v) r ≡ Ok x → once n false r (λ a. goes (k (mk v a))) ≡ goes (k x)
+      go (Ok a) q = let z : mk v a ≡ x = cc in ap (λ y. goes (k y)) z
+      go (Err w) q = absurd (let z : ◌≡◌ {A = ℕ} 0 1 = cc in omega arith)
 
   row_steps : (table cap c : ℕ) → c < cap → (k : X → Reading (List ℕ)) → row table cap c (read v) (λ a. k (mk v a)) ≡ goes (k x)
   unfolding steps.row
   row_steps table cap c l k = go (read v) b.says
     where
-      go : (r : Read A) → map_read (mk v) r ≡ got x → row table cap c r (λ a. k (mk v a)) ≡ goes (k x)
-      go (got a) q = let z : mk v a ≡ x = cc in rw (lt-ltb c cap l) (ap (λ y. goes (k y)) z)
-      go (refused w) q = absurd (let z : ◌≡◌ {A = ℕ} 0 1 = cc in omega arith)
+      go : (r : Read A) → map_read (mk v) r ≡ Ok x → row table cap c r (λ a. k (mk v a)) ≡ goes (k x)
+      go (Ok a) q = let z : mk v a ≡ x = cc in rw (lt-ltb c cap l) (ap (λ y. goes (k y)) z)
+      go (Err w) q = absurd (let z : ◌≡◌ {A = ℕ} 0 1 = cc in omega arith)
 
 module _ (ρ : Reading (List ℕ)) where
   abbrev s : Session (List ℕ)
@@ -117,12 +118,12 @@ module _ (ρ : Reading (List ℕ)) where
         let b = zones_line_back z zs f in
         before_leads 0x7a _ role.Zone _ refl b.bare refl (rw q (go (zones_of (zones_value z zs)) b.says))
       where
-        go : (r : Read (List zone.Zone)) → map_read (map zone_in) r ≡ got (z ∷ zs) → once 17 false r (zones_taken (part (zones_value z zs)) ρ (zones_value z zs)) ≡ goes (record { session = with_zones s (z ∷ zs); zoned = true })
-        go (got ys) e =
+        go : (r : Read (List zone.Zone)) → map_read (map zone_in) r ≡ Ok (z ∷ zs) → once 17 false r (zones_taken (part (zones_value z zs)) ρ (zones_value z zs)) ≡ goes (record { session = with_zones s (z ∷ zs); zoned = true })
+        go (Ok ys) e =
             let w : map zone_in ys ≡ z ∷ zs = cc in
             let n : length ys ≡ length (z ∷ zs) = sym (length-map ys zone_in) ∙ ap length w in
             rw (le-leb (length ys) 64 (omega arith), w)
-        go (refused x) e = absurd (let w : ◌≡◌ {A = ℕ} 0 1 = cc in omega arith)
+        go (Err x) e = absurd (let w : ◌≡◌ {A = ℕ} 0 1 = cc in omega arith)
 
   -- ---- anywhere
   any_leads : (l : ℕ) (v : List ℕ) (x : Role) (τ : Reading (List ℕ)) → letter l ≡ true → bare v ≡ true → before_media l ≡ x → from_media l ≡ x → step_role (part v) ρ v x ≡ goes τ → Leads ρ (line l v) τ

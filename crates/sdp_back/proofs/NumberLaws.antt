@@ -14,7 +14,6 @@ use Rattle.sdp_utf8.specs.Utf8.{utf8_end, is_utf8}
 use Rattle.sdp_utf8.proofs.Utf8Laws.{utf8_plain}
 use Rattle.sdp_number.specs.Number as number
 use Rattle.sdp_number.specs.Number.{all_digits, value, digits_below, drop_plus, whole_number, unit_of, scaled, typed_time}
-use Rattle.sdp_number.specs.declared.Number.TheVariants.{Value}
 use Rattle.sdp_number.proofs.NumberLaws.{typed_plain, typed_unit}
 use Rattle.sdp_judge.specs.Offset as signed-offset
 use Rattle.sdp_judge.specs.Offset.{zone_offset}
@@ -23,6 +22,7 @@ use Rattle.sdp_put.proofs.DigitLaws.{digits-one, digits_more, digits_pass, time_
 use Rattle.sdp_row.specs.Written.{signed_text}
 use Rattle.sdp_bound.proofs.NumberLaws.{digits_some}
 use Rattle.sdp_put.proofs.ByteLaws.{every, last_byte, but_last}
+use Rattle.std.specs.Prelude.{Ok}
 
 -- ---- digits
 value-append : (v : ℕ) (a b : List ℕ) → value v (a ++ b) ≡ value (value v a) b
@@ -85,7 +85,7 @@ ascii_utf8 s h = eq-eqb (utf8_end s) (length s) (ascii_end s h)
 pub digits-ascii : (v : ℕ) → every (λ b. ltb b 0x80) (digits v) ≡ true
 digits-ascii v = digits_pass (λ b. ltb b 0x80) (λ b l g. lt-ltb b 0x80 (omega arith)) v
 
-pub number_back : (w v : ℕ) → v < 2 ^ w → whole_number w (digits v) ≡ Value v
+pub number_back : (w v : ℕ) → v < 2 ^ w → whole_number w (digits v) ≡ Ok v
 unfolding number.whole_number number.numeral number.digits_below
 number_back w v h =
     let s = digits_are v in
@@ -102,10 +102,10 @@ plain_unit v = go (ltb v 10) refl
     go true e = rw (digits-one v (ltb-true v 10 e)) (no_unit v (ltb-true v 10 e))
     go false e = rw (digits_more v (ltb-false v 10 e)) (ap unit_of (last_byte (digits (v / 10)) (0x30 + v % 10)) ∙ no_unit (v % 10) (omega arith))
 
-plain_back : (v : ℕ) → v < 2 ^ 64 → typed_time (digits v) ≡ Value v
+plain_back : (v : ℕ) → v < 2 ^ 64 → typed_time (digits v) ≡ Ok v
 plain_back v h = typed_plain (digits v) (plain_unit v) ∙ number_back 64 v h
 
-unit_back : (v k x : ℕ) → unit_of x ≡ k → (k ≡ 0 → ⊥) → (v / k) * k ≡ v → v / k < 2 ^ 64 → v < 2 ^ 64 → typed_time (digits (v / k) ++ (x ∷ [])) ≡ Value v
+unit_back : (v k x : ℕ) → unit_of x ≡ k → (k ≡ 0 → ⊥) → (v / k) * k ≡ v → v / k < 2 ^ 64 → v < 2 ^ 64 → typed_time (digits (v / k) ++ (x ∷ [])) ≡ Ok v
 unit_back v k x u z e l h =
     let d = digits (v / k) in
     typed_unit (d ++ (x ∷ [])) k (sym (ap unit_of (last_byte d x) ∙ u)) z
@@ -113,9 +113,9 @@ unit_back v k x u z e l h =
     ∙ ap (scaled k) (number_back 64 (v / k) l)
     ∙ rw (e, lt-ltb v (2 ^ 64) h)
 
-pub time_back : (v : ℕ) → v < 2 ^ 64 → typed_time (time_text v) ≡ Value v
+pub time_back : (v : ℕ) → v < 2 ^ 64 → typed_time (time_text v) ≡ Ok v
 time_back v h =
-    time_form (λ s. typed_time s ≡ Value v) v
+    time_form (λ s. typed_time s ≡ Ok v) v
     (λ e. plain_back v h)
     (λ z e. unit_back v 86400 0x64 refl (eqb-false 86400 0 refl) (omega arith) (omega arith) h)
     (λ z e. unit_back v 3600 0x68 refl (eqb-false 3600 0 refl) (omega arith) (omega arith) h)
@@ -139,11 +139,11 @@ no_minus v = go (time_text v) (time_pass (λ b. not (eqb b 0x2d)) (λ b l g. rw 
     go [] e = refl
     go (b ∷ s) e = not-true (eqb b 0x2d) (and_left (not (eqb b 0x2d)) _ e)
 
-pub offset_back : (n : ℕ) → n < 2 ^ 64 → zone_offset (signed_text n) ≡ Value n
+pub offset_back : (n : ℕ) → n < 2 ^ 64 → zone_offset (signed_text n) ≡ Ok n
 unfolding signed-offset.zone_offset
 offset_back n h = go (leb (2 ^ 63) n) refl
   where
-    go : (b : Bool) → leb (2 ^ 63) n ≡ b → zone_offset (signed_text n) ≡ Value n
+    go : (b : Bool) → leb (2 ^ 63) n ≡ b → zone_offset (signed_text n) ≡ Ok n
     go true e =
         let l = leb-true (2 ^ 63) n e in
         let k : 2 ^ 64 - (2 ^ 64 - n) ≡ n = omega arith in

@@ -2,18 +2,17 @@
 use mathlib.Core.Path.{◌≡◌, refl, sym, ap, ◌∙◌}
 use mathlib.Core.Bool.{Bool, true, false, cond, not}
 use mathlib.Core.List.{List, [], ◌∷◌, ◌++◌, append_assoc}
-use Rattle.std.specs.Prelude.{Option, Some, None, option_map}
+use Rattle.std.specs.Prelude.{Option, Some, None, option_map, Ok, Err}
 use Prim.Native.Nat.{ℕ, ◌+◌, ◌^◌, ◌<◌}
 use native.Mathlib.Omega.{arith}
 use lib.ListN.{length, take, drop}
 use lib.Dec.{ltb, eqb}
 use Rattle.sdp_bytes.specs.Runs.{index_of}
 use Rattle.sdp_utf8.specs.Utf8.{is_utf8}
-use Rattle.sdp_number.specs.Number.{whole_number}
-use Rattle.sdp_number.specs.declared.Number.{Number}
-use Rattle.sdp_number.specs.declared.Number.TheVariants.{Value, Encoding, Format}
+use Rattle.sdp_number.specs.Number.{Number, whole_number}
+use Rattle.sdp_number.specs.declared.NumberError.TheVariants.{Encoding, Format}
 use Rattle.sdp_split.specs.Split.{part, first_piece, piece_after, rest_after}
-use Rattle.sdp_judge.specs.Read.{Read, got, refused, and_then}
+use Rattle.sdp_judge.specs.Read.{Read, and_then}
 use Rattle.sdp_fields.specs.Records as records
 use Rattle.sdp_fields.specs.Records.{bandwidth_of, attribute_of}
 use Rattle.sdp_media_line.specs.MediaLine
@@ -21,7 +20,6 @@ use Rattle.sdp_media_line.specs.MediaLine.{port_number, ports_of, media_of}
 use Rattle.sdp_fields.specs.declared.Bandwidth as bandwidth
 use Rattle.sdp_fields.specs.declared.Attribute as attribute
 use Rattle.sdp_media_line.specs.declared.Port.{Port}
-use Rattle.sdp_media_line.specs.declared.MaybeNumber.{MaybeNumber}
 use Rattle.sdp_media_line.specs.declared.Media as media
 use Rattle.sdp_number.proofs.NumberLaws.{number_below}
 use Rattle.sdp_area.specs.Session.{Media}
@@ -72,7 +70,7 @@ bandwidth_is v b = (part v b.bwtype, b.bandwidth)
 bandwidth_rest : List ℕ → Option (List ℕ) → Read (List ℕ × ℕ)
 bandwidth_rest kind r =
     on_seen (option_map (cut 0x3a) r) (λ s r. and_then (amount_in (whole_number 64 s)) (λ n.
-    unseen (option_map (cut 0x3a) r) (got (kind, n))))
+    unseen (option_map (cut 0x3a) r) (Ok (kind, n))))
 
 bandwidth_from : List ℕ × Option (List ℕ) → Read (List ℕ × ℕ)
 bandwidth_from c = and_then (text_in c.0) (λ kind. bandwidth_rest kind c.1)
@@ -82,7 +80,7 @@ unfolding bandwidth_from bandwidth_rest records.bandwidth_of
 see_bandwidth v =
     see_text _ 12 v (behind v) (first_piece 0x3a v) _ (see_first v 0x3a) _ bandwidth_rest (λ kind e q.
     see_number _ 13 v (behind v) (piece_after 0x3a v e) _ (see_after v 0x3a e) _ _ (λ n e.
-    see_end _ 14 v (behind v) (piece_after 0x3a v e) _ (see_after v 0x3a e) (got _)))
+    see_end _ 14 v (behind v) (piece_after 0x3a v e) _ (see_after v 0x3a e) (Ok _)))
 
 abbrev pub BandwidthBack : List ℕ → ℕ → Type 0
 BandwidthBack kind n = Backs bandwidth_of bandwidth_is (text id kind ++ ((0x3a ∷ []) ++ digits n)) (kind, n)
@@ -95,7 +93,7 @@ bandwidth-again kind n b l u h =
       bare = every_append (λ b. not (dropped b)) kind _ b (digits_bare n);
     })
 
-pub bandwidth_back : (v : List ℕ) (b : bandwidth.Bandwidth) → bare v ≡ true → bandwidth_of v ≡ got b → BandwidthBack (part v b.bwtype) b.bandwidth
+pub bandwidth_back : (v : List ℕ) (b : bandwidth.Bandwidth) → bare v ≡ true → bandwidth_of v ≡ Ok b → BandwidthBack (part v b.bwtype) b.bandwidth
 unfolding bandwidth_from bandwidth_rest
 bandwidth_back v b h e =
     gives_got (λ x. BandwidthBack x.0 x.1) (bandwidth_from (cut 0x3a v)) _ (sym (see_bandwidth v) ∙ ap (map_read (bandwidth_is v)) e)
@@ -108,7 +106,7 @@ abbrev pub attribute_is : List ℕ → attribute.Attribute → List ℕ × Optio
 attribute_is v a = (part v a.attribute, maybe_in (part v) a.value)
 
 attribute_rest : List ℕ → Option (List ℕ) → Read (List ℕ × Option (List ℕ))
-attribute_rest name r = and_then (choice_in r) (λ value. got (name, value))
+attribute_rest name r = and_then (choice_in r) (λ value. Ok (name, value))
 
 attribute_from : List ℕ × Option (List ℕ) → Read (List ℕ × Option (List ℕ))
 attribute_from c = and_then (text_in c.0) (λ name. attribute_rest name c.1)
@@ -117,7 +115,7 @@ see_attribute : (v : List ℕ) → map_read (attribute_is v) (attribute_of v) �
 unfolding attribute_from attribute_rest records.attribute_of
 see_attribute v =
     see_text _ 23 v (behind v) (first_piece 0x3a v) _ (see_first v 0x3a) _ attribute_rest (λ name e q.
-    see_choice v _ 24 e _ (λ o. got (part v name, o)) (λ value. refl))
+    see_choice v _ 24 e _ (λ o. Ok (part v name, o)) (λ value. refl))
 
 abbrev pub AttributeBack : List ℕ → Option (List ℕ) → Type 0
 AttributeBack name value = Backs attribute_of attribute_is (text id name ++ optional (λ s. (0x3a ∷ []) ++ text id s) value) (name, value)
@@ -136,11 +134,11 @@ attribute-again name value b l u c d =
       bare = every_append (λ b. not (dropped b)) name _ b t.1;
     })
   where
-    chosen : (o : Option (List ℕ)) → IfGiven (λ r. is_utf8 r ≡ true) o → attribute_rest name o ≡ got (name, o)
+    chosen : (o : Option (List ℕ)) → IfGiven (λ r. is_utf8 r ≡ true) o → attribute_rest name o ≡ Ok (name, o)
     chosen None h = refl
     chosen (Some s) h = rw h
 
-pub attribute_back : (v : List ℕ) (a : attribute.Attribute) → bare v ≡ true → attribute_of v ≡ got a → AttributeBack (part v a.attribute) (maybe_in (part v) a.value)
+pub attribute_back : (v : List ℕ) (a : attribute.Attribute) → bare v ≡ true → attribute_of v ≡ Ok a → AttributeBack (part v a.attribute) (maybe_in (part v) a.value)
 unfolding attribute_from attribute_rest
 attribute_back v a h e =
     gives_got (λ y. AttributeBack y.0 y.1) (attribute_from (cut 0x3a v)) _ (sym (see_attribute v) ∙ ap (map_read (attribute_is v)) e)
@@ -152,26 +150,26 @@ attribute_back v a h e =
     choose None b = (tt, tt)
     choose (Some s) b = go (is_utf8 s) refl
       where
-        go : (t : Bool) → is_utf8 s ≡ t → Gives (λ o. IfGiven (λ r. bare r ≡ true) o × IfGiven (λ r. is_utf8 r ≡ true) o) (map_read Some (cond t (got s) lost))
+        go : (t : Bool) → is_utf8 s ≡ t → Gives (λ o. IfGiven (λ r. bare r ≡ true) o × IfGiven (λ r. is_utf8 r ≡ true) o) (map_read Some (cond t (Ok s) lost))
         go true q = (b, q)
         go false q = tt
 
 -- ---- m: media name, port, proto, fmt
-abbrev num_in : MaybeNumber → Option ℕ
-num_in m = cond m.there (Some m.value) None
-
 -- num-ports behind the slash
-abbrev ports_from : Option (List ℕ) → (MaybeNumber → Read Port) → Read Port
-ports_from None k = k (record { there = false; value = 0 })
-ports_from (Some r) k = port_number 30 (whole_number 16 r) (λ n. k (record { there = true; value = n }))
+abbrev ports_from : Option (List ℕ) → Read (Option ℕ)
+ports_from None = Ok None
+ports_from (Some r) = and_then (port_number 30 (whole_number 16 r)) (λ n. Ok (Some n))
 
-see_ports : (s : List ℕ) → ports_of s ≡ port_number 28 (whole_number 16 (cut 0x2f s).0) (λ port. ports_from (cut 0x2f s).1 (λ num. got (record { port = port; num_ports = num })))
+abbrev ported : ℕ → Option ℕ → Read Port
+ported port num = Ok (record { port = port; num_ports = num })
+
+see_ports : (s : List ℕ) → ports_of s ≡ and_then (port_number 28 (whole_number 16 (cut 0x2f s).0)) (λ port. and_then (ports_from (cut 0x2f s).1) (λ num. ported port num))
 unfolding cut
 see_ports s = go (ltb (index_of 0x2f s) (length s))
   where
     go : (b : Bool)
-        → port_number 28 (whole_number 16 (take (index_of 0x2f s) s)) (λ port. cond b (port_number 30 (whole_number 16 (drop (index_of 0x2f s + 1) s)) (λ n. got (record { port = port; num_ports = record { there = true; value = n } }))) (got (record { port = port; num_ports = record { there = false; value = 0 } })))
-        ≡ port_number 28 (whole_number 16 (take (index_of 0x2f s) s)) (λ port. ports_from (cond b (Some (drop (index_of 0x2f s + 1) s)) None) (λ num. got (record { port = port; num_ports = num })))
+        → and_then (port_number 28 (whole_number 16 (take (index_of 0x2f s) s))) (λ port. and_then (cond b (and_then (port_number 30 (whole_number 16 (drop (index_of 0x2f s + 1) s))) (λ n. Ok (Some n))) (Ok None)) (λ num. ported port num))
+        ≡ and_then (port_number 28 (whole_number 16 (take (index_of 0x2f s) s))) (λ port. and_then (ports_from (cond b (Some (drop (index_of 0x2f s + 1) s)) None)) (λ num. ported port num))
     go true = refl
     go false = refl
 
@@ -179,40 +177,31 @@ see_ports s = go (ltb (index_of 0x2f s) (length s))
 abbrev Ports : ℕ → Option ℕ → Type 0
 Ports port num = (port < 2 ^ 16) × IfGiven (λ n. n < 2 ^ 16) num
 
-gives_port : {A : Type 0} (P : A → Type 0) (w : ℕ) (s : List ℕ) (k : ℕ → Read A) → ((n : ℕ) → n < 2 ^ 16 → Gives P (k n)) → Gives P (port_number w (whole_number 16 s) k)
+gives_port : {A : Type 0} (P : A → Type 0) (w : ℕ) (s : List ℕ) (k : ℕ → Read A) → ((n : ℕ) → n < 2 ^ 16 → Gives P (k n)) → Gives P (and_then (port_number w (whole_number 16 s)) k)
 gives_port P w s k h = go (whole_number 16 s) refl
   where
-    go : (x : Number) → whole_number 16 s ≡ x → Gives P (port_number w x k)
-    go (Value n) q = h n (number_below 16 s n q)
-    go Encoding q = tt
-    go Format q = tt
+    go : (x : Number) → whole_number 16 s ≡ x → Gives P (and_then (port_number w x) k)
+    go (Ok n) q = h n (number_below 16 s n q)
+    go (Err e) q = tt
 
-ports_given : (s : List ℕ) → Gives (λ p. Ports p.port (num_in p.num_ports)) (port_in s)
+ports_given : (s : List ℕ) → Gives (λ p. Ports p.port p.num_ports) (port_in s)
 ports_given s = go (is_utf8 s)
   where
-    num : (port : ℕ) → port < 2 ^ 16 → (o : Option (List ℕ)) → Gives (λ p. Ports p.port (num_in p.num_ports)) (ports_from o (λ num. got (record { port = port; num_ports = num })))
+    num : (port : ℕ) → port < 2 ^ 16 → (o : Option (List ℕ)) → Gives (λ p. Ports p.port p.num_ports) (and_then (ports_from o) (λ num. ported port num))
     num port l None = (l, tt)
-    num port l (Some r) = gives_port _ 30 r _ (λ n h. (l, h))
+    num port l (Some r) = gives_then _ (λ o. IfGiven (λ n. n < 2 ^ 16) o) (ports_from (Some r)) _ (gives_port _ 30 r _ (λ n h. h)) (λ o h. (l, h))
 
-    kept : (r : Read Port) → Gives (λ p. Ports p.port (num_in p.num_ports)) r → Gives (λ p. Ports p.port (num_in p.num_ports)) (map_read (λ p. p) r)
-    kept (got p) g = g
-    kept (refused w) g = tt
+    kept : (r : Read Port) → Gives (λ p. Ports p.port p.num_ports) r → Gives (λ p. Ports p.port p.num_ports) (map_read (λ p. p) r)
+    kept (Ok p) g = g
+    kept (Err w) g = tt
 
-    go : (b : Bool) → Gives (λ p. Ports p.port (num_in p.num_ports)) (cond b (map_read (λ p. p) (ports_of s)) lost)
+    go : (b : Bool) → Gives (λ p. Ports p.port p.num_ports) (cond b (map_read (λ p. p) (ports_of s)) lost)
     go true = kept (ports_of s) (rw (see_ports s) (gives_port _ 28 (cut 0x2f s).0 _ (λ port l. num port l (cut 0x2f s).1)))
     go false = tt
 
 -- what is written of the ports
 abbrev port_text : ℕ → Option ℕ → List ℕ
 port_text port num = digits port ++ optional (λ n. (0x2f ∷ []) ++ digits n) num
-
-abbrev maybe_number : Option ℕ → MaybeNumber
-maybe_number None = record { there = false; value = 0 }
-maybe_number (Some n) = record { there = true; value = n }
-
-same_number : (num : Option ℕ) → num_in (maybe_number num) ≡ num
-same_number None = refl
-same_number (Some n) = refl
 
 -- a test that digits and the slash pass
 ports_pass : (p : ℕ → Bool) → ((v : ℕ) → every p (digits v) ≡ true) → p 0x2f ≡ true → (port : ℕ) (num : Option ℕ) → every p (port_text port num) ≡ true
@@ -224,12 +213,12 @@ ports_cut : (port : ℕ) (num : Option ℕ) → cut 0x2f (port_text port num) �
 ports_cut port None = cut_back 0x2f (digits port) None (digits_lack 0x2f port (λ l g. omega arith))
 ports_cut port (Some n) = cut_back 0x2f (digits port) (Some (digits n)) (digits_lack 0x2f port (λ l g. omega arith))
 
-ports_again : (port : ℕ) (num : Option ℕ) → Ports port num → port_in (port_text port num) ≡ got (record { port = port; num_ports = maybe_number num })
+ports_again : (port : ℕ) (num : Option ℕ) → Ports port num → port_in (port_text port num) ≡ Ok (record { port = port; num_ports = num })
 ports_again port num h =
     rw (ascii_utf8 (port_text port num) (ports_pass (λ b. ltb b 0x80) digits-ascii refl port num), see_ports (port_text port num), ports_cut port num, number_back 16 port h.0)
     (ap (map_read (λ p. p)) (go num h.1))
   where
-    go : (num : Option ℕ) → IfGiven (λ n. n < 2 ^ 16) num → ports_from (option_map digits num) (λ num. got (record { port = port; num_ports = num })) ≡ got (record { port = port; num_ports = maybe_number num })
+    go : (num : Option ℕ) → IfGiven (λ n. n < 2 ^ 16) num → and_then (ports_from (option_map digits num)) (λ num. ported port num) ≡ Ok (record { port = port; num_ports = num })
     go None l = refl
     go (Some n) l = rw (number_back 16 n l)
 
@@ -238,7 +227,7 @@ media_rest name r =
     on_seen (option_map (cut 0x20) r) (λ s r. and_then (port_in s) (λ p.
     on_seen (option_map (cut 0x20) r) (λ s r. and_then (text_in s) (λ proto.
     on_seen (option_map alone r) (λ s u. and_then (text_in s) (λ fmt.
-    got (record { media = name; port = p.port; num_ports = num_in p.num_ports; proto = proto; fmt = fmt; media_title = None; key = None })))))))
+    Ok (record { media = name; port = p.port; num_ports = p.num_ports; proto = proto; fmt = fmt; media_title = None; key = None })))))))
 
 media_from : List ℕ × Option (List ℕ) → Read (Media (List ℕ))
 media_from c = and_then (text_in c.0) (λ name. media_rest name c.1)
@@ -289,16 +278,16 @@ module _ (m : Media (List ℕ)) (a : bare m.media ≡ true) (b : lacks 0x20 m.me
         says =
             see_media _
             ∙ ap media_from (cut_back 0x20 m.media (Some (ports ++ sep_text 0x20 (Some (m.proto ++ sep_text 0x20 (Some m.fmt))))) b)
-            ∙ rw (c, cut_back 0x20 ports (Some (m.proto ++ sep_text 0x20 (Some m.fmt))) (ports_pass (λ b. not (eqb b 0x20)) (λ v. digits_lack 0x20 v (λ l g. omega arith)) refl m.port m.num_ports), ports_again m.port m.num_ports p, cut_back 0x20 m.proto (Some m.fmt) e, f, h, same_number m.num_ports);
+            ∙ rw (c, cut_back 0x20 ports (Some (m.proto ++ sep_text 0x20 (Some m.fmt))) (ports_pass (λ b. not (eqb b 0x20)) (λ v. digits_lack 0x20 v (λ l g. omega arith)) refl m.port m.num_ports), ports_again m.port m.num_ports p, cut_back 0x20 m.proto (Some m.fmt) e, f, h);
         bare = media_bare;
       })
 
-pub media_back : (v : List ℕ) (m : media.Media) → bare v ≡ true → media_of v ≡ got m → MediaBack (media_in (part v) m)
+pub media_back : (v : List ℕ) (m : media.Media) → bare v ≡ true → media_of v ≡ Ok m → MediaBack (media_in (part v) m)
 unfolding media_from media_rest
 media_back v m h e =
     gives_got MediaBack (media_from (cut 0x20 v)) _ (sym (see_media v) ∙ ap (map_read (media_in (part v))) e)
     (gives_test _ is_utf8 (cut 0x20 v).0 _ (λ u.
-    gives_cut _ 0x20 (cut 0x20 v).1 (behind_bare 0x20 v h) _ (λ s r x y z. gives_then _ (λ p. Ports p.port (num_in p.num_ports)) (port_in s) _ (ports_given s) (λ p q.
+    gives_cut _ 0x20 (cut 0x20 v).1 (behind_bare 0x20 v h) _ (λ s r x y z. gives_then _ (λ p. Ports p.port p.num_ports) (port_in s) _ (ports_given s) (λ p q.
     gives_cut _ 0x20 r z _ (λ proto r b l z. gives_test _ is_utf8 proto _ (λ t.
     gives_alone _ 0x20 r z _ (λ fmt c. gives_test _ is_utf8 fmt _ (λ d.
-    media-again (record { media = (cut 0x20 v).0; port = p.port; num_ports = num_in p.num_ports; proto = proto; fmt = fmt; media_title = None; key = None }) (front_bare 0x20 v h) (front_lacks 0x20 v) u q b l t c d))))))))
+    media-again (record { media = (cut 0x20 v).0; port = p.port; num_ports = p.num_ports; proto = proto; fmt = fmt; media_title = None; key = None }) (front_bare 0x20 v h) (front_lacks 0x20 v) u q b l t c d))))))))

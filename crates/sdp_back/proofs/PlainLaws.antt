@@ -12,7 +12,7 @@ use Rattle.sdp_lines.specs.Lines.{Raw, onto, split, content, width, has_nul_or_c
 use Rattle.std.specs.Prelude.{Some, None, Ok, Err}
 use Rattle.sdp_lines.specs.declared.Fault.TheVariants.{NulOrCr}
 use Rattle.sdp_split.specs.Split.{part}
-use Rattle.sdp_judge.specs.Read.{Read, got, refused, whole_of}
+use Rattle.sdp_judge.specs.Read.{Read, whole_of}
 use Rattle.sdp_fields.specs.Records.{origin_of, connection_of, bandwidth_of, times_of, attribute_of}
 use Rattle.sdp_media_line.specs.MediaLine.{media_of}
 use Rattle.sdp_lists.specs.Lists.{RepeatLine, repeat_of, zones_of}
@@ -98,8 +98,8 @@ module _ (ρ : Reading (List ℕ)) (v : List ℕ) (b : bare v ≡ true) (h : Pla
   last_goes g keep = on Kept _ (medias-plain _ (each_last MediaPlain g keep ρ.session.tables.medias T.medias))
 
   repeat-plain : (r : Read RepeatLine) → Going Kept (repeated (part v) ρ v r)
-  repeat-plain (refused w) = off Kept _
-  repeat-plain (got r) =
+  repeat-plain (Err w) = off Kept _
+  repeat-plain (Ok r) =
       past-cond Kept (ltb (length ρ.session.tables.repeats) 64) _ _
       (past-cond Kept (leb (length ρ.session.tables.offsets + length r.offsets) 256) _ _ (on Kept _ (times-plain _ _ _ _)) (off Kept _)) (off Kept _)
 

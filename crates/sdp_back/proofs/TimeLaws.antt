@@ -9,7 +9,7 @@ use Rattle.sdp_number.specs.Number.{whole_number}
 use Rattle.sdp_split.specs.Split.{part, words, next_word, later}
 use Rattle.sdp_split.specs.declared.Piece.{Piece}
 use Rattle.sdp_judge.specs.Read as judge
-use Rattle.sdp_judge.specs.Read.{Read, got, refused, and_then}
+use Rattle.sdp_judge.specs.Read.{Read, and_then}
 use Rattle.sdp_fields.specs.Records as records
 use Rattle.sdp_fields.specs.Records.{times_of}
 use Rattle.sdp_lists.specs.Lists as lists
@@ -28,13 +28,14 @@ use Rattle.sdp_put.proofs.ByteLaws.{every, bare}
 use Rattle.sdp_back.proofs.NumberLaws.{number_back, time_back, offset_back}
 use Rattle.sdp_back.proofs.WordLaws.{Word, spell, tails, joined_bare, words_back, digits_word, time_word}
 use Rattle.sdp_back.proofs.FieldLaws.{Backs, map_read, on_seen, unseen, first, amount_in, see_number, see_end, see_next}
+use Rattle.std.specs.Prelude.{Ok, Err}
 
 -- ---- t
 times_from : List (List ℕ) → Read Time
 times_from ws =
     on_seen (first ws) (λ s ws. and_then (amount_in (whole_number 64 s)) (λ start.
     on_seen (first ws) (λ s ws. and_then (amount_in (whole_number 64 s)) (λ stop.
-    unseen (first ws) (got (record { start_time = start; stop_time = stop }))))))
+    unseen (first ws) (Ok (record { start_time = start; stop_time = stop }))))))
 
 see_times : (v : List ℕ) → map_read time_in (times_of v) ≡ times_from (spell v)
 unfolding times_from records.times_of judge.next_number
@@ -42,7 +43,7 @@ see_times v =
     let ws = words v in
     see_number _ 15 v _ (next_word ws) _ (see_next v ws) _ _ (λ start e.
     see_number _ 16 v _ (next_word (later ws)) _ (see_next v (later ws)) _ _ (λ stop e.
-    see_end _ 17 v _ (next_word (later (later ws))) _ (see_next v (later (later ws))) (got _)))
+    see_end _ 17 v _ (next_word (later (later ws))) _ (see_next v (later (later ws))) (Ok _)))
 
 pub time_line_back : (t : Time) → FitTime t → Backs times_of (λ v. time_in) (time_value t) t
 unfolding times_from tails
@@ -55,7 +56,7 @@ time_line_back t f =
 -- ---- r
 -- words that spell times
 module _ (v : List ℕ) where
-  offsets_back : (ws : List Piece) (ns : List ℕ) → map (part v) ws ≡ map time_text ns → Each (λ n. n < 2 ^ 64) ns → offsets_of v ws ≡ got ns
+  offsets_back : (ws : List Piece) (ns : List ℕ) → map (part v) ws ≡ map time_text ns → Each (λ n. n < 2 ^ 64) ns → offsets_of v ws ≡ Ok ns
   unfolding lists.offsets_of
   offsets_back [] [] e h = refl
   offsets_back [] (n ∷ ns) e h = absurd (let z : ◌≡◌ {A = ℕ} 0 1 = cc in omega arith)
@@ -66,7 +67,7 @@ module _ (v : List ℕ) where
       rw (x, time_back n h.0, offsets_back ws ns y h.1)
 
   repeat_back : (ws : List Piece) (interval duration : ℕ) (ns : List ℕ) → words v ≡ ws → map (part v) ws ≡ time_text interval ∷ time_text duration ∷ map time_text ns
-      → interval < 2 ^ 64 → duration < 2 ^ 64 → Each (λ n. n < 2 ^ 64) ns → repeat_of v ≡ got (record { interval = interval; duration = duration; offsets = ns })
+      → interval < 2 ^ 64 → duration < 2 ^ 64 → Each (λ n. n < 2 ^ 64) ns → repeat_of v ≡ Ok (record { interval = interval; duration = duration; offsets = ns })
   unfolding lists.repeat_of judge.next_time
   repeat_back [] interval duration ns q e a b h = absurd (let z : ◌≡◌ {A = ℕ} 0 1 = cc in omega arith)
   repeat_back (p ∷ []) interval duration ns q e a b h = absurd (let z : ◌≡◌ {A = ℕ} 0 1 = cc in omega arith)
@@ -85,7 +86,7 @@ abbrev pub repeat_value : ℕ → ℕ → List ℕ → List ℕ
 repeat_value interval duration ns = time_text interval ++ tails (time_text duration ∷ map time_text ns)
 
 pub repeat_line_back : (interval duration : ℕ) (ns : List ℕ) → interval < 2 ^ 64 → duration < 2 ^ 64 → Each (λ n. n < 2 ^ 64) ns
-    → (repeat_of (repeat_value interval duration ns) ≡ got (record { interval = interval; duration = duration; offsets = ns })) × (bare (repeat_value interval duration ns) ≡ true)
+    → (repeat_of (repeat_value interval duration ns) ≡ Ok (record { interval = interval; duration = duration; offsets = ns })) × (bare (repeat_value interval duration ns) ≡ true)
 repeat_line_back interval duration ns a b h =
     let w : Each Word (time_text duration ∷ map time_text ns) = (time_word duration, times_words ns) in (
       repeat_back (repeat_value interval duration ns) _ interval duration ns refl (words_back (time_text interval) (time_text duration ∷ map time_text ns) (time_word interval) w) a b h,
@@ -109,7 +110,7 @@ pairs-words : (zs : List Zone) → Each Word (pair_words zs)
 pairs-words [] = tt
 pairs-words (z ∷ zs) = (digits_word z.adjustment_time, (signed_word z.offset, pairs-words zs))
 
-pairs_back : (v : List ℕ) (ws : List Piece) (zs : List Zone) → map (part v) ws ≡ pair_words zs → Each FitZone zs → map_read (map zone_in) (pairs_of v ws) ≡ got zs
+pairs_back : (v : List ℕ) (ws : List Piece) (zs : List Zone) → map (part v) ws ≡ pair_words zs → Each FitZone zs → map_read (map zone_in) (pairs_of v ws) ≡ Ok zs
 unfolding lists.pairs_of
 pairs_back v [] [] e h = refl
 pairs_back v [] (z ∷ zs) e h = absurd (let z : ◌≡◌ {A = ℕ} 0 1 = cc in omega arith)
@@ -121,9 +122,9 @@ pairs_back v (a ∷ o ∷ ws) (z ∷ zs) e h =
     let r : map (part v) ws ≡ pair_words zs = cc in
     rw (x, number_back 64 z.adjustment_time h.0.adjustment_time, y, offset_back z.offset h.0.offset) (go (pairs_of v ws) (pairs_back v ws zs r h.1))
   where
-    go : (r : Read (List zone.Zone)) → map_read (map zone_in) r ≡ got zs → map_read (map zone_in) (and_then r (λ zs. got (record { adjustment_time = z.adjustment_time; offset = z.offset } ∷ zs))) ≡ got (z ∷ zs)
-    go (got ys) e = let q : map zone_in ys ≡ zs = cc in ap (λ xs. got (z ∷ xs)) q
-    go (refused w) e = absurd (let q : ◌≡◌ {A = ℕ} 0 1 = cc in omega arith)
+    go : (r : Read (List zone.Zone)) → map_read (map zone_in) r ≡ Ok zs → map_read (map zone_in) (and_then r (λ zs. Ok (record { adjustment_time = z.adjustment_time; offset = z.offset } ∷ zs))) ≡ Ok (z ∷ zs)
+    go (Ok ys) e = let q : map zone_in ys ≡ zs = cc in ap (λ xs. Ok (z ∷ xs)) q
+    go (Err w) e = absurd (let q : ◌≡◌ {A = ℕ} 0 1 = cc in omega arith)
 
 -- the pairs after the first have a space before them
 later-text : (k : ℕ) (zs : List Zone) → 1 < k → each zone_text k zs ≡ tails (pair_words zs)

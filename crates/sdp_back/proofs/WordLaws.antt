@@ -14,7 +14,6 @@ use Rattle.sdp_bytes.specs.Runs.{index_of}
 use Rattle.sdp_bytes.proofs.ScanLaws.{and_left, and_right}
 use Rattle.sdp_split.specs.Split as split
 use Rattle.sdp_split.specs.Split.{part, spaces, words_from, words_at, words, word_at}
-use Rattle.sdp_split.specs.declared.Field.TheVariants.{Got}
 use Rattle.sdp_split.proofs.WordLaws.{word_here, word_next}
 use Rattle.sdp_put.specs.Strings.{dropped}
 use Rattle.sdp_put.specs.Digits.{digits, time_text}
@@ -98,7 +97,7 @@ word_first (b ∷ y) r w e =
     let x : List ℕ = b ∷ y in
     let s : spaces (x ++ r) ≡ 0 = rw (not-true (eqb b 0x20) (and_left (not (eqb b 0x20)) _ w.whole)) in
     let i : index_of 0x20 (x ++ r) ≡ length x = index_append 0x20 x r w.whole ∙ (let z : length x + index_of 0x20 r ≡ length x = omega arith in z) in
-    let f : word_at (x ++ r) 0 ≡ Got (record { at = 0; len = length x }) (0 + length x) = sym (word_here (x ++ r) 0 0 (sym s) (omega (arith, length-append x r))) ∙ rw i in
+    let f : word_at (x ++ r) 0 ≡ Some (record { at = 0; len = length x }, 0 + length x) = sym (word_here (x ++ r) 0 0 (sym s) (omega (arith, length-append x r))) ∙ rw i in
     let t : take (length x) (x ++ r) ≡ x = take_at x r (length x) refl in
     let d : drop (0 + length x) (x ++ r) ≡ r = drop_at x r (0 + length x) (omega arith) in
     let w = ap (map (part (x ++ r))) (word_next (x ++ r) 0 _ _ f).0 in

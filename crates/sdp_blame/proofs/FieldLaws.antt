@@ -8,22 +8,17 @@ use mathlib.Core.List.{List}
 use Rattle.sdp_bytes.specs.Token.{is_token}
 use Rattle.sdp_utf8.specs.Utf8.{is_utf8}
 use Rattle.sdp_utf8.proofs.TokenLaws.{token_utf8}
-use Rattle.sdp_number.specs.Number.{whole_number, typed_time}
-use Rattle.sdp_number.specs.declared.Number.{Number}
-use Rattle.sdp_number.specs.declared.Number.TheVariants.{Value, Encoding, Format}
-use Rattle.sdp_split.specs.Split.{part}
+use Rattle.sdp_number.specs.Number.{Number, whole_number, typed_time}
+use Rattle.sdp_number.specs.declared.NumberError.TheVariants.{Encoding, Format}
+use Rattle.sdp_split.specs.Split.{Field, part}
 use Rattle.sdp_split.specs.declared.Piece.{Piece}
-use Rattle.sdp_split.specs.declared.Field.{Field}
-use Rattle.sdp_split.specs.declared.Field.TheVariants as field
-use Rattle.sdp_judge.specs.Read.{Read, got, refused, plain, encoding, text_of, token_of, amount_of, number_of, time_of, choice_of, absent, and_then, after_text, after_amount, after_choice, ending}
-use Rattle.sdp_judge.specs.declared.MaybePiece.{MaybePiece}
-use Rattle.sdp_judge.specs.declared.Text.TheVariants as text
-use Rattle.sdp_judge.specs.declared.Choice.TheVariants as choice
+use Rattle.sdp_judge.specs.Read.{Read, plain, encoding, text_of, token_of, amount_of, number_of, time_of, choice_of, and_then, after, ending}
 use Rattle.sdp_lists.specs.Lists.{numbered}
 use Rattle.sdp_blame.specs.Field.{FieldOf}
 use Rattle.sdp_blame.specs.Blame.{Blames}
 use Rattle.sdp_blame.proofs.NumberLaws.{Honest, number_honest, time_honest}
 use Rattle.sdp_blame.proofs.ValueLaws.{Stands, value_end}
+use Rattle.std.specs.Prelude.{Option, Some, None, Ok, Err}
 
 -- a piece of v that is its field w behind the letter l, and where it stands
 pub record Known (l : ℕ) (v : List ℕ) (w : ℕ) (p : Piece) : Type 0 where
@@ -44,12 +39,12 @@ module _ (l : ℕ) (v : List ℕ) where
 
   -- a refusal blames as it should
   abbrev pub Fair : {A : Type 0} → Read A → Type 0
-  Fair (got a) = Unit {0}
-  Fair (refused w) = Blames l v w
+  Fair (Ok a) = Unit {0}
+  Fair (Err w) = Blames l v w
 
   -- a field is the field w of v
   abbrev pub Knows : ℕ → Field → Type 0
-  Knows w f = (p : Piece) (e : ℕ) → f ≡ field.Got p e → Known l v w p
+  Knows w f = (p : Piece) (e : ℕ) → f ≡ Some (p, e) → Known l v w p
 
   module _ {A : Type 0} where
     pub fair_cond : (b : Bool) (r s : Read A) → (b ≡ true → Fair r) → (b ≡ false → Fair s) → Fair (cond b r s)
@@ -57,53 +52,53 @@ module _ (l : ℕ) (v : List ℕ) where
     fair_cond false r s h k = k refl
 
     pub fair_then : {B : Type 0} (r : Read B) → Fair r → (k : B → Read A) → ((b : B) → Fair (k b)) → Fair (and_then r k)
-    fair_then (got b) g k h = h b
-    fair_then (refused x) g k h = g
+    fair_then (Ok b) g k h = h b
+    fair_then (Err x) g k h = g
 
     pub fair_end : (w : ℕ) (f : Field) (r : Read A) → Fair r → Fair (ending w f r)
-    fair_end w (field.Got p e) r h = plain_blames 11 w (λ e. omega arith)
-    fair_end w field.Nothing r h = h
+    fair_end w (Some (p, e)) r h = plain_blames 11 w (λ e. omega arith)
+    fair_end w None r h = h
 
-    pub fair_text : (w : ℕ) (f : Field) → Knows w f → (k : Piece → ℕ → Read A) → ((p : Piece) (e : ℕ) → f ≡ field.Got p e → is_utf8 (part v p) ≡ true → Fair (k p e)) → Fair (after_text (text_of w v f) k)
-    fair_text w field.Nothing g k h = plain_blames 10 w (λ e. omega arith)
-    fair_text w (field.Got p e) g k h = go (is_utf8 (part v p)) refl
+    pub fair_text : (w : ℕ) (f : Field) → Knows w f → (k : Piece → ℕ → Read A) → ((p : Piece) (e : ℕ) → f ≡ Some (p, e) → is_utf8 (part v p) ≡ true → Fair (k p e)) → Fair (after (text_of w v f) k)
+    fair_text w None g k h = plain_blames 10 w (λ e. omega arith)
+    fair_text w (Some (p, e)) g k h = go (is_utf8 (part v p)) refl
       where
-        go : (b : Bool) → is_utf8 (part v p) ≡ b → Fair (after_text (cond b (text.Got p e) (text.Refused (encoding w v p))) k)
+        go : (b : Bool) → is_utf8 (part v p) ≡ b → Fair (after (cond b (Ok (p, e)) (Err (encoding w v p))) k)
         go true q = h p e refl q
         go false q = byte_blames w p (g p e refl) q
 
-    pub fair_token : (w : ℕ) (f : Field) (k : Piece → ℕ → Read A) → ((p : Piece) (e : ℕ) → f ≡ field.Got p e → is_utf8 (part v p) ≡ true → Fair (k p e)) → Fair (after_text (token_of w v f) k)
-    fair_token w field.Nothing k h = plain_blames 10 w (λ e. omega arith)
-    fair_token w (field.Got p e) k h = go (is_token (part v p)) refl
+    pub fair_token : (w : ℕ) (f : Field) (k : Piece → ℕ → Read A) → ((p : Piece) (e : ℕ) → f ≡ Some (p, e) → is_utf8 (part v p) ≡ true → Fair (k p e)) → Fair (after (token_of w v f) k)
+    fair_token w None k h = plain_blames 10 w (λ e. omega arith)
+    fair_token w (Some (p, e)) k h = go (is_token (part v p)) refl
       where
-        go : (b : Bool) → is_token (part v p) ≡ b → Fair (after_text (cond b (text.Got p e) (text.Refused (plain 9 w))) k)
+        go : (b : Bool) → is_token (part v p) ≡ b → Fair (after (cond b (Ok (p, e)) (Err (plain 9 w))) k)
         go true q = h p e refl (token_utf8 (part v p) q)
         go false q = plain_blames 9 w (λ e. omega arith)
 
-    pub fair_choice : (w : ℕ) (f : Field) → Knows w f → (k : MaybePiece → Read A) → ((m : MaybePiece) → Fair (k m)) → Fair (after_choice (choice_of w v f) k)
-    fair_choice w field.Nothing g k h = h absent
-    fair_choice w (field.Got p e) g k h = go (is_utf8 (part v p)) refl
+    pub fair_choice : (w : ℕ) (f : Field) → Knows w f → (k : Option Piece → Read A) → ((m : Option Piece) → Fair (k m)) → Fair (and_then (choice_of w v f) k)
+    fair_choice w None g k h = h None
+    fair_choice w (Some (p, e)) g k h = go (is_utf8 (part v p)) refl
       where
-        go : (b : Bool) → is_utf8 (part v p) ≡ b → Fair (after_choice (cond b (choice.Got (record { there = true; piece = p })) (choice.Refused (encoding w v p))) k)
-        go true q = h (record { there = true; piece = p })
+        go : (b : Bool) → is_utf8 (part v p) ≡ b → Fair (and_then (cond b (Ok (Some p)) (Err (encoding w v p))) k)
+        go true q = h (Some p)
         go false q = byte_blames w p (g p e refl) q
 
     -- a number that a rule reads in the field p
-    fair_amount : (rule : List ℕ → Number) → Honest rule → (w : ℕ) (p : Piece) (e : ℕ) → Known l v w p → (k : ℕ → ℕ → Read A) → ((n : ℕ) → is_utf8 (part v p) ≡ true → Fair (k n e)) → Fair (after_amount (amount_of w v p e (rule (part v p))) k)
+    fair_amount : (rule : List ℕ → Number) → Honest rule → (w : ℕ) (p : Piece) (e : ℕ) → Known l v w p → (k : ℕ → ℕ → Read A) → ((n : ℕ) → is_utf8 (part v p) ≡ true → Fair (k n e)) → Fair (after (amount_of w v p e (rule (part v p))) k)
     fair_amount rule honest w p e g k h = go (rule (part v p)) refl
       where
-        go : (x : Number) → rule (part v p) ≡ x → Fair (after_amount (amount_of w v p e x) k)
-        go (Value n) q = h n (honest.good (part v p) n q)
-        go Encoding q = byte_blames w p g (honest.bad (part v p) q)
-        go Format q = plain_blames 9 w (λ e. omega arith)
+        go : (x : Number) → rule (part v p) ≡ x → Fair (after (amount_of w v p e x) k)
+        go (Ok n) q = h n (honest.good (part v p) n q)
+        go (Err Encoding) q = byte_blames w p g (honest.bad (part v p) q)
+        go (Err Format) q = plain_blames 9 w (λ e. omega arith)
 
-    pub fair_number : (w : ℕ) (f : Field) → Knows w f → (k : ℕ → ℕ → Read A) → ((n e : ℕ) (p : Piece) → f ≡ field.Got p e → is_utf8 (part v p) ≡ true → Fair (k n e)) → Fair (after_amount (number_of w v f) k)
-    fair_number w field.Nothing g k h = plain_blames 10 w (λ e. omega arith)
-    fair_number w (field.Got p e) g k h = fair_amount (whole_number 64) (number_honest 64) w p e (g p e refl) k (λ n. h n e p refl)
+    pub fair_number : (w : ℕ) (f : Field) → Knows w f → (k : ℕ → ℕ → Read A) → ((n e : ℕ) (p : Piece) → f ≡ Some (p, e) → is_utf8 (part v p) ≡ true → Fair (k n e)) → Fair (after (number_of w v f) k)
+    fair_number w None g k h = plain_blames 10 w (λ e. omega arith)
+    fair_number w (Some (p, e)) g k h = fair_amount (whole_number 64) (number_honest 64) w p e (g p e refl) k (λ n. h n e p refl)
 
-    pub fair_time : (w : ℕ) (f : Field) → Knows w f → (k : ℕ → ℕ → Read A) → ((n e : ℕ) (p : Piece) → f ≡ field.Got p e → is_utf8 (part v p) ≡ true → Fair (k n e)) → Fair (after_amount (time_of w v f) k)
-    fair_time w field.Nothing g k h = plain_blames 10 w (λ e. omega arith)
-    fair_time w (field.Got p e) g k h = fair_amount typed_time time_honest w p e (g p e refl) k (λ n. h n e p refl)
+    pub fair_time : (w : ℕ) (f : Field) → Knows w f → (k : ℕ → ℕ → Read A) → ((n e : ℕ) (p : Piece) → f ≡ Some (p, e) → is_utf8 (part v p) ≡ true → Fair (k n e)) → Fair (after (time_of w v f) k)
+    fair_time w None g k h = plain_blames 10 w (λ e. omega arith)
+    fair_time w (Some (p, e)) g k h = fair_amount typed_time time_honest w p e (g p e refl) k (λ n. h n e p refl)
 
     -- the same of a word of a list
     pub fair_numbered : (rule : List ℕ → Number) → Honest rule → (w : ℕ) (p : Piece) → Known l v w p → (k : ℕ → Read A) → ((n : ℕ) → is_utf8 (part v p) ≡ true → Fair (k n))
@@ -111,6 +106,6 @@ module _ (l : ℕ) (v : List ℕ) where
     fair_numbered rule honest w p g k h = go (rule (part v p)) refl
       where
         go : (x : Number) → rule (part v p) ≡ x → Fair (and_then (numbered w v p x) k)
-        go (Value n) q = h n (honest.good (part v p) n q)
-        go Encoding q = byte_blames w p g (honest.bad (part v p) q)
-        go Format q = plain_blames 9 w (λ e. omega arith)
+        go (Ok n) q = h n (honest.good (part v p) n q)
+        go (Err Encoding) q = byte_blames w p g (honest.bad (part v p) q)
+        go (Err Format) q = plain_blames 9 w (λ e. omega arith)

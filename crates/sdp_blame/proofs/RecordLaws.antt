@@ -10,20 +10,17 @@ use lib.ListN.{length, take, drop}
 use lib.Seq.{take-length}
 use Rattle.sdp_bytes.specs.Runs.{index_of}
 use Rattle.sdp_utf8.specs.Utf8.{is_utf8}
-use Rattle.sdp_number.specs.Number.{whole_number, typed_time}
-use Rattle.sdp_number.specs.declared.Number.{Number}
-use Rattle.sdp_number.specs.declared.Number.TheVariants.{Value, Encoding, Format}
-use Rattle.sdp_split.specs.Split.{part, words, next_word, later, first_piece, piece_after, rest_after}
+use Rattle.sdp_number.specs.Number.{Number, whole_number, typed_time}
+use Rattle.sdp_number.specs.declared.NumberError.TheVariants.{Encoding, Format}
+use Rattle.sdp_split.specs.Split.{Field, part, words, next_word, later, first_piece, piece_after, rest_after}
 use Rattle.sdp_split.specs.declared.Piece.{Piece}
-use Rattle.sdp_split.specs.declared.Field.{Field}
-use Rattle.sdp_split.specs.declared.Field.TheVariants as field
 use Rattle.sdp_judge.specs.Read as judge
-use Rattle.sdp_judge.specs.Read.{Read, got, refused, encoding, and_then, entire, whole_of}
+use Rattle.sdp_judge.specs.Read.{Read, encoding, and_then, after, entire, whole_of}
 use Rattle.sdp_judge.specs.Offset.{zone_offset}
 use Rattle.sdp_fields.specs.Records as records
 use Rattle.sdp_fields.specs.Records.{address_of, origin_of, connection_of, bandwidth_of, times_of, attribute_of}
 use Rattle.sdp_media_line.specs.MediaLine as line
-use Rattle.sdp_media_line.specs.MediaLine.{port_number, ports_of, after_port, media_of}
+use Rattle.sdp_media_line.specs.MediaLine.{port_number, num_ports, ports_of, port_field, media_of}
 use Rattle.sdp_media_line.specs.declared.Port.{Port}
 use Rattle.sdp_lists.specs.Lists as lists
 use Rattle.sdp_lists.specs.Lists.{offsets_of, repeat_of, pairs_of, zones_of}
@@ -32,6 +29,7 @@ use Rattle.sdp_blame.specs.Field.{word_of, FieldOf}
 use Rattle.sdp_blame.proofs.NumberLaws.{number_honest, time_honest, offset_honest}
 use Rattle.sdp_blame.proofs.ValueLaws.{Stands, Past, past_field, entire_stands, first_stands, after_stands, rest_stands, Ready, words_ready, word_stands, later_ready}
 use Rattle.sdp_blame.proofs.FieldLaws.{plain_blames, byte_blames, Fair, Knows, fair_cond, fair_then, fair_end, fair_text, fair_token, fair_choice, fair_number, fair_time, fair_numbered}
+use Rattle.std.specs.Prelude.{Some, None, Ok, Err}
 
 -- ---- a value that is one field
 pub whole_fair : (l w : ℕ) (v : List ℕ) → FieldOf v l w (entire v) → Fair l v (whole_of w v)
@@ -43,18 +41,18 @@ whole_fair l w v h =
 -- ---- words
 module _ (v : List ℕ) where
   -- the next word is known
-  word_known : (l : ℕ) (ws : List Piece) → Ready v ws → (w : ℕ) → ((p : Piece) (e : ℕ) → next_word ws ≡ field.Got p e → FieldOf v l w p) → Knows l v w (next_word ws)
+  word_known : (l : ℕ) (ws : List Piece) → Ready v ws → (w : ℕ) → ((p : Piece) (e : ℕ) → next_word ws ≡ Some (p, e) → FieldOf v l w p) → Knows l v w (next_word ws)
   word_known l ws r w h p e q = record { field = h p e q; stands = word_stands v ws r p e q }
 
   -- how o and c end: only the address can be refused with 8
-  address_fair : (l w : ℕ) (ws : List Piece) → Ready v ws → ((p : Piece) (e : ℕ) → word_of 2 ws ≡ field.Got p e → FieldOf v l (w + 2) p) → Fair l v (address_of w v ws)
+  address_fair : (l w : ℕ) (ws : List Piece) → Ready v ws → ((p : Piece) (e : ℕ) → word_of 2 ws ≡ Some (p, e) → FieldOf v l (w + 2) p) → Fair l v (address_of w v ws)
   unfolding records.address_of judge.next_token judge.next_text
   address_fair l w ws r h =
       fair_token l v w (next_word ws) _ (λ net i n t.
       let r₁ = later_ready v ws r net i n t in
       fair_token l v (w + 1) (next_word (later ws)) _ (λ kind j k t.
       fair_text l v (w + 2) (next_word (later (later ws))) (word_known l (later (later ws)) (later_ready v (later ws) r₁ kind j k t) (w + 2) h) _ (λ address e q t.
-      fair_end l v (w + 3) (next_word (later (later (later ws)))) (got _) tt)))
+      fair_end l v (w + 3) (next_word (later (later (later ws)))) (Ok _) tt)))
 
   pub connection_fair : Fair 0x63 v (connection_of v)
   unfolding records.connection_of
@@ -78,10 +76,10 @@ module _ (v : List ℕ) where
       let ws = words v in
       fair_number 0x74 v 15 (next_word ws) (word_known 0x74 ws (words_ready v) 15 (λ p e q. fields.time 0 p e (omega arith) q)) _ (λ start i p q t.
       fair_number 0x74 v 16 (next_word (later ws)) (word_known 0x74 (later ws) (later_ready v ws (words_ready v) p i q t) 16 (λ p e q. fields.time 1 p e (omega arith) q)) _ (λ stop e p q t.
-      fair_end 0x74 v 17 (next_word (later (later ws))) (got _) tt))
+      fair_end 0x74 v 17 (next_word (later (later ws))) (Ok _) tt))
 
   -- ---- lists of words
-  offsets_fair : (ws : List Piece) → Ready v ws → ((k : ℕ) (p : Piece) (e : ℕ) → word_of k ws ≡ field.Got p e → FieldOf v 0x72 20 p) → Fair 0x72 v (offsets_of v ws)
+  offsets_fair : (ws : List Piece) → Ready v ws → ((k : ℕ) (p : Piece) (e : ℕ) → word_of k ws ≡ Some (p, e) → FieldOf v 0x72 20 p) → Fair 0x72 v (offsets_of v ws)
   unfolding lists.offsets_of
   offsets_fair [] r h = tt
   offsets_fair (p ∷ ws) r h =
@@ -97,8 +95,8 @@ module _ (v : List ℕ) where
       fair_time 0x72 v 19 (next_word (later ws)) (word_known 0x72 (later ws) r₁ 19 (λ p e q. fields.repeat 1 p e (omega arith) q)) _ (λ duration e p q t.
       fair_then 0x72 v (offsets_of v (later (later ws))) (offsets_fair (later (later ws)) (later_ready v (later ws) r₁ p e q t) fields.offset) _ (λ os. tt)))
 
-  pairs_fair : (ws : List Piece) → Ready v ws → ((k : ℕ) (p : Piece) (e : ℕ) → word_of (k + k) ws ≡ field.Got p e → FieldOf v 0x7a 21 p)
-      → ((k : ℕ) (p : Piece) (e : ℕ) → word_of (suc (k + k)) ws ≡ field.Got p e → FieldOf v 0x7a 22 p) → Fair 0x7a v (pairs_of v ws)
+  pairs_fair : (ws : List Piece) → Ready v ws → ((k : ℕ) (p : Piece) (e : ℕ) → word_of (k + k) ws ≡ Some (p, e) → FieldOf v 0x7a 21 p)
+      → ((k : ℕ) (p : Piece) (e : ℕ) → word_of (suc (k + k)) ws ≡ Some (p, e) → FieldOf v 0x7a 22 p) → Fair 0x7a v (pairs_of v ws)
   unfolding lists.pairs_of
   pairs_fair [] r h g = tt
   pairs_fair (a ∷ []) r h g =
@@ -135,7 +133,7 @@ module _ (v : List ℕ) where
       fair_text 0x62 v 12 (first_piece colon v) (λ p e q. record { field = fields.bwtype p e q; stands = (first_stands colon (omega arith) v p e q).0 }) _ (λ kind i k t.
       let b = behind kind i (first_stands colon (omega arith) v kind i k) t in
       fair_number 0x62 v 13 (piece_after colon v i) (λ p e q. record { field = fields.bandwidth kind p i e k q; stands = (after_stands colon (omega arith) v i b p e q).0 }) _ (λ n e p q t.
-      fair_end 0x62 v 14 (piece_after colon v e) (got _) tt))
+      fair_end 0x62 v 14 (piece_after colon v e) (Ok _) tt))
 
   pub attribute_fair : Fair 0x61 v (attribute_of v)
   unfolding records.attribute_of
@@ -145,25 +143,29 @@ module _ (v : List ℕ) where
       fair_choice 0x61 v 24 (rest_after v i) (λ p e q. record { field = fields.value name p i e n q; stands = rest_stands v i b p e q }) _ (λ value. tt))
 
   -- a number of the port's field, which is UTF-8, is never refused with 8
-  port_number_lem : {A : Type 0} (w : ℕ) (x : Number) (k : ℕ → Read A) → ((n : ℕ) → Fair 0x6d v (k n)) → Fair 0x6d v (port_number w x k)
-  port_number_lem w (Value n) k h = h n
-  port_number_lem w Encoding k h = plain_blames 0x6d v 9 w (λ e. omega arith)
-  port_number_lem w Format k h = plain_blames 0x6d v 9 w (λ e. omega arith)
+  port_number_lem : {A : Type 0} (w : ℕ) (x : Number) (k : ℕ → Read A) → ((n : ℕ) → Fair 0x6d v (k n)) → Fair 0x6d v (and_then (port_number w x) k)
+  port_number_lem w (Ok n) k h = h n
+  port_number_lem w (Err x) k h = plain_blames 0x6d v 9 w (λ e. omega arith)
 
   ports_fair : (s : List ℕ) → Fair 0x6d v (ports_of s)
   ports_fair s =
       port_number_lem 28 (whole_number 16 (take (index_of 0x2f s) s)) _ (λ port.
-      fair_cond 0x6d v (ltb (index_of 0x2f s) (length s)) _ (got _)
-      (λ q. port_number_lem 30 (whole_number 16 (drop (index_of 0x2f s + 1) s)) _ (λ n. tt)) (λ q. tt))
+      fair_then 0x6d v (num_ports s (index_of 0x2f s))
+      (fair_cond 0x6d v (ltb (index_of 0x2f s) (length s)) _ (Ok _)
+      (λ q. port_number_lem 30 (whole_number 16 (drop (index_of 0x2f s + 1) s)) _ (λ n. tt)) (λ q. tt)) _ (λ num. tt))
 
-  after-port : {A : Type 0} (f : Field) → Knows 0x6d v 29 f → (k : Port → ℕ → Read A) → ((port : Port) (p : Piece) (e : ℕ) → f ≡ field.Got p e → is_utf8 (part v p) ≡ true → Fair 0x6d v (k port e))
-      → Fair 0x6d v (after_port v f k)
+  after-port : {A : Type 0} (f : Field) → Knows 0x6d v 29 f → (k : Port → ℕ → Read A) → ((port : Port) (p : Piece) (e : ℕ) → f ≡ Some (p, e) → is_utf8 (part v p) ≡ true → Fair 0x6d v (k port e))
+      → Fair 0x6d v (after (port_field v f) k)
   unfolding line.port_of
-  after-port field.Nothing g k h = plain_blames 0x6d v 10 28 (λ e. omega arith)
-  after-port (field.Got p e) g k h = go (is_utf8 (part v p)) refl
+  after-port None g k h = plain_blames 0x6d v 10 28 (λ e. omega arith)
+  after-port (Some (p, e)) g k h = go (is_utf8 (part v p)) refl
     where
-      go : (b : Bool) → is_utf8 (part v p) ≡ b → Fair 0x6d v (and_then (cond b (ports_of (part v p)) (refused (encoding 29 v p))) (λ port. k port e))
-      go true t = fair_then 0x6d v (ports_of (part v p)) (ports_fair (part v p)) _ (λ port. h port p e refl t)
+      read : is_utf8 (part v p) ≡ true → (r : Read Port) → Fair 0x6d v r → Fair 0x6d v (after (and_then r (λ port. Ok (port, e))) k)
+      read t (Ok port) g = h port p e refl t
+      read t (Err w) g = g
+
+      go : (b : Bool) → is_utf8 (part v p) ≡ b → Fair 0x6d v (after (and_then (cond b (ports_of (part v p)) (Err (encoding 29 v p))) (λ port. Ok (port, e))) k)
+      go true t = read t (ports_of (part v p)) (ports_fair (part v p))
       go false t = byte_blames 0x6d v 29 p (g p e refl) t
 
   abbrev space : ℕ

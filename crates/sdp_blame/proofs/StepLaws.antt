@@ -9,7 +9,7 @@ use mathlib.Core.List.{List}
 use lib.Dec.{ltb, leb, eqb}
 use lib.ListN.{length}
 use Rattle.sdp_split.specs.declared.Piece.{Piece}
-use Rattle.sdp_judge.specs.Read.{Read, got, refused, whole_of}
+use Rattle.sdp_judge.specs.Read.{Read, whole_of}
 use Rattle.sdp_fields.specs.Records.{origin_of, connection_of, bandwidth_of, times_of, attribute_of}
 use Rattle.sdp_media_line.specs.MediaLine.{media_of}
 use Rattle.sdp_area.specs.Session.{Session}
@@ -27,6 +27,7 @@ use Rattle.sdp_blame.specs.Field as field
 use Rattle.sdp_blame.specs.Blame.{Blames}
 use Rattle.sdp_blame.proofs.FieldLaws.{plain_blames, Fair}
 use Rattle.sdp_blame.proofs.RecordLaws.{whole_fair, connection_fair, origin_fair, times_fair, repeat_fair, zones_fair, bandwidth_fair, attribute_fair, media_fair}
+use Rattle.std.specs.Prelude.{Ok, Err}
 
 module _ {S : Type 0} (v : List ℕ) where
   abbrev Just : ℕ → Stepped S → Type 0
@@ -40,13 +41,13 @@ module _ {S : Type 0} (v : List ℕ) where
 
   just_once : {A : Type 0} (l n : ℕ) → (n ≡ 8 → ⊥) → (b : Bool) (r : Read A) → Fair l v r → (k : A → Stepped S) → ((x : A) → Just l (k x)) → Just l (once n b r k)
   just_once l n d true r g k h = plain_blames l v n 0 d
-  just_once l n d false (got x) g k h = h x
-  just_once l n d false (refused w) g k h = g
+  just_once l n d false (Ok x) g k h = h x
+  just_once l n d false (Err w) g k h = g
 
   just_row : {A : Type 0} (l table cap c : ℕ) (r : Read A) → Fair l v r → (k : A → Reading S) → Just l (row table cap c r k)
   unfolding steps.row
-  just_row l table cap c (got x) g k = just_room l (ltb c cap) table (k x)
-  just_row l table cap c (refused w) g k = g
+  just_row l table cap c (Ok x) g k = just_room l (ltb c cap) table (k x)
+  just_row l table cap c (Err w) g k = g
 
   module _ (mk : Piece → S) (ρ : Reading S) where
     just_repeat : (b c : Bool) (x : Reading S) → Just 0x72 (cond b (cond c (goes x) (stop 21 7)) (stop 21 6))
@@ -55,8 +56,8 @@ module _ {S : Type 0} (v : List ℕ) where
 
     repeat_just : (b : Bool) (r : Read RepeatLine) → Fair 0x72 v r → Just 0x72 (cond b (stop 20 0) (repeated mk ρ v r))
     repeat_just true r g = plain_blames 0x72 v 20 0 (λ e. omega arith)
-    repeat_just false (got r) g = just_repeat (ltb (length ρ.session.tables.repeats) 64) (leb (length ρ.session.tables.offsets + length r.offsets) 256) _
-    repeat_just false (refused w) g = g
+    repeat_just false (Ok r) g = just_repeat (ltb (length ρ.session.tables.repeats) 64) (leb (length ρ.session.tables.offsets + length r.offsets) 256) _
+    repeat_just false (Err w) g = g
 
     abbrev s : Session S
     s = ρ.session

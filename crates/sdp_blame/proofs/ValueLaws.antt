@@ -21,11 +21,12 @@ use Rattle.sdp_utf8.proofs.BreakLaws.{utf8_short, break_stays}
 use Rattle.sdp_split.specs.Split as split
 use Rattle.sdp_split.specs.Split.{part, spaces, piece_from, words_at, words, next_word, later, word_at, first_piece, piece_after, rest_after, Inside}
 use Rattle.sdp_split.specs.declared.Piece.{Piece}
-use Rattle.sdp_split.specs.declared.Field.TheVariants.{Got}
 use Rattle.sdp_split.proofs.SplitLaws.{chosen}
 use Rattle.sdp_split.proofs.WordLaws.{word_place}
 use Rattle.sdp_judge.specs.Read.{entire}
 use Rattle.sdp_blame.proofs.NumberLaws.{ascii-text}
+use Rattle.std.proofs.lemmas.Option.{some_pair_parts}
+use Rattle.std.specs.Prelude.{Some}
 
 -- what stands before place e of v is UTF-8
 abbrev pub Clean : List ℕ → ℕ → Type 0
@@ -104,29 +105,27 @@ entire_stands v = record { inside = omega arith; clean = none; sealed = λ l. ab
 
 -- ---- pieces between separators; each ends where it says
 module _ (sep : ℕ) (small : sep < 0x80) (v : List ℕ) where
-  from_stands : (i : ℕ) → i ≤ length v → Clean v i → (p : Piece) (e : ℕ) → piece_from sep v i ≡ Got p e → Stands v p × (e ≡ p.at + p.len)
+  from_stands : (i : ℕ) → i ≤ length v → Clean v i → (p : Piece) (e : ℕ) → piece_from sep v i ≡ Some (p, e) → Stands v p × (e ≡ p.at + p.len)
   from_stands i l c p e h =
-      let x : record { at = i; len = index_of sep (drop i v) } ≡ p = cc in
-      let y : i + index_of sep (drop i v) ≡ e = cc in
-      rw (← x, ← y) (record { inside = omega (arith, index_le sep (drop i v), length-drop i v); clean = c; sealed = sealed_by v sep i small }, refl)
+      let x = some_pair_parts (record { at = i; len = index_of sep (drop i v) }) p (i + index_of sep (drop i v)) e h in
+      rw (← x.0, ← x.1) (record { inside = omega (arith, index_le sep (drop i v), length-drop i v); clean = c; sealed = sealed_by v sep i small }, refl)
 
-  pub first_stands : (p : Piece) (e : ℕ) → first_piece sep v ≡ Got p e → Stands v p × (e ≡ p.at + p.len)
+  pub first_stands : (p : Piece) (e : ℕ) → first_piece sep v ≡ Some (p, e) → Stands v p × (e ≡ p.at + p.len)
   unfolding split.first_piece
   first_stands = from_stands 0 (omega arith) none
 
-  pub after_stands : (i : ℕ) → Past v i → (p : Piece) (e : ℕ) → piece_after sep v i ≡ Got p e → Stands v p × (e ≡ p.at + p.len)
+  pub after_stands : (i : ℕ) → Past v i → (p : Piece) (e : ℕ) → piece_after sep v i ≡ Some (p, e) → Stands v p × (e ≡ p.at + p.len)
   unfolding split.piece_after
   after_stands i b p e h =
       let c = chosen i (length v) (piece_from sep v (i + 1)) p e h in
       from_stands (i + 1) (omega (arith, c.0)) (clean_byte v i b.clean b.sealed c.0) p e c.1
 
-pub rest_stands : (v : List ℕ) (i : ℕ) → Past v i → (p : Piece) (e : ℕ) → rest_after v i ≡ Got p e → Stands v p
+pub rest_stands : (v : List ℕ) (i : ℕ) → Past v i → (p : Piece) (e : ℕ) → rest_after v i ≡ Some (p, e) → Stands v p
 unfolding split.rest_after
 rest_stands v i b p e h =
-    let c = chosen i (length v) (Got (record { at = i + 1; len = length v - (i + 1) }) (length v)) p e h in
-    let q = c.1 in
-    let x : record { at = i + 1; len = length v - (i + 1) } ≡ p = cc in
-    rw (← x) (record { inside = omega (arith, c.0); clean = clean_byte v i b.clean b.sealed c.0; sealed = λ l. absurd (omega (arith, c.0)) })
+    let c = chosen i (length v) (Some (record { at = i + 1; len = length v - (i + 1) }, length v)) p e h in
+    let x = some_pair_parts (record { at = i + 1; len = length v - (i + 1) }) p (length v) e c.1 in
+    rw (← x.0) (record { inside = omega (arith, c.0); clean = clean_byte v i b.clean b.sealed c.0; sealed = λ l. absurd (omega (arith, c.0)) })
 
 -- ---- words that are left from a place on, all before which is UTF-8
 pub record Ready (v : List ℕ) (ws : List Piece) : Type 0 where
@@ -137,8 +136,8 @@ pub record Ready (v : List ℕ) (ws : List Piece) : Type 0 where
 pub words_ready : (v : List ℕ) → Ready v (words v)
 words_ready v = record { from = 0; left = refl; clean = none }
 
-module _ (v : List ℕ) (ws : List Piece) (r : Ready v ws) (p : Piece) (e : ℕ) (h : next_word ws ≡ Got p e) where
-  word_at_lem : word_at v r.from ≡ Got p e
+module _ (v : List ℕ) (ws : List Piece) (r : Ready v ws) (p : Piece) (e : ℕ) (h : next_word ws ≡ Some (p, e)) where
+  word_at_lem : word_at v r.from ≡ Some (p, e)
   unfolding split.word_at
   word_at_lem = ap next_word (sym r.left) ∙ h
 

@@ -1,10 +1,8 @@
 -- Document 01, "Fields:" of "Refusal numbers", and how "Fields" splits a value: which pieces of the value of a line with letter l are its field w.
-use Rattle.std.specs.Prelude.{ℕ, zero, suc, ◌+◌, ◌<◌, ◌≡◌, List}
+use Rattle.std.specs.Prelude.{ℕ, zero, suc, ◌+◌, ◌<◌, ◌≡◌, List, Some}
 use Rattle.sdp_numbers.specs.Fields as fields
-use Rattle.sdp_split.specs.Split.{words, next_word, later, first_piece, piece_after, rest_after}
+use Rattle.sdp_split.specs.Split.{Field, words, next_word, later, first_piece, piece_after, rest_after}
 use Rattle.sdp_split.specs.declared.Piece.{Piece}
-use Rattle.sdp_split.specs.declared.Field.{Field}
-use Rattle.sdp_split.specs.declared.Field.TheVariants.{Got}
 use Rattle.sdp_judge.specs.Read.{entire}
 
 -- the word that has k words before it
@@ -15,28 +13,28 @@ word_of (suc k) ws = word_of k (later ws)
 -- the piece x of the value v, behind the letter l, is its field w
 pub data FieldOf (v : List ℕ) : ℕ → ℕ → Piece → Type 0 where
   -- "o, c, t, r, z: split at runs of spaces": "1-6 o in order", "8-10 c", "15-16 t"
-  origin : (k : ℕ) (x : Piece) (e : ℕ) → k < 6 → word_of k (words v) ≡ Got x e → FieldOf v 0x6f (fields.username + k) x
-  connection : (k : ℕ) (x : Piece) (e : ℕ) → k < 3 → word_of k (words v) ≡ Got x e → FieldOf v 0x63 (fields.connection_nettype + k) x
-  time : (k : ℕ) (x : Piece) (e : ℕ) → k < 2 → word_of k (words v) ≡ Got x e → FieldOf v 0x74 (fields.start_time + k) x
+  origin : (k : ℕ) (x : Piece) (e : ℕ) → k < 6 → word_of k (words v) ≡ Some (x, e) → FieldOf v 0x6f (fields.username + k) x
+  connection : (k : ℕ) (x : Piece) (e : ℕ) → k < 3 → word_of k (words v) ≡ Some (x, e) → FieldOf v 0x63 (fields.connection_nettype + k) x
+  time : (k : ℕ) (x : Piece) (e : ℕ) → k < 2 → word_of k (words v) ≡ Some (x, e) → FieldOf v 0x74 (fields.start_time + k) x
   -- "18 interval, 19 duration, 20 offset": any count of offsets
-  repeat : (k : ℕ) (x : Piece) (e : ℕ) → k < 2 → word_of k (words v) ≡ Got x e → FieldOf v 0x72 (fields.interval + k) x
-  offset : (k : ℕ) (x : Piece) (e : ℕ) → word_of (suc (suc k)) (words v) ≡ Got x e → FieldOf v 0x72 fields.offset x
+  repeat : (k : ℕ) (x : Piece) (e : ℕ) → k < 2 → word_of k (words v) ≡ Some (x, e) → FieldOf v 0x72 (fields.interval + k) x
+  offset : (k : ℕ) (x : Piece) (e : ℕ) → word_of (suc (suc k)) (words v) ≡ Some (x, e) → FieldOf v 0x72 fields.offset x
   -- "21 adjustment, 22 zone offset": the words of each pair
-  adjustment : (k : ℕ) (x : Piece) (e : ℕ) → word_of (k + k) (words v) ≡ Got x e → FieldOf v 0x7a fields.adjustment x
-  zone_offset : (k : ℕ) (x : Piece) (e : ℕ) → word_of (suc (k + k)) (words v) ≡ Got x e → FieldOf v 0x7a fields.zone_offset x
+  adjustment : (k : ℕ) (x : Piece) (e : ℕ) → word_of (k + k) (words v) ≡ Some (x, e) → FieldOf v 0x7a fields.adjustment x
+  zone_offset : (k : ℕ) (x : Piece) (e : ℕ) → word_of (suc (k + k)) (words v) ≡ Some (x, e) → FieldOf v 0x7a fields.zone_offset x
   -- "b: split at every colon"; "12-13 b"
-  bwtype : (x : Piece) (e : ℕ) → first_piece 0x3a v ≡ Got x e → FieldOf v 0x62 fields.bwtype x
-  bandwidth : (y x : Piece) (i e : ℕ) → first_piece 0x3a v ≡ Got y i → piece_after 0x3a v i ≡ Got x e → FieldOf v 0x62 fields.bandwidth x
+  bwtype : (x : Piece) (e : ℕ) → first_piece 0x3a v ≡ Some (x, e) → FieldOf v 0x62 fields.bwtype x
+  bandwidth : (y x : Piece) (i e : ℕ) → first_piece 0x3a v ≡ Some (y, i) → piece_after 0x3a v i ≡ Some (x, e) → FieldOf v 0x62 fields.bandwidth x
   -- "a .. at the first colon"; "23-24 a"
-  attribute : (x : Piece) (e : ℕ) → first_piece 0x3a v ≡ Got x e → FieldOf v 0x61 fields.attribute x
-  value : (y x : Piece) (i e : ℕ) → first_piece 0x3a v ≡ Got y i → rest_after v i ≡ Got x e → FieldOf v 0x61 fields.attribute_value x
+  attribute : (x : Piece) (e : ℕ) → first_piece 0x3a v ≡ Some (x, e) → FieldOf v 0x61 fields.attribute x
+  value : (y x : Piece) (i e : ℕ) → first_piece 0x3a v ≡ Some (y, i) → rest_after v i ≡ Some (x, e) → FieldOf v 0x61 fields.attribute_value x
   -- "m: at the first three spaces"; "27 media name, .. 29 port encoding, .. 31 proto, 32 fmt"
-  media_name : (x : Piece) (e : ℕ) → first_piece 0x20 v ≡ Got x e → FieldOf v 0x6d fields.media_name x
-  port : (y x : Piece) (i e : ℕ) → first_piece 0x20 v ≡ Got y i → piece_after 0x20 v i ≡ Got x e → FieldOf v 0x6d fields.port_encoding x
-  proto : (y z x : Piece) (i j e : ℕ) → first_piece 0x20 v ≡ Got y i → piece_after 0x20 v i ≡ Got z j → piece_after 0x20 v j ≡ Got x e
+  media_name : (x : Piece) (e : ℕ) → first_piece 0x20 v ≡ Some (x, e) → FieldOf v 0x6d fields.media_name x
+  port : (y x : Piece) (i e : ℕ) → first_piece 0x20 v ≡ Some (y, i) → piece_after 0x20 v i ≡ Some (x, e) → FieldOf v 0x6d fields.port_encoding x
+  proto : (y z x : Piece) (i j e : ℕ) → first_piece 0x20 v ≡ Some (y, i) → piece_after 0x20 v i ≡ Some (z, j) → piece_after 0x20 v j ≡ Some (x, e)
       → FieldOf v 0x6d fields.proto x
-  fmt : (y z u x : Piece) (i j l e : ℕ) → first_piece 0x20 v ≡ Got y i → piece_after 0x20 v i ≡ Got z j → piece_after 0x20 v j ≡ Got u l
-      → rest_after v l ≡ Got x e → FieldOf v 0x6d fields.fmt x
+  fmt : (y z u x : Piece) (i j l e : ℕ) → first_piece 0x20 v ≡ Some (y, i) → piece_after 0x20 v i ≡ Some (z, j) → piece_after 0x20 v j ≡ Some (u, l)
+      → rest_after v l ≡ Some (x, e) → FieldOf v 0x6d fields.fmt x
   -- "33 media title", "34 s; 35 session i; 36 u; 37 e; 38 p": the whole value
   title : FieldOf v 0x69 fields.media_title (entire v)
   name : FieldOf v 0x73 fields.name (entire v)

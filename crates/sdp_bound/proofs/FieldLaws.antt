@@ -8,16 +8,13 @@ use lib.ListN.{length, take, drop, length-take, length-drop}
 use lib.Dec.{eqb}
 use Rattle.sdp_bytes.specs.Runs
 use Rattle.sdp_bytes.specs.Runs.{index_of}
-use Rattle.sdp_number.specs.Number.{whole_number, typed_time}
-use Rattle.sdp_number.specs.declared.Number.{Number}
-use Rattle.sdp_number.specs.declared.Number.TheVariants.{Value, Encoding, Format}
+use Rattle.sdp_number.specs.Number.{Number, whole_number, typed_time}
+use Rattle.sdp_number.specs.declared.NumberError.TheVariants.{Encoding, Format}
 use Rattle.sdp_bytes.proofs.ScanLaws.{index_le}
 use Rattle.sdp_split.specs.Split
-use Rattle.sdp_split.specs.Split.{part, piece_from, words_from, words, next_word, later, first_piece, piece_after, rest_after}
-use Rattle.sdp_judge.specs.Read.{Read, amount_of, number_of, time_of, after_amount}
+use Rattle.sdp_split.specs.Split.{Field, part, piece_from, words_from, words, next_word, later, first_piece, piece_after, rest_after}
+use Rattle.sdp_judge.specs.Read.{Read, amount_of, number_of, time_of, after}
 use Rattle.sdp_split.specs.declared.Piece.{Piece}
-use Rattle.sdp_split.specs.declared.Field.{Field}
-use Rattle.sdp_split.specs.declared.Field.TheVariants as field
 use Rattle.sdp_split.proofs.SplitLaws.{chosen}
 use Rattle.sdp_split.proofs.WordLaws.{words_inside, next_inside}
 use Rattle.sdp_judge.proofs.EveryLaws.{Every, never}
@@ -25,6 +22,8 @@ use Rattle.sdp_put.specs.Digits.{digits, time_text}
 use Rattle.sdp_bound.proofs.NumberLaws.{number_short, time-short}
 use Rattle.sdp_room.proofs.SumLaws
 use Rattle.sdp_room.proofs.SumLaws.{sum}
+use Rattle.std.proofs.lemmas.Option.{some_pair_parts}
+use Rattle.std.specs.Prelude.{Some, None, Ok, Err}
 
 pub part_len : (v : List ℕ) (p : Piece) → length (part v p) ≤ p.len
 part_len v p = omega (arith, length-take p.len (drop p.at v))
@@ -62,10 +61,10 @@ word_some (b ∷ s) i zero p ws e = go (eqb b 0x20) refl (word_some s (suc i) 0 
     go false q ih e = let z : record { at = i; len = suc (index_of 0x20 s) } ≡ p = cc in omega (arith, ap (λ (x : Piece). x.len) z)
 
 -- one word, and those after it
-pub next_weight : (ws : List Piece) (p : Piece) (e : ℕ) → next_word ws ≡ field.Got p e → weight ws ≡ p.len + 1 + weight (later ws)
+pub next_weight : (ws : List Piece) (p : Piece) (e : ℕ) → next_word ws ≡ Some (p, e) → weight ws ≡ p.len + 1 + weight (later ws)
 unfolding SumLaws.sum
 next_weight [] p e h = absurd (let z : ◌≡◌ {A = ℕ} 0 1 = cc in omega arith)
-next_weight (q ∷ ws) p e h = let z : q ≡ p = cc in ap (λ (x : Piece). x.len + 1 + weight ws) z
+next_weight (q ∷ ws) p e h = ap (λ (x : Piece). x.len + 1 + weight ws) (some_pair_parts q p (q.at + q.len) e h).0
 
 module _ (v : List ℕ) where
   pub words_weight : weight (words v) ≤ length v + 1
@@ -73,51 +72,50 @@ module _ (v : List ℕ) where
   words_weight = (weights v 0).0
 
   -- the first word has a byte
-  pub first_some : (p : Piece) (e : ℕ) → next_word (words v) ≡ field.Got p e → 0 < length (part v p)
+  pub first_some : (p : Piece) (e : ℕ) → next_word (words v) ≡ Some (p, e) → 0 < length (part v p)
   unfolding Split.words_at
   first_some p e h =
       let l = go (words v) refl h in
       let i = (next_inside v (words v) (words_inside v) p e h).0 in
       omega (arith, length-take p.len (drop p.at v), length-drop p.at v)
     where
-      go : (ws : List Piece) → words v ≡ ws → next_word ws ≡ field.Got p e → 0 < p.len
+      go : (ws : List Piece) → words v ≡ ws → next_word ws ≡ Some (p, e) → 0 < p.len
       go [] q h = absurd (let z : ◌≡◌ {A = ℕ} 0 1 = cc in omega arith)
-      go (x ∷ ws) q h = let z : x ≡ p = cc in word_some v 0 0 p ws (q ∙ ap (λ (y : Piece). y ∷ ws) z)
+      go (x ∷ ws) q h = word_some v 0 0 p ws (q ∙ ap (λ (y : Piece). y ∷ ws) (some_pair_parts x p (x.at + x.len) e h).0)
 
   -- ---- pieces
-  same_piece : (sep i : ℕ) (p : Piece) (e : ℕ) → piece_from sep v i ≡ field.Got p e → i ≤ length v → (i + p.len ≡ e) × (e ≤ length v)
+  same_piece : (sep i : ℕ) (p : Piece) (e : ℕ) → piece_from sep v i ≡ Some (p, e) → i ≤ length v → (i + p.len ≡ e) × (e ≤ length v)
   same_piece sep i p e h l =
-      let x : record { at = i; len = index_of sep (drop i v) } ≡ p = cc in
-      let y : i + index_of sep (drop i v) ≡ e = cc in
-      (omega (arith, ap (λ (q : Piece). q.len) x), omega (arith, index_le sep (drop i v), length-drop i v))
+      let x = some_pair_parts (record { at = i; len = index_of sep (drop i v) }) p (i + index_of sep (drop i v)) e h in
+      (omega (arith, ap (λ (q : Piece). q.len) x.0, x.1), omega (arith, x.1, index_le sep (drop i v), length-drop i v))
 
-  pub first_piece_lem : (sep : ℕ) (p : Piece) (e : ℕ) → first_piece sep v ≡ field.Got p e → (p.len ≡ e) × (e ≤ length v)
+  pub first_piece_lem : (sep : ℕ) (p : Piece) (e : ℕ) → first_piece sep v ≡ Some (p, e) → (p.len ≡ e) × (e ≤ length v)
   unfolding Split.first_piece
   first_piece_lem sep p e h = let s = same_piece sep 0 p e h (omega arith) in (omega arith, s.1)
 
   module _ (i : ℕ) (p : Piece) (e : ℕ) where
-    pub next_piece : (sep : ℕ) → piece_after sep v i ≡ field.Got p e → (i + 1 + p.len ≡ e) × (e ≤ length v)
+    pub next_piece : (sep : ℕ) → piece_after sep v i ≡ Some (p, e) → (i + 1 + p.len ≡ e) × (e ≤ length v)
     unfolding Split.piece_after
     next_piece sep h = let c = chosen i (length v) (piece_from sep v (i + 1)) p e h in same_piece sep (i + 1) p e c.1 (omega arith)
 
-    pub rest_piece : rest_after v i ≡ field.Got p e → i + 1 + p.len ≡ length v
+    pub rest_piece : rest_after v i ≡ Some (p, e) → i + 1 + p.len ≡ length v
     unfolding Split.rest_after
     rest_piece h =
-        let c = chosen i (length v) (field.Got (record { at = i + 1; len = length v - (i + 1) }) (length v)) p e h in
-        let x : record { at = i + 1; len = length v - (i + 1) } ≡ p = cc in
-        omega (arith, ap (λ (q : Piece). q.len) x)
+        let c = chosen i (length v) (Some (record { at = i + 1; len = length v - (i + 1) }, length v)) p e h in
+        let x = some_pair_parts (record { at = i + 1; len = length v - (i + 1) }) p (length v) e c.1 in
+        omega (arith, ap (λ (q : Piece). q.len) x.0)
 
 -- ---- what holds of every record, after a number's field f of the value v
 module _ {A : Type 0} (P : A → Type 0) (w : ℕ) (v : List ℕ) (k : ℕ → ℕ → Read A) where
-  read_amount : (p : Piece) (e : ℕ) (x : Number) → ((n : ℕ) → x ≡ Value n → Every P (k n e)) → Every P (after_amount (amount_of w v p e x) k)
-  read_amount p e (Value n) h = h n refl
-  read_amount p e Encoding h = never P _
-  read_amount p e Format h = never P _
+  read_amount : (p : Piece) (e : ℕ) (x : Number) → ((n : ℕ) → x ≡ Ok n → Every P (k n e)) → Every P (after (amount_of w v p e x) k)
+  read_amount p e (Ok n) h = h n refl
+  read_amount p e (Err Encoding) h = never P _
+  read_amount p e (Err Format) h = never P _
 
-  pub past_number : (f : Field) → ((n e : ℕ) (p : Piece) → f ≡ field.Got p e → length (digits n) ≤ length (part v p) → Every P (k n e)) → Every P (after_amount (number_of w v f) k)
-  past_number field.Nothing h = never P _
-  past_number (field.Got p e) h = read_amount p e (whole_number 64 (part v p)) (λ n q. h n e p refl (number_short 64 (part v p) n q))
+  pub past_number : (f : Field) → ((n e : ℕ) (p : Piece) → f ≡ Some (p, e) → length (digits n) ≤ length (part v p) → Every P (k n e)) → Every P (after (number_of w v f) k)
+  past_number None h = never P _
+  past_number (Some (p, e)) h = read_amount p e (whole_number 64 (part v p)) (λ n q. h n e p refl (number_short 64 (part v p) n q))
 
-  pub past-time : (f : Field) → ((n e : ℕ) (p : Piece) → f ≡ field.Got p e → length (time_text n) ≤ length (part v p) → Every P (k n e)) → Every P (after_amount (time_of w v f) k)
-  past-time field.Nothing h = never P _
-  past-time (field.Got p e) h = read_amount p e (typed_time (part v p)) (λ n q. h n e p refl (time-short (part v p) n q))
+  pub past-time : (f : Field) → ((n e : ℕ) (p : Piece) → f ≡ Some (p, e) → length (time_text n) ≤ length (part v p) → Every P (k n e)) → Every P (after (time_of w v f) k)
+  past-time None h = never P _
+  past-time (Some (p, e)) h = read_amount p e (typed_time (part v p)) (λ n q. h n e p refl (time-short (part v p) n q))

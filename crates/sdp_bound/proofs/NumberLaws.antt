@@ -11,9 +11,8 @@ use borrow.Author.Tests.{ltb-true, ltb-false, leb-true, eqb-true, eqb-false, le-
 use Rattle.sdp_bytes.specs.Token.{digit}
 use Rattle.sdp_utf8.specs.Utf8.{is_utf8}
 use Rattle.sdp_number.specs.Number
-use Rattle.sdp_number.specs.Number.{all_digits, value, digits_below, drop_plus, whole_number, scaled, typed_time}
-use Rattle.sdp_number.specs.declared.Number.{Number}
-use Rattle.sdp_number.specs.declared.Number.TheVariants.{Value, Encoding, Format}
+use Rattle.sdp_number.specs.Number.{Number, all_digits, value, digits_below, drop_plus, whole_number, scaled, typed_time}
+use Rattle.sdp_number.specs.declared.NumberError.TheVariants.{Encoding, Format}
 use Rattle.sdp_bytes.proofs.ScanLaws.{and_left, and_right}
 use Rattle.sdp_judge.specs.Offset
 use Rattle.sdp_judge.specs.Offset.{negated, signed_of, zone_offset}
@@ -21,6 +20,7 @@ use Rattle.sdp_put.specs.Digits.{digits, time_text}
 use Rattle.sdp_put.proofs.DigitLaws.{digits-one, digits_more, time_form, offset-minus, offset-plain}
 use Rattle.sdp_row.specs.Written.{signed_text}
 use Rattle.sdp_room.proofs.LengthLaws.{length_digits}
+use Rattle.std.specs.Prelude.{Ok, Err}
 
 -- ---- digits
 -- the digits of a number of two or more
@@ -70,12 +70,12 @@ plus_short (b ∷ s) = go (eqb b 0x2b)
     go true = omega arith
     go false = omega arith
 
-below_short : (n : ℕ) (s : List ℕ) (v : ℕ) → digits_below n s ≡ Value v → length (digits v) ≤ length s
+below_short : (n : ℕ) (s : List ℕ) (v : ℕ) → digits_below n s ≡ Ok v → length (digits v) ≤ length s
 unfolding Number.digits_below
 below_short n [] v e = absurd (let z : ◌≡◌ {A = ℕ} 0 1 = cc in omega arith)
 below_short n (b ∷ s) v e = go (ltb 0 (length (b ∷ s))) (all_digits (b ∷ s)) (ltb (value 0 (b ∷ s)) n) refl e
   where
-    go : (o p q : Bool) → all_digits (b ∷ s) ≡ p → cond (o && (p && q)) (Value (value 0 (b ∷ s))) Format ≡ Value v → length (digits v) ≤ suc (length s)
+    go : (o p q : Bool) → all_digits (b ∷ s) ≡ p → cond (o && (p && q)) (Ok (value 0 (b ∷ s))) (Err Format) ≡ Ok v → length (digits v) ≤ suc (length s)
     go true true true f e =
         let z : value 0 (b ∷ s) ≡ v = cc in
         length_digits (length s) v (omega (arith, value_below (b ∷ s) 0 f))
@@ -83,11 +83,11 @@ below_short n (b ∷ s) v e = go (ltb 0 (length (b ∷ s))) (all_digits (b ∷ s
     go true false q f e = absurd (let z : ◌≡◌ {A = ℕ} 0 1 = cc in omega arith)
     go false p q f e = absurd (let z : ◌≡◌ {A = ℕ} 0 1 = cc in omega arith)
 
-pub number_short : (w : ℕ) (s : List ℕ) (v : ℕ) → whole_number w s ≡ Value v → length (digits v) ≤ length s
+pub number_short : (w : ℕ) (s : List ℕ) (v : ℕ) → whole_number w s ≡ Ok v → length (digits v) ≤ length s
 unfolding Number.whole_number Number.numeral
 number_short w s v = go (is_utf8 s)
   where
-    go : (b : Bool) → cond b (digits_below (2 ^ w) (drop_plus s)) Encoding ≡ Value v → length (digits v) ≤ length s
+    go : (b : Bool) → cond b (digits_below (2 ^ w) (drop_plus s)) (Err Encoding) ≡ Ok v → length (digits v) ≤ length s
     go true e = le_trans (below_short (2 ^ w) (drop_plus s) v e) (plus_short s)
     go false e = absurd (let z : ◌≡◌ {A = ℕ} 0 1 = cc in omega arith)
 
@@ -140,16 +140,16 @@ module _ (v q n : ℕ) (l : length (digits q) + 1 ≤ n) where
   seconds_short e = forms_short v n (λ z f. mono_more (v / 86400) q n (omega arith) l) (λ d f. mono_more (v / 3600) q n (omega arith) l) (λ h f. mono_more (v / 60) q n (omega arith) l) (λ m. omega (arith, mono_more v q n (omega arith) l)) zero_short
 
 -- the stem's number, where a unit was there
-scaled_is : (k : ℕ) (x : Number) (v : ℕ) → scaled k x ≡ Value v → (A : Type 0) → ((q : ℕ) → x ≡ Value q → v ≡ q * k → A) → A
-scaled_is k Encoding v e A go = absurd (let z : ◌≡◌ {A = ℕ} 0 1 = cc in omega arith)
-scaled_is k Format v e A go = absurd (let z : ◌≡◌ {A = ℕ} 0 1 = cc in omega arith)
-scaled_is k (Value q) v e A next = next q refl (go (ltb (q * k) (2 ^ 64)) e)
+scaled_is : (k : ℕ) (x : Number) (v : ℕ) → scaled k x ≡ Ok v → (A : Type 0) → ((q : ℕ) → x ≡ Ok q → v ≡ q * k → A) → A
+scaled_is k (Err Encoding) v e A go = absurd (let z : ◌≡◌ {A = ℕ} 0 1 = cc in omega arith)
+scaled_is k (Err Format) v e A go = absurd (let z : ◌≡◌ {A = ℕ} 0 1 = cc in omega arith)
+scaled_is k (Ok q) v e A next = next q refl (go (ltb (q * k) (2 ^ 64)) e)
   where
-    go : (b : Bool) → cond b (Value (q * k)) Format ≡ Value v → v ≡ q * k
+    go : (b : Bool) → cond b (Ok (q * k)) (Err Format) ≡ Ok v → v ≡ q * k
     go true e = cc
     go false e = absurd (let z : ◌≡◌ {A = ℕ} 0 1 = cc in omega arith)
 
-pub time-short : (s : List ℕ) (v : ℕ) → typed_time s ≡ Value v → length (time_text v) ≤ length s
+pub time-short : (s : List ℕ) (v : ℕ) → typed_time s ≡ Ok v → length (time_text v) ≤ length s
 unfolding Number.typed_time
 time-short s v e = go (eqb b 0x64) (eqb b 0x68) (eqb b 0x6d) (eqb b 0x73) e
   where
@@ -159,11 +159,11 @@ time-short s v e = go (eqb b 0x64) (eqb b 0x68) (eqb b 0x6d) (eqb b 0x73) e
     stem : List ℕ
     stem = take (length s - 1) s
 
-    fits : (q : ℕ) → whole_number 64 stem ≡ Value q → length (digits q) + 1 ≤ length s
+    fits : (q : ℕ) → whole_number 64 stem ≡ Ok q → length (digits q) + 1 ≤ length s
     fits q f = omega (arith, number_short 64 stem q f, length-take (length s - 1) s, digits_some q)
 
     go : (d h m z : Bool)
-        → (let u = cond d 86400 (cond h 3600 (cond m 60 (cond z 1 0))) in cond (eqb u 0) (whole_number 64 s) (scaled u (whole_number 64 stem))) ≡ Value v
+        → (let u = cond d 86400 (cond h 3600 (cond m 60 (cond z 1 0))) in cond (eqb u 0) (whole_number 64 s) (scaled u (whole_number 64 stem))) ≡ Ok v
         → length (time_text v) ≤ length s
     go true h m z e = scaled_is 86400 (whole_number 64 stem) v e (length (time_text v) ≤ length s) (λ q f g. days_short v q (length s) (fits q f) g)
     go false true m z e = scaled_is 3600 (whole_number 64 stem) v e (length (time_text v) ≤ length s) (λ q f g. hours_short v q (length s) (fits q f) g)
@@ -186,33 +186,33 @@ minus-offset m h = go (eqb m 0) refl
         let k : 2 ^ 64 - (2 ^ 64 - m) ≡ m = omega arith in
         rw (le-leb (2 ^ 63) (2 ^ 64 - m) (omega arith), k) (omega (arith, ap length (offset-minus true m refl)))
 
-pub offset-short : (s : List ℕ) (n : ℕ) → zone_offset s ≡ Value n → length (signed_text n) ≤ length s
+pub offset-short : (s : List ℕ) (n : ℕ) → zone_offset s ≡ Ok n → length (signed_text n) ≤ length s
 unfolding Offset.zone_offset
 offset-short s n = go (ltb 0 (length s)) (eqb (get_or s 0 0) 0x2d) refl
   where
-    minus : 0 < length s → (x : Number) → typed_time (drop 1 s) ≡ x → signed_of true x ≡ Value n → length (signed_text n) ≤ length s
-    minus l Encoding q e = absurd (let z : ◌≡◌ {A = ℕ} 0 1 = cc in omega arith)
-    minus l Format q e = absurd (let z : ◌≡◌ {A = ℕ} 0 1 = cc in omega arith)
-    minus l (Value m) q e = go (leb m (2 ^ 63)) refl e
+    minus : 0 < length s → (x : Number) → typed_time (drop 1 s) ≡ x → signed_of true x ≡ Ok n → length (signed_text n) ≤ length s
+    minus l (Err Encoding) q e = absurd (let z : ◌≡◌ {A = ℕ} 0 1 = cc in omega arith)
+    minus l (Err Format) q e = absurd (let z : ◌≡◌ {A = ℕ} 0 1 = cc in omega arith)
+    minus l (Ok m) q e = go (leb m (2 ^ 63)) refl e
       where
-        go : (b : Bool) → leb m (2 ^ 63) ≡ b → cond b (Value (negated m)) Format ≡ Value n → length (signed_text n) ≤ length s
+        go : (b : Bool) → leb m (2 ^ 63) ≡ b → cond b (Ok (negated m)) (Err Format) ≡ Ok n → length (signed_text n) ≤ length s
         go true h e =
             let z : negated m ≡ n = cc in
             rw (← z) (omega (arith, minus-offset m (leb-true m (2 ^ 63) h), time-short (drop 1 s) m q, length-drop 1 s))
         go false h e = absurd (let z : ◌≡◌ {A = ℕ} 0 1 = cc in omega arith)
 
-    plain : (x : Number) → typed_time s ≡ x → signed_of false x ≡ Value n → length (signed_text n) ≤ length s
-    plain Encoding q e = absurd (let z : ◌≡◌ {A = ℕ} 0 1 = cc in omega arith)
-    plain Format q e = absurd (let z : ◌≡◌ {A = ℕ} 0 1 = cc in omega arith)
-    plain (Value m) q e = go (ltb m (2 ^ 63)) refl e
+    plain : (x : Number) → typed_time s ≡ x → signed_of false x ≡ Ok n → length (signed_text n) ≤ length s
+    plain (Err Encoding) q e = absurd (let z : ◌≡◌ {A = ℕ} 0 1 = cc in omega arith)
+    plain (Err Format) q e = absurd (let z : ◌≡◌ {A = ℕ} 0 1 = cc in omega arith)
+    plain (Ok m) q e = go (ltb m (2 ^ 63)) refl e
       where
-        go : (b : Bool) → ltb m (2 ^ 63) ≡ b → cond b (Value m) Format ≡ Value n → length (signed_text n) ≤ length s
+        go : (b : Bool) → ltb m (2 ^ 63) ≡ b → cond b (Ok m) (Err Format) ≡ Ok n → length (signed_text n) ≤ length s
         go true h e =
             let z : m ≡ n = cc in
             rw (← z) (omega (arith, plain-offset m (ltb-true m (2 ^ 63) h), time-short s m q))
         go false h e = absurd (let z : ◌≡◌ {A = ℕ} 0 1 = cc in omega arith)
 
-    go : (a b : Bool) → ltb 0 (length s) ≡ a → cond (a && b) (signed_of true (typed_time (drop 1 s))) (signed_of false (typed_time s)) ≡ Value n → length (signed_text n) ≤ length s
+    go : (a b : Bool) → ltb 0 (length s) ≡ a → cond (a && b) (signed_of true (typed_time (drop 1 s))) (signed_of false (typed_time s)) ≡ Ok n → length (signed_text n) ≤ length s
     go true true h e = minus (ltb-true 0 (length s) h) (typed_time (drop 1 s)) refl e
     go true false h e = plain (typed_time s) refl e
     go false b h e = plain (typed_time s) refl e

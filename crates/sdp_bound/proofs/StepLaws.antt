@@ -6,7 +6,7 @@ use native.Mathlib.Omega.{arith}
 use lib.ListN.{length}
 use lib.Dec.{ltb, leb, eqb}
 use Rattle.sdp_split.specs.Split.{part}
-use Rattle.sdp_judge.specs.Read.{Read, got, refused, whole_of}
+use Rattle.sdp_judge.specs.Read.{Read, whole_of}
 use Rattle.sdp_fields.specs.Records.{origin_of, connection_of, bandwidth_of, times_of, attribute_of}
 use Rattle.sdp_media_line.specs.MediaLine.{media_of}
 use Rattle.sdp_lists.specs.Lists.{RepeatLine, repeat_of, zones_of}
@@ -28,6 +28,7 @@ use Rattle.sdp_bound.proofs.RowLaws.{sum_append, sum_more, sum_map, sum_last}
 use Rattle.sdp_bound.proofs.RecordLaws.{whole-short, connection_short, origin_short, times-short, bandwidth-short, attribute-short, media-short, offsets_size, repeat_size, repeat_short, zones-short}
 use Rattle.sdp_room.proofs.CostLaws
 use Rattle.sdp_room.proofs.CostLaws.{cost, time_cost, times_cost, repeat_cost, offset_cost, connection_cost, bandwidth_cost, attribute_cost, media_cost}
+use Rattle.std.specs.Prelude.{Ok, Err}
 
 -- at most n bytes more
 abbrev pub Grown : ℕ → Reading (List ℕ) → Reading (List ℕ) → Type 0
@@ -53,9 +54,9 @@ module _ (ρ : Reading (List ℕ)) (v : List ℕ) where
       offset : ℕ → Offset
       offset n = record { owner = length ρ.session.tables.repeats + 1; offset = n }
 
-      go : (x : Read RepeatLine) → ((r : RepeatLine) → x ≡ got r → repeat_size r ≤ length v) → Going (Grown (length v + 4) ρ) (repeated (part v) ρ v x)
-      go (refused w) h = off _ _
-      go (got r) h =
+      go : (x : Read RepeatLine) → ((r : RepeatLine) → x ≡ Ok r → repeat_size r ≤ length v) → Going (Grown (length v + 4) ρ) (repeated (part v) ρ v x)
+      go (Err w) h = off _ _
+      go (Ok r) h =
           past-cond _ (ltb (length ρ.session.tables.repeats) 64) _ _
           (past-cond _ (leb (length ρ.session.tables.offsets + length r.offsets) 256) _ _
           (on _ _ (omega (

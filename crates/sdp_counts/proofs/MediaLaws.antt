@@ -7,7 +7,7 @@ use native.Mathlib.Omega.{arith}
 use lib.ListN.{length, length-append}
 use lib.Dec.{ltb, leb, eqb}
 use Rattle.sdp_split.specs.declared.Piece.{Piece}
-use Rattle.sdp_judge.specs.Read.{Read, got, refused, whole_of}
+use Rattle.sdp_judge.specs.Read.{Read, whole_of}
 use Rattle.sdp_fields.specs.Records.{origin_of, connection_of, bandwidth_of, times_of, attribute_of}
 use Rattle.sdp_media_line.specs.MediaLine.{media_of}
 use Rattle.sdp_lists.specs.Lists.{RepeatLine, repeat_of, zones_of}
@@ -20,6 +20,7 @@ use Rattle.sdp_step.proofs.GoingLaws.{Going, on, off, past-cond, past-once, past
 use Rattle.sdp_roles.specs.declared.Role.{Role}
 use Rattle.sdp_roles.specs.declared.Role.TheVariants as role
 use Rattle.sdp_counts.specs.Count.{opens}
+use Rattle.std.specs.Prelude.{Ok, Err}
 
 module _ {S : Type 0} (mk : Piece → S) (ρ : Reading S) (v : List ℕ) where
   abbrev medias_of : Reading S → ℕ
@@ -30,8 +31,8 @@ module _ {S : Type 0} (mk : Piece → S) (ρ : Reading S) (v : List ℕ) where
   More m τ = medias_of τ ≡ medias_of ρ + m
 
   repeat-medias : (x : Read RepeatLine) → Going (More 0) (repeated mk ρ v x)
-  repeat-medias (refused w) = off _ _
-  repeat-medias (got r) =
+  repeat-medias (Err w) = off _ _
+  repeat-medias (Ok r) =
       past-cond _ (ltb (length ρ.session.tables.repeats) 64) _ _
       (past-cond _ (leb (length ρ.session.tables.offsets + length r.offsets) 256) _ _ (on _ _ (omega arith)) (off _ _)) (off _ _)
 

@@ -9,7 +9,7 @@ use lib.Dec.{eqb}
 use lib.ListN.{get_or}
 use Rattle.sdp_split.specs.Split.{words, next_word, later, first_piece, piece_after, rest_after, Inside}
 use Rattle.sdp_judge.specs.Read
-use Rattle.sdp_judge.specs.Read.{got, number_of, absent}
+use Rattle.sdp_judge.specs.Read.{number_of}
 use Rattle.sdp_fields.specs.Records.{username_of, address_of, origin_of, connection_of, bandwidth_of, attribute_of}
 use Rattle.sdp_split.specs.declared.Piece.{Piece}
 use Rattle.sdp_fields.specs.declared.Origin.{Origin}
@@ -19,6 +19,7 @@ use Rattle.sdp_fields.specs.declared.Attribute.{Attribute}
 use Rattle.sdp_split.proofs.SplitLaws.{first_within, rest_within}
 use Rattle.sdp_split.proofs.WordLaws.{AllInside, words_inside, next_inside, later_inside}
 use Rattle.sdp_judge.proofs.EveryLaws.{every_got, every_amount, every_text, every_token, every_choice, every_end, every_then}
+use Rattle.std.specs.Prelude.{Some, None, Ok, IfSome}
 
 -- ---- the records of words
 pub record ConnectionInside (v : List ℕ) (c : Connection) : Type 0 where
@@ -26,7 +27,7 @@ pub record ConnectionInside (v : List ℕ) (c : Connection) : Type 0 where
   pub addrtype : Inside v c.addrtype
   pub address : Inside v c.connection_address
 
-address_within : (w : ℕ) (v : List ℕ) (ws : List Piece) → AllInside v ws → (c : Connection) → address_of w v ws ≡ got c → ConnectionInside v c
+address_within : (w : ℕ) (v : List ℕ) (ws : List Piece) → AllInside v ws → (c : Connection) → address_of w v ws ≡ Ok c → ConnectionInside v c
 unfolding address_of Read.next_token Read.next_text
 address_within w v ws all =
     let all₁ = later_inside v ws all in
@@ -37,25 +38,25 @@ address_within w v ws all =
     every_end _ (w + 3) (next_word (later (later (later ws)))) _ (every_got _ _
     (record { nettype = (next_inside v ws all net j n).0; addrtype = (next_inside v (later ws) all₁ kind l k).0; address = (next_inside v (later (later ws)) all₂ address e a).0 })))))
 
-pub connection_within : (v : List ℕ) (c : Connection) → connection_of v ≡ got c → ConnectionInside v c
+pub connection_within : (v : List ℕ) (c : Connection) → connection_of v ≡ Ok c → ConnectionInside v c
 unfolding connection_of
 connection_within v = address_within 8 v (words v) (words_inside v)
 
 pub record OriginInside (v : List ℕ) (o : Origin) : Type 0 where
-  pub username : Inside v o.username.piece
+  pub username : IfSome o.username (Inside v)
   pub id : Inside v o.sess_id
   pub nettype : Inside v o.nettype
   pub addrtype : Inside v o.addrtype
   pub address : Inside v o.unicast_address
 
-username_inside : (v : List ℕ) (p : Piece) → Inside v p → Inside v (username_of v p).piece
+username_inside : (v : List ℕ) (p : Piece) → Inside v p → IfSome (username_of v p) (Inside v)
 username_inside v p h = go (eqb p.len 1 && eqb (get_or v p.at 0) 0x2d)
   where
-    go : (b : Bool) → Inside v (cond b absent (record { there = true; piece = p })).piece
-    go true = omega arith
+    go : (b : Bool) → IfSome (cond b None (Some p)) (Inside v)
+    go true = tt
     go false = h
 
-pub origin_within : (v : List ℕ) (o : Origin) → origin_of v ≡ got o → OriginInside v o
+pub origin_within : (v : List ℕ) (o : Origin) → origin_of v ≡ Ok o → OriginInside v o
 unfolding origin_of Read.next_text Read.next_number
 origin_within v =
     let all = words_inside v in
@@ -74,7 +75,7 @@ origin_within v =
     })))))
 
 -- ---- the records of pieces
-pub bandwidth-within : (v : List ℕ) (b : Bandwidth) → bandwidth_of v ≡ got b → Inside v b.bwtype
+pub bandwidth-within : (v : List ℕ) (b : Bandwidth) → bandwidth_of v ≡ Ok b → Inside v b.bwtype
 unfolding bandwidth_of
 bandwidth-within v =
     every_text _ 12 v _ (first_piece 0x3a v) (λ kind i k.
@@ -83,13 +84,13 @@ bandwidth-within v =
 
 pub record AttributeInside (v : List ℕ) (a : Attribute) : Type 0 where
   pub attribute : Inside v a.attribute
-  pub value : Inside v a.value.piece
+  pub value : IfSome a.value (Inside v)
 
-pub attribute-within : (v : List ℕ) (a : Attribute) → attribute_of v ≡ got a → AttributeInside v a
+pub attribute-within : (v : List ℕ) (a : Attribute) → attribute_of v ≡ Ok a → AttributeInside v a
 unfolding attribute_of
 attribute-within v =
     every_text _ 23 v _ (first_piece 0x3a v) (λ name i n.
     let l = (first_within 0x3a v name i n).0 in
     every_choice _ 24 v _ (rest_after v i)
     (λ value e q. every_got _ _ (record { attribute = l; value = (rest_within v i value e q).0 }))
-    (every_got _ _ (record { attribute = l; value = omega arith })))
+    (every_got _ _ (record { attribute = l; value = tt })))

@@ -4,17 +4,15 @@
 ghost use Rattle.std.specs.Prelude.{◌≡◌, ◌≤◌};
 ghost use Rattle.sdp_split.specs.Split.{words_at, Inside};
 ghost use Rattle.sdp_fields.specs.Records.{username_of, origin_of, address_of, connection_of, bandwidth_of, times_of, attribute_of};
-ghost use Rattle.sdp_fields.specs.Answers.{origin_answer, connection_answer, bandwidth_answer, time_answer, attribute_answer};
 
 use sdp_judge::{
-    Amount, Choice, Counted, Fault, MaybePiece, Taken, Text, Wrong, choice_of, number_of, text_of,
-    word_number, word_text, word_token, wrong_of,
+    Fault, Wrong, choice_of, number_of, text_of, word_number, word_text, word_token, wrong_of,
 };
-use sdp_split::{Field, Piece, first_piece, piece_after, rest_after, word_at};
+use sdp_split::{Piece, first_piece, piece_after, rest_after, word_at};
 
-#[derive(Drop)]
+#[derive(Clone, Copy, Debug, PartialEq, Eq)]
 pub struct Origin {
-    pub username: MaybePiece,
+    pub username: Option<Piece>,
     pub sess_id: Piece,
     pub sess_version: u64,
     pub nettype: Piece,
@@ -22,105 +20,54 @@ pub struct Origin {
     pub unicast_address: Piece,
 }
 
-#[derive(Drop)]
+#[derive(Clone, Copy, Debug, PartialEq, Eq)]
 pub struct Connection {
     pub nettype: Piece,
     pub addrtype: Piece,
     pub connection_address: Piece,
 }
 
-#[derive(Drop)]
+#[derive(Clone, Copy, Debug, PartialEq, Eq)]
 pub struct Bandwidth {
     pub bwtype: Piece,
     pub bandwidth: u64,
 }
 
-#[derive(Drop)]
+#[derive(Clone, Copy, Debug, PartialEq, Eq)]
 pub struct Time {
     pub start_time: u64,
     pub stop_time: u64,
 }
 
-#[derive(Drop)]
+#[derive(Clone, Copy, Debug, PartialEq, Eq)]
 pub struct Attribute {
     pub attribute: Piece,
-    pub value: MaybePiece,
-}
-
-#[derive(Drop)]
-pub enum OriginRead {
-    Got(Origin),
-    Refused(Wrong),
-}
-
-#[derive(Drop)]
-pub enum ConnectionRead {
-    Got(Connection),
-    Refused(Wrong),
-}
-
-#[derive(Drop)]
-pub enum BandwidthRead {
-    Got(Bandwidth),
-    Refused(Wrong),
-}
-
-#[derive(Drop)]
-pub enum TimeRead {
-    Got(Time),
-    Refused(Wrong),
-}
-
-#[derive(Drop)]
-pub enum AttributeRead {
-    Got(Attribute),
-    Refused(Wrong),
+    pub value: Option<Piece>,
 }
 
 // A username `-` means absent.
-fn username_of(v: &[u8], p: Piece) -> MaybePiece
+fn username_of(v: &[u8], p: Piece) -> Option<Piece>
     requires { Inside v.now p }
     ensures { result ≡ username_of v.now p }
 {
-    let at = p.at;
-    if p.len == 1 {
-        if v[at] == b'-' {
-            return MaybePiece {
-                there: false,
-                piece: Piece { at: 0, len: 0 },
-            };
-        }
+    if p.len == 1 && v[p.at] == b'-' {
+        return None;
     }
-    MaybePiece {
-        there: true,
-        piece: p,
-    }
+    Some(p)
 }
 
 // <nettype> <addrtype> <address> from place i on and nothing after them, as o and c end: the fields w, w + 1 and w + 2.
-fn word_address(v: &[u8], i: usize, w: u64) -> ConnectionRead
+fn word_address(v: &[u8], i: usize, w: u64) -> Result<Connection, Wrong>
     requires { w ≤ 8 }
-    ensures { result ≡ connection_answer (address_of w v.now (words_at v.now i)) }
+    ensures { result ≡ address_of w v.now (words_at v.now i) }
 {
-    let nettype = match word_token(v, i, w) {
-        Text::Got { piece, next } => Taken { piece, next },
-        Text::Refused(x) => return ConnectionRead::Refused(x),
-    };
-    let addrtype = match word_token(v, nettype.next, w + 1) {
-        Text::Got { piece, next } => Taken { piece, next },
-        Text::Refused(x) => return ConnectionRead::Refused(x),
-    };
-    let address = match word_text(v, addrtype.next, w + 2) {
-        Text::Got { piece, next } => Taken { piece, next },
-        Text::Refused(x) => return ConnectionRead::Refused(x),
-    };
-    if let Field::Got { piece: _, next: _ } = word_at(v, address.next) {
-        return ConnectionRead::Refused(wrong_of(Fault::Trailing, w + 3));
+    let (nettype, i) = word_token(v, i, w)?;
+    let (addrtype, i) = word_token(v, i, w + 1)?;
+    let (connection_address, i) = word_text(v, i, w + 2)?;
+    if word_at(v, i).is_some() {
+        return Err(wrong_of(Fault::Trailing, w + 3));
     }
-    let nettype = nettype.piece;
-    let addrtype = addrtype.piece;
-    let connection_address = address.piece;
-    ConnectionRead::Got(Connection {
+    Ok(Connection {
         nettype,
         addrtype,
         connection_address,
@@ -129,46 +76,28 @@ fn word_address(v: &[u8], i: usize, w: u64) -> ConnectionRead
 
 impl Origin {
     // <username> <sess-id> <sess-version> <nettype> <addrtype> <unicast-address>
-    pub fn parse(v: &[u8]) -> OriginRead
-        ensures { result ≡ origin_answer (origin_of v.now) }
+    pub fn parse(v: &[u8]) -> Result<Origin, Wrong>
+        ensures { result ≡ origin_of v.now }
     {
-        let username = match word_text(v, 0, 1) {
-            Text::Got { piece, next } => Taken { piece, next },
-            Text::Refused(x) => return OriginRead::Refused(x),
-        };
-        let sess_id = match word_text(v, username.next, 2) {
-            Text::Got { piece, next } => Taken { piece, next },
-            Text::Refused(x) => return OriginRead::Refused(x),
-        };
-        let version = match word_number(v, sess_id.next, 3) {
-            Amount::Got { value, next } => Counted { value, next },
-            Amount::Refused(x) => return OriginRead::Refused(x),
-        };
-        match word_address(v, version.next, 4) {
-            ConnectionRead::Refused(x) => OriginRead::Refused(x),
-            ConnectionRead::Got(place) => {
-                let user = username.piece;
-                let sess_id = sess_id.piece;
-                let nettype = place.nettype;
-                let addrtype = place.addrtype;
-                let unicast_address = place.connection_address;
-                OriginRead::Got(Origin {
-                    username: username_of(v, user),
-                    sess_id,
-                    sess_version: version.value,
-                    nettype,
-                    addrtype,
-                    unicast_address,
-                })
-            }
-        }
+        let (username, i) = word_text(v, 0, 1)?;
+        let (sess_id, i) = word_text(v, i, 2)?;
+        let (sess_version, i) = word_number(v, i, 3)?;
+        let place = word_address(v, i, 4)?;
+        Ok(Origin {
+            username: username_of(v, username),
+            sess_id,
+            sess_version,
+            nettype: place.nettype,
+            addrtype: place.addrtype,
+            unicast_address: place.connection_address,
+        })
     }
 }
 
 impl Connection {
     // <nettype> <addrtype> <connection-address>
-    pub fn parse(v: &[u8]) -> ConnectionRead
-        ensures { result ≡ connection_answer (connection_of v.now) }
+    pub fn parse(v: &[u8]) -> Result<Connection, Wrong>
+        ensures { result ≡ connection_of v.now }
     {
         word_address(v, 0, 8)
     }
@@ -176,66 +105,42 @@ impl Connection {
 
 impl Bandwidth {
     // <bwtype>:<bandwidth>
-    pub fn parse(v: &[u8]) -> BandwidthRead
-        ensures { result ≡ bandwidth_answer (bandwidth_of v.now) }
+    pub fn parse(v: &[u8]) -> Result<Bandwidth, Wrong>
+        ensures { result ≡ bandwidth_of v.now }
     {
-        let bwtype = match text_of(v, 12, first_piece(v, b':')) {
-            Text::Got { piece, next } => Taken { piece, next },
-            Text::Refused(x) => return BandwidthRead::Refused(x),
-        };
-        let amount = match number_of(v, 13, piece_after(v, bwtype.next, b':')) {
-            Amount::Got { value, next } => Counted { value, next },
-            Amount::Refused(x) => return BandwidthRead::Refused(x),
-        };
-        if let Field::Got { piece: _, next: _ } = piece_after(v, amount.next, b':') {
-            return BandwidthRead::Refused(wrong_of(Fault::Trailing, 14));
+        let (bwtype, e) = text_of(v, 12, first_piece(v, b':'))?;
+        let (bandwidth, e) = number_of(v, 13, piece_after(v, e, b':'))?;
+        if piece_after(v, e, b':').is_some() {
+            return Err(wrong_of(Fault::Trailing, 14));
         }
-        let bwtype = bwtype.piece;
-        BandwidthRead::Got(Bandwidth {
-            bwtype,
-            bandwidth: amount.value,
-        })
+        Ok(Bandwidth { bwtype, bandwidth })
     }
 }
 
 impl Time {
     // <start-time> <stop-time>
-    pub fn parse(v: &[u8]) -> TimeRead
-        ensures { result ≡ time_answer (times_of v.now) }
+    pub fn parse(v: &[u8]) -> Result<Time, Wrong>
+        ensures { result ≡ times_of v.now }
     {
-        let start = match word_number(v, 0, 15) {
-            Amount::Got { value, next } => Counted { value, next },
-            Amount::Refused(x) => return TimeRead::Refused(x),
-        };
-        let stop = match word_number(v, start.next, 16) {
-            Amount::Got { value, next } => Counted { value, next },
-            Amount::Refused(x) => return TimeRead::Refused(x),
-        };
-        if let Field::Got { piece: _, next: _ } = word_at(v, stop.next) {
-            return TimeRead::Refused(wrong_of(Fault::Trailing, 17));
+        let (start_time, i) = word_number(v, 0, 15)?;
+        let (stop_time, i) = word_number(v, i, 16)?;
+        if word_at(v, i).is_some() {
+            return Err(wrong_of(Fault::Trailing, 17));
         }
-        TimeRead::Got(Time {
-            start_time: start.value,
-            stop_time: stop.value,
+        Ok(Time {
+            start_time,
+            stop_time,
         })
     }
 }
 
 impl Attribute {
     // <attribute>:<value> or <attribute>.
-    pub fn parse(v: &[u8]) -> AttributeRead
-        ensures { result ≡ attribute_answer (attribute_of v.now) }
+    pub fn parse(v: &[u8]) -> Result<Attribute, Wrong>
+        ensures { result ≡ attribute_of v.now }
     {
-        let name = match text_of(v, 23, first_piece(v, b':')) {
-            Text::Got { piece, next } => Taken { piece, next },
-            Text::Refused(x) => return AttributeRead::Refused(x),
-        };
-        match choice_of(v, 24, rest_after(v, name.next)) {
-            Choice::Got(value) => {
-                let attribute = name.piece;
-                AttributeRead::Got(Attribute { attribute, value })
-            }
-            Choice::Refused(x) => AttributeRead::Refused(x),
-        }
+        let (attribute, e) = text_of(v, 23, first_piece(v, b':'))?;
+        let value = choice_of(v, 24, rest_after(v, e))?;
+        Ok(Attribute { attribute, value })
     }
 }

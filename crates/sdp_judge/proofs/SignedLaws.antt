@@ -6,8 +6,7 @@ use mathlib.Core.Bool.{true, false, and-false}
 use mathlib.Core.List.{List}
 use borrow.Author.Tests.{lt-ltb, le-ltb, eq-eqb, ne_eqb}
 use lib.ListN.{length, get_or, take, drop}
-use Rattle.sdp_number.specs.Number.{typed_time}
-use Rattle.sdp_number.specs.declared.Number.{Number}
+use Rattle.sdp_number.specs.Number.{Number, typed_time}
 use Rattle.sdp_bytes.proofs.ScanLaws.{rest_from}
 use Rattle.sdp_judge.specs.Offset.{signed_of, zone_offset}
 

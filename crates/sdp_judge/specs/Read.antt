@@ -1,32 +1,19 @@
 -- Document 01, "Fields": one field judged. w is the field's number of "Refusal numbers".
-use Rattle.std.specs.Prelude.{ℕ, ◌+◌, true, false, cond, List, length}
+use Rattle.std.specs.Prelude.{ℕ, ◌+◌, cond, List, length, Option, Some, None, Result, Ok, Err}
 use Rattle.sdp_numbers.specs.Refusals as refusals
 use Rattle.sdp_utf8.specs.Utf8.{utf8_end, is_utf8}
 use Rattle.sdp_bytes.specs.Token.{is_token}
-use Rattle.sdp_number.specs.Number.{whole_number, typed_time}
-use Rattle.sdp_number.specs.declared.Number.{Number}
-use Rattle.sdp_number.specs.declared.Number.TheVariants.{Value, Encoding, Format}
-use Rattle.sdp_split.specs.Split.{part, next_word, later}
+use Rattle.sdp_number.specs.Number.{Number, whole_number, typed_time}
+use Rattle.sdp_number.specs.declared.NumberError.TheVariants.{Encoding, Format}
+use Rattle.sdp_split.specs.Split.{Field, part, next_word, later}
 use Rattle.sdp_split.specs.declared.Piece.{Piece}
-use Rattle.sdp_judge.specs.declared.MaybePiece.{MaybePiece}
 use Rattle.sdp_judge.specs.declared.Fault.{Fault}
 use Rattle.sdp_judge.specs.declared.Fault.TheVariants as fault
 use Rattle.sdp_judge.specs.declared.Wrong.{Wrong}
-use Rattle.sdp_split.specs.declared.Field.{Field}
-use Rattle.sdp_split.specs.declared.Field.TheVariants as field
-use Rattle.sdp_judge.specs.declared.Text.{Text}
-use Rattle.sdp_judge.specs.declared.Text.TheVariants as text
-use Rattle.sdp_judge.specs.declared.Amount.{Amount}
-use Rattle.sdp_judge.specs.declared.Amount.TheVariants as amount
-use Rattle.sdp_judge.specs.declared.Choice.{Choice}
-use Rattle.sdp_judge.specs.declared.Choice.TheVariants as choice
-use Rattle.sdp_judge.specs.declared.WholeRead.{WholeRead}
-use Rattle.sdp_judge.specs.declared.WholeRead.TheVariants as whole
 
 -- a record that was read, or the refusal
-pub data Read (A : Type 0) : Type 0 where
-  got : A → Read A
-  refused : Wrong → Read A
+abbrev pub Read : Type 0 → Type 0
+Read A = Result A Wrong
 
 -- a refusal that names no byte
 abbrev pub plain : ℕ → ℕ → Wrong
@@ -58,83 +45,67 @@ wrong_of fault.Format w = format w
 wrong_of fault.Missing w = missing w
 wrong_of fault.Trailing w = trailing w
 
--- a string: "all strings are UTF-8"
-abbrev pub text_of : ℕ → List ℕ → Field → Text
-text_of w v (field.Got p e) = cond (is_utf8 (part v p)) (text.Got p e) (text.Refused (encoding w v p))
-text_of w v field.Nothing = text.Refused (missing w)
+-- a string, with its field's end: "all strings are UTF-8"
+abbrev pub text_of : ℕ → List ℕ → Field → Read (Piece × ℕ)
+text_of w v (Some (p, e)) = cond (is_utf8 (part v p)) (Ok (p, e)) (Err (encoding w v p))
+text_of w v None = Err (missing w)
 
 -- a token: "nettype and addrtype are tokens (else 9)"
-abbrev pub token_of : ℕ → List ℕ → Field → Text
-token_of w v (field.Got p e) = cond (is_token (part v p)) (text.Got p e) (text.Refused (format w))
-token_of w v field.Nothing = text.Refused (missing w)
+abbrev pub token_of : ℕ → List ℕ → Field → Read (Piece × ℕ)
+token_of w v (Some (p, e)) = cond (is_token (part v p)) (Ok (p, e)) (Err (format w))
+token_of w v None = Err (missing w)
 
 -- a number that was read in the field p of v, with the field's end
-abbrev pub amount_of : ℕ → List ℕ → Piece → ℕ → Number → Amount
-amount_of w v p e (Value n) = amount.Got n e
-amount_of w v p e Encoding = amount.Refused (encoding w v p)
-amount_of w v p e Format = amount.Refused (format w)
+abbrev pub amount_of : ℕ → List ℕ → Piece → ℕ → Number → Read (ℕ × ℕ)
+amount_of w v p e (Ok n) = Ok (n, e)
+amount_of w v p e (Err Encoding) = Err (encoding w v p)
+amount_of w v p e (Err Format) = Err (format w)
 
 -- a whole number of 64 bits: "UTF-8 is tested first (8), then form (9)"
-abbrev pub number_of : ℕ → List ℕ → Field → Amount
-number_of w v (field.Got p e) = amount_of w v p e (whole_number 64 (part v p))
-number_of w v field.Nothing = amount.Refused (missing w)
+abbrev pub number_of : ℕ → List ℕ → Field → Read (ℕ × ℕ)
+number_of w v (Some (p, e)) = amount_of w v p e (whole_number 64 (part v p))
+number_of w v None = Err (missing w)
 
 -- a typed time
-abbrev pub time_of : ℕ → List ℕ → Field → Amount
-time_of w v (field.Got p e) = amount_of w v p e (typed_time (part v p))
-time_of w v field.Nothing = amount.Refused (missing w)
-
--- an absent string
-abbrev pub absent : MaybePiece
-absent = record { there = false; piece = record { at = 0; len = 0 } }
+abbrev pub time_of : ℕ → List ℕ → Field → Read (ℕ × ℕ)
+time_of w v (Some (p, e)) = amount_of w v p e (typed_time (part v p))
+time_of w v None = Err (missing w)
 
 -- a string that may be absent
-abbrev pub choice_of : ℕ → List ℕ → Field → Choice
-choice_of w v (field.Got p e) =
-    cond (is_utf8 (part v p)) (choice.Got (record { there = true; piece = p })) (choice.Refused (encoding w v p))
-choice_of w v field.Nothing = choice.Got absent
+abbrev pub choice_of : ℕ → List ℕ → Field → Read (Option Piece)
+choice_of w v (Some (p, e)) = cond (is_utf8 (part v p)) (Ok (Some p)) (Err (encoding w v p))
+choice_of w v None = Ok None
 
 -- ---- what follows what was read; a refusal ends the record
 abbrev pub and_then : {A B : Type 0} → Read A → (A → Read B) → Read B
-and_then (got a) k = k a
-and_then (refused x) k = refused x
+and_then (Ok a) k = k a
+and_then (Err x) k = Err x
 
--- the same after a string
-abbrev pub after_text : {A : Type 0} → Text → (Piece → ℕ → Read A) → Read A
-after_text (text.Got p e) k = k p e
-after_text (text.Refused x) k = refused x
-
--- after a number
-abbrev pub after_amount : {A : Type 0} → Amount → (ℕ → ℕ → Read A) → Read A
-after_amount (amount.Got n e) k = k n e
-after_amount (amount.Refused x) k = refused x
-
--- after a string that may be absent
-abbrev pub after_choice : {A : Type 0} → Choice → (MaybePiece → Read A) → Read A
-after_choice (choice.Got m) k = k m
-after_choice (choice.Refused x) k = refused x
+-- the same after a field that was read with its end
+abbrev pub after : {A B : Type 0} → Read (B × ℕ) → (B → ℕ → Read A) → Read A
+after r k = and_then r (λ z. k z.0 z.1)
 
 -- "Extra fields in o, c, b or t give 11 after all fields were read"
 abbrev pub ending : {A : Type 0} → ℕ → Field → Read A → Read A
-ending w (field.Got p e) r = refused (trailing w)
-ending w field.Nothing r = r
+ending w (Some (p, e)) r = Err (trailing w)
+ending w None r = r
 
 -- ---- the next of the words ws of v, and what follows it with the words that are left
 -- as a string of field w
 unfoldable pub next_text : {A : Type 0} → ℕ → List ℕ → List Piece → (Piece → List Piece → Read A) → Read A
-next_text w v ws k = after_text (text_of w v (next_word ws)) (λ p e. k p (later ws))
+next_text w v ws k = after (text_of w v (next_word ws)) (λ p e. k p (later ws))
 
 -- as a token
 unfoldable pub next_token : {A : Type 0} → ℕ → List ℕ → List Piece → (Piece → List Piece → Read A) → Read A
-next_token w v ws k = after_text (token_of w v (next_word ws)) (λ p e. k p (later ws))
+next_token w v ws k = after (token_of w v (next_word ws)) (λ p e. k p (later ws))
 
 -- as a whole number
 unfoldable pub next_number : {A : Type 0} → ℕ → List ℕ → List Piece → (ℕ → List Piece → Read A) → Read A
-next_number w v ws k = after_amount (number_of w v (next_word ws)) (λ n e. k n (later ws))
+next_number w v ws k = after (number_of w v (next_word ws)) (λ n e. k n (later ws))
 
 -- as a typed time
 unfoldable pub next_time : {A : Type 0} → ℕ → List ℕ → List Piece → (ℕ → List Piece → Read A) → Read A
-next_time w v ws k = after_amount (time_of w v (next_word ws)) (λ n e. k n (later ws))
+next_time w v ws k = after (time_of w v (next_word ws)) (λ n e. k n (later ws))
 
 -- ---- a value that is one field
 abbrev pub entire : List ℕ → Piece
@@ -142,9 +113,4 @@ entire v = record { at = 0; len = length v }
 
 -- the whole value as one string of field w: s, i, u, e, p
 unfoldable pub whole_of : ℕ → List ℕ → Read Piece
-whole_of w v = cond (is_utf8 v) (got (entire v)) (refused (encoding w v (entire v)))
-
--- its answer, as the enum that the code hands out
-abbrev pub whole_answer : Read Piece → WholeRead
-whole_answer (got x) = whole.Got x
-whole_answer (refused w) = whole.Refused w
+whole_of w v = cond (is_utf8 v) (Ok (entire v)) (Err (encoding w v (entire v)))

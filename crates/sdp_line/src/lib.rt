@@ -8,12 +8,18 @@ ghost use Rattle.sdp_step.specs.Hold.{Tells, role_in};
 ghost use Rattle.sdp_line.specs.Version.{opening_of};
 
 use sdp_cutter::{Line, made};
+use sdp_judge::Wrong;
 use sdp_lines::{Answer, LineNumber, Place};
-use sdp_step::{Marks, Taken};
+use sdp_step::Marks;
 use sdp_take::take_line;
 
 // A line is taken apart, and what it says goes into the area.
-fn take_of<'t>(area: &mut [u8], at: Place, marks: Marks, line: Line<'t>) -> Taken
+fn take_of<'t>(
+    area: &mut [u8],
+    at: Place,
+    marks: Marks,
+    line: Line<'t>,
+) -> Result<Option<Marks>, Wrong>
     requires { (size ≤ length area.old) × (at.0 + length line.value.now ≤ longest_text) }
     ensures { Tells (role_in line.entry.letter) at.0 line.entry.value.now
         marks result area.old area.new }
@@ -29,7 +35,7 @@ pub fn take(
     number: LineNumber,
     letter: u8,
     value: &[u8],
-) -> Taken
+) -> Result<Option<Marks>, Wrong>
     requires { (size ≤ length area.old) × (at.0 + length value.now ≤ longest_text) }
     ensures { Tells (role_in letter) at.0 value.now marks result area.old area.new }
 {

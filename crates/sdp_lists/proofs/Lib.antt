@@ -1,2 +1,1 @@
-pub mod OffsetLaws
 pub mod RestLaws

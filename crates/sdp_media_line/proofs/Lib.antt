@@ -1,2 +1,1 @@
-pub mod PortLaws
 pub mod BoundLaws

@@ -1,2 +1,1 @@
 pub mod MediaLine
-pub mod Answers

@@ -3,7 +3,7 @@
 use Prim.Native.Nat.{ℕ, suc, ◌+◌, ◌-◌, ◌*◌, ◌/◌, ◌^◌, ◌<◌, ◌≤◌}
 use native.Mathlib.Omega.{arith}
 use native.Mathlib.Numerals.{add-one}
-use native.Mathlib.Nat.{le-div_iff_mul-le, div-lt_iff_lt-mul, le_trans}
+use native.Mathlib.Nat.{le_trans}
 use mathlib.Core.Path.{◌≡◌, refl, sym, ◌∙◌}
 use mathlib.Core.Bool.{Bool, true, false, ◌&&◌, and-false, cond}
 use mathlib.Core.List.{List, [], ◌∷◌}
@@ -15,19 +15,21 @@ use Rattle.sdp_bytes.specs.Token.{digit}
 use Rattle.sdp_utf8.specs.Utf8.{end_from, is_utf8, utf8_end}
 use Rattle.sdp_bytes.proofs.ScanLaws.{and_left, and_right}
 use Rattle.sdp_utf8.proofs.Utf8Laws.{utf8_plain}
-use Rattle.sdp_number.specs.declared.Number.{Number}
-use Rattle.sdp_number.specs.declared.Number.TheVariants.{Value, Encoding, Format}
-use Rattle.sdp_number.specs.Number.{all_digits, value, digits_below, drop_plus, numeral, whole_number, unit_of, scaled, typed_time}
+use Rattle.std.specs.Prelude.{Option, Some, None, Ok, Err, SomeIff}
+use Rattle.std.specs.Option.{ok_or}
+use Rattle.sdp_number.specs.declared.NumberError.{NumberError}
+use Rattle.sdp_number.specs.declared.NumberError.TheVariants.{Encoding, Format}
+use Rattle.sdp_number.specs.Number.{Number, all_digits, value, digits_below, drop_plus, numeral, whole_number, unit_of, scaled, typed_time}
 
 -- what the digits s say after digits of the value v
 unfoldable pub continued : ℕ → ℕ → List ℕ → Number
-continued n v s = cond (all_digits s && ltb (value v s) n) (Value (value v s)) Format
+continued n v s = cond (all_digits s && ltb (value v s) n) (Ok (value v s)) (Err Format)
 
 pub started : (n : ℕ) (s : List ℕ) → 0 < length s → digits_below n s ≡ continued n 0 s
 unfolding digits_below continued
 started n s h = rw (lt-ltb 0 (length s) h)
 
-pub empty : (n : ℕ) (s : List ℕ) → length s ≡ 0 → digits_below n s ≡ Format
+pub empty : (n : ℕ) (s : List ℕ) → length s ≡ 0 → digits_below n s ≡ Err Format
 unfolding digits_below
 empty n s h = rw (le-ltb 0 (length s) (omega arith))
 
@@ -37,11 +39,11 @@ grows v [] = omega arith
 grows v (b ∷ s) = let h = grows (v * 10 + (b - 0x30)) s in omega arith
 
 module _ (n v : ℕ) (s : List ℕ) (i : ℕ) (l : i < length s) where
-  pub low : get_or s i 0 < 0x30 → continued n v (drop i s) ≡ Format
+  pub low : get_or s i 0 < 0x30 → continued n v (drop i s) ≡ Err Format
   unfolding continued all_digits
   low h = rw (drop-cons s i 0, lt-leb 0x30 (get_or s i 0) h)
 
-  pub high : 0x39 < get_or s i 0 → continued n v (drop i s) ≡ Format
+  pub high : 0x39 < get_or s i 0 → continued n v (drop i s) ≡ Err Format
   unfolding continued all_digits
   high h = rw (drop-cons s i 0, lt-leb (get_or s i 0) 0x39 h, and-false)
 
@@ -50,25 +52,17 @@ module _ (n v : ℕ) (s : List ℕ) (i : ℕ) (l : i < length s) where
     unfolding continued all_digits value
     next = rw (drop-cons s i 0, le-leb 0x30 (get_or s i 0) p, le-leb (get_or s i 0) 0x39 q, add-one)
 
-    pub over : n ≤ v * 10 + (get_or s i 0 - 0x30) → continued n v (drop i s) ≡ Format
+    pub over : n ≤ v * 10 + (get_or s i 0 - 0x30) → continued n v (drop i s) ≡ Err Format
     unfolding continued
     over h =
         let w = v * 10 + (get_or s i 0 - 0x30) in
         next ∙ rw (le-ltb (value w (drop (i + 1) s)) n (le_trans h (grows w (drop (i + 1) s))), and-false)
 
-pub done : (n v : ℕ) (s : List ℕ) (i : ℕ) → length s ≤ i → v < n → continued n v (drop i s) ≡ Value v
+pub done : (n v : ℕ) (s : List ℕ) (i : ℕ) → length s ≤ i → v < n → continued n v (drop i s) ≡ Ok v
 unfolding continued all_digits value
 done n v s i l h = rw (drop_of_length-le s l, lt-ltb v n h)
 
--- a product that is tested by a division first
-module _ (m k v : ℕ) (p : 0 < k) where
-  pub product_fits : v ≤ m / k → v * k ≤ m
-  product_fits h = (le-div_iff_mul-le p).0 h
-
-  pub product_over : m / k < v → m < v * k
-  product_over h = (div-lt_iff_lt-mul p).0 h
-
-pub plus_none : (n : ℕ) (s : List ℕ) → length s ≡ 0 → digits_below n (drop_plus s) ≡ Format
+pub plus_none : (n : ℕ) (s : List ℕ) → length s ≡ 0 → digits_below n (drop_plus s) ≡ Err Format
 unfolding digits_below drop_plus
 plus_none n [] h = refl
 plus_none n (b ∷ s) h = absurd (omega arith)
@@ -93,11 +87,11 @@ digits-plain (b ∷ s) h =
     let i = digits-plain s (and_right (digit b) (all_digits s) h) in
     omega arith
 
-below_digits : (n : ℕ) (s : List ℕ) (v : ℕ) → digits_below n s ≡ Value v → all_digits s ≡ true
+below_digits : (n : ℕ) (s : List ℕ) (v : ℕ) → digits_below n s ≡ Ok v → all_digits s ≡ true
 unfolding digits_below
 below_digits n s v = go (ltb 0 (length s)) (all_digits s) (ltb (value 0 s) n)
   where
-    go : (a b c : Bool) → cond (a && (b && c)) (Value (value 0 s)) Format ≡ Value v → b ≡ true
+    go : (a b c : Bool) → cond (a && (b && c)) (Ok (value 0 s)) (Err Format) ≡ Ok v → b ≡ true
     go true true c e = refl
     go true false c e = absurd (let z : ◌≡◌ {A = ℕ} 0 1 = cc in omega arith)
     go false b c e = absurd (let z : ◌≡◌ {A = ℕ} 0 1 = cc in omega arith)
@@ -111,27 +105,26 @@ plus_plain (b ∷ s) h = go (eqb b 0x2b) refl h
     go true p h = let e = utf8_plain b s (omega (arith, eqb-true b 0x2b p)) in let i = digits-plain s h in omega arith
     go false p h = digits-plain (b ∷ s) h
 
-number_utf8 : (n : ℕ) (s : List ℕ) (v : ℕ) → digits_below n (drop_plus s) ≡ Value v → is_utf8 s ≡ true
+number_utf8 : (n : ℕ) (s : List ℕ) (v : ℕ) → digits_below n (drop_plus s) ≡ Ok v → is_utf8 s ≡ true
 unfolding is_utf8
 number_utf8 n s v e = eq-eqb (utf8_end s) (length s) (plus_plain s (below_digits n (drop_plus s) v e))
 
 -- the answers by the form: a value is UTF-8, and what has no good form is judged by its encoding
-module _ (n : ℕ) (s : List ℕ) where
-  pub number_value : (v : ℕ) → digits_below n (drop_plus s) ≡ Value v → Value v ≡ cond (is_utf8 s) (digits_below n (drop_plus s)) Encoding
-  number_value v e = rw (number_utf8 n s v e) (sym e)
+pub number_value : (n : ℕ) (s : List ℕ) (v : ℕ) → digits_below n (drop_plus s) ≡ Ok v → Ok v ≡ cond (is_utf8 s) (digits_below n (drop_plus s)) (Err Encoding)
+number_value n s v e = rw (number_utf8 n s v e) (sym e)
 
-  pub number_encoding : digits_below n (drop_plus s) ≡ Encoding → Encoding ≡ cond (is_utf8 s) (digits_below n (drop_plus s)) Encoding
-  number_encoding e = rw e (go (is_utf8 s))
-    where
-      go : (t : Bool) → Encoding ≡ cond t Encoding Encoding
-      go true = refl
-      go false = refl
-
-  pub number_format : digits_below n (drop_plus s) ≡ Format → cond (is_utf8 s) Format Encoding ≡ cond (is_utf8 s) (digits_below n (drop_plus s)) Encoding
-  number_format e = rw e
+pub number_format : (n : ℕ) (s : List ℕ) (x : NumberError) → digits_below n (drop_plus s) ≡ Err x → is_utf8 s ≡ true
+    → Err Format ≡ cond (is_utf8 s) (digits_below n (drop_plus s)) (Err Encoding)
+unfolding digits_below
+number_format n s x e h = rw h (go (ltb 0 (length (drop_plus s)) && (all_digits (drop_plus s) && ltb (value 0 (drop_plus s)) n)) e)
+  where
+    go : (t : Bool) → ◌≡◌ {A = Number} (cond t (Ok (value 0 (drop_plus s))) (Err Format)) (Err x)
+        → ◌≡◌ {A = Number} (Err Format) (cond t (Ok (value 0 (drop_plus s))) (Err Format))
+    go true e = absurd (let z : ◌≡◌ {A = ℕ} 0 1 = cc in omega arith)
+    go false e = refl
 
 -- ---- typed times
-pub typed_none : (s : List ℕ) → length s ≡ 0 → typed_time s ≡ Format
+pub typed_none : (s : List ℕ) → length s ≡ 0 → typed_time s ≡ Err Format
 unfolding typed_time whole_number numeral digits_below drop_plus is_utf8 utf8_end end_from
 typed_none [] h = refl
 typed_none (b ∷ s) h = absurd (omega arith)
@@ -145,29 +138,18 @@ pub typed_unit : (s : List ℕ) (k : ℕ) → k ≡ unit_of (get_or s (length s 
 unfolding typed_time
 typed_unit s k e h = rw (← e, ne_eqb k 0 h)
 
-scaled_fits : (k v : ℕ) → v * k < 2 ^ 64 → scaled k (Value v) ≡ Value (v * k)
-scaled_fits k v h = rw (lt-ltb (v * k) (2 ^ 64) h)
-
-scaled-over : (k v : ℕ) → 2 ^ 64 ≤ v * k → scaled k (Value v) ≡ Format
-scaled-over k v h = rw (le-ltb (v * k) (2 ^ 64) h)
-
-module _ (k v : ℕ) (p : 0 < k) where
-  pub scale_fits : v ≤ 0xffff_ffff_ffff_ffff / k → v * k < 2 ^ 64
-  scale_fits h = let l = product_fits 0xffff_ffff_ffff_ffff k v p h in omega arith
-
-  pub scale_value : v ≤ 0xffff_ffff_ffff_ffff / k → scaled k (Value v) ≡ Value (v * k)
-  scale_value h = scaled_fits k v (scale_fits h)
-
-  pub scale_bad : 0xffff_ffff_ffff_ffff / k < v → scaled k (Value v) ≡ Format
-  scale_bad h = let l = product_over 0xffff_ffff_ffff_ffff k v p h in scaled-over k v (omega arith)
+-- a product that the machine's checked one gives
+pub scaled_checked : (k v : ℕ) (r : Option ℕ) → SomeIff r (v * k < 2 ^ 64) (v * k) → ok_or r Format ≡ scaled k (Ok v)
+scaled_checked k v (Some x) h = rw (lt-ltb (v * k) (2 ^ 64) h.0, h.1)
+scaled_checked k v None h = rw (le-ltb (v * k) (2 ^ 64) (omega arith))
 
 -- ---- a whole number of w bits is below 2^w
-pub number_below : (w : ℕ) (s : List ℕ) (n : ℕ) → whole_number w s ≡ Value n → n < 2 ^ w
+pub number_below : (w : ℕ) (s : List ℕ) (n : ℕ) → whole_number w s ≡ Ok n → n < 2 ^ w
 unfolding whole_number numeral digits_below
 number_below w s n = go (is_utf8 s) (ltb 0 (length (drop_plus s)) && (all_digits (drop_plus s) && ltb (value 0 (drop_plus s)) (2 ^ w))) refl
   where
     go : (u t : Bool) → (ltb 0 (length (drop_plus s)) && (all_digits (drop_plus s) && ltb (value 0 (drop_plus s)) (2 ^ w))) ≡ t
-        → cond u (cond t (Value (value 0 (drop_plus s))) Format) Encoding ≡ Value n → n < 2 ^ w
+        → cond u (cond t (Ok (value 0 (drop_plus s))) (Err Format)) (Err Encoding) ≡ Ok n → n < 2 ^ w
     go true true q h =
         let z : value 0 (drop_plus s) ≡ n = cc in
         rw z at (ltb-true (value 0 (drop_plus s)) (2 ^ w) (and_right (all_digits (drop_plus s)) _ (and_right (ltb 0 (length (drop_plus s))) _ q)))

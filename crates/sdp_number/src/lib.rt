@@ -1,17 +1,16 @@
 // Whole numbers and typed times of document 01, "Fields".
 #![tactic(auto)]
 
-ghost use Rattle.std.specs.Prelude.{◌≡◌, cond, ◌+◌, ◌<◌, ◌^◌};
+ghost use Rattle.std.specs.Prelude.{◌≡◌, cond, ◌+◌, Err};
 ghost use Rattle.sdp_utf8.specs.Utf8.{is_utf8};
-ghost use Rattle.sdp_number.specs.Number.{digits_below, drop_plus, whole_number, unit_of, scaled, typed_time};
-ghost use Rattle.sdp_number.specs.declared.Number.TheVariants.{Encoding, Format};
+ghost use Rattle.sdp_number.specs.Number.{digits_below, drop_plus, whole_number, unit_of, typed_time};
+ghost use Rattle.sdp_number.specs.declared.NumberError.TheVariants.{Encoding};
 
 use sdp_utf8::is_utf8;
 
-// What reading a number finds.
-#[derive(Drop)]
-pub enum Number {
-    Value(u64),
+// Why bytes are no number.
+#[derive(Clone, Copy, Debug, PartialEq, Eq)]
+pub enum NumberError {
     // not UTF-8
     Encoding,
     // UTF-8, and no number of the width
@@ -25,41 +24,41 @@ fn wide(x: u8) -> u64
 }
 
 // The number that s says, one or more digits, where it is at most max.
-fn digits_to(s: &[u8], max: u64) -> Number
+fn digits_to(s: &[u8], max: u64) -> Result<u64, NumberError>
     ensures { result ≡ digits_below (max + 1) s.now }
 {
     if s.len() == 0 {
-        return Number::Format;
+        return Err(NumberError::Format);
     }
     let mut v: u64 = 0;
     let mut i = 0;
     while i < s.len() {
         let b = s[i];
         if b < 0x30 {
-            return Number::Format;
+            return Err(NumberError::Format);
         }
         if 0x39 < b {
-            return Number::Format;
+            return Err(NumberError::Format);
         }
         let d = wide(b - 0x30);
         if max / 10 < v {
-            return Number::Format;
+            return Err(NumberError::Format);
         }
         if max - v * 10 < d {
-            return Number::Format;
+            return Err(NumberError::Format);
         }
         v = v * 10 + d;
         i += 1;
     }
-    Number::Value(v)
+    Ok(v)
 }
 
 // The same after an optional plus sign.
-fn numeral_to(s: &[u8], max: u64) -> Number
+fn numeral_to(s: &[u8], max: u64) -> Result<u64, NumberError>
     ensures { result ≡ digits_below (max + 1) (drop_plus s.now) }
 {
     if s.len() == 0 {
-        return Number::Format;
+        return Err(NumberError::Format);
     }
     if s[0] == 0x2b {
         return digits_to(&s[1..], max);
@@ -67,36 +66,26 @@ fn numeral_to(s: &[u8], max: u64) -> Number
     digits_to(s, max)
 }
 
-// The refusal of what is no number.
-fn refused(s: &[u8]) -> Number
-    ensures { result ≡ cond (is_utf8 s.now) Format Encoding }
-{
-    if is_utf8(s) {
-        return Number::Format;
-    }
-    Number::Encoding
-}
-
 // A number is ASCII, so the UTF-8 test is made only where there is none.
-fn number_to(s: &[u8], max: u64) -> Number
-    ensures { result ≡ cond (is_utf8 s.now) (digits_below (max + 1) (drop_plus s.now)) Encoding }
+fn number_to(s: &[u8], max: u64) -> Result<u64, NumberError>
+    ensures { result ≡ cond (is_utf8 s.now) (digits_below (max + 1) (drop_plus s.now)) (Err Encoding) }
 {
     match numeral_to(s, max) {
-        Number::Value(v) => Number::Value(v),
-        Number::Encoding => Number::Encoding,
-        Number::Format => refused(s),
+        Ok(n) => Ok(n),
+        Err(_) if is_utf8(s) => Err(NumberError::Format),
+        Err(_) => Err(NumberError::Encoding),
     }
 }
 
 // A whole number of 64 bits.
-pub fn number64(s: &[u8]) -> Number
+pub fn number64(s: &[u8]) -> Result<u64, NumberError>
     ensures { result ≡ whole_number 64 s.now }
 {
     number_to(s, 0xffff_ffff_ffff_ffff)
 }
 
 // A whole number of 16 bits.
-pub fn number16(s: &[u8]) -> Number
+pub fn number16(s: &[u8]) -> Result<u64, NumberError>
     ensures { result ≡ whole_number 16 s.now }
 {
     number_to(s, 0xffff)
@@ -127,35 +116,17 @@ fn unit_of(b: u8) -> u64
     pick_unit(b == b'd', b == b'h', b == b'm', b == b's')
 }
 
-// The number times k, where that fits.
-fn scale(n: Number, k: u64) -> Number
-    requires { 0 < k }
-    ensures { result ≡ scaled k n }
-{
-    match n {
-        Number::Encoding => Number::Encoding,
-        Number::Format => Number::Format,
-        Number::Value(v) => {
-            if 0xffff_ffff_ffff_ffff / k < v {
-                Number::Format
-            } else {
-                Number::Value(v * k)
-            }
-        }
-    }
-}
-
 // A whole number, or one with a unit letter after it.
-pub fn typed_time(s: &[u8]) -> Number
+pub fn typed_time(s: &[u8]) -> Result<u64, NumberError>
     ensures { result ≡ typed_time s.now }
 {
     if s.len() == 0 {
-        return Number::Format;
+        return Err(NumberError::Format);
     }
     let n = s.len() - 1;
     let k = unit_of(s[n]);
     if k == 0 {
         return number64(s);
     }
-    scale(number64(&s[..n]), k)
+    number64(&s[..n])?.checked_mul(k).ok_or(NumberError::Format)
 }

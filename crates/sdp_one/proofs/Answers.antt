@@ -1,7 +1,7 @@
 -- Of each public function: its promise has one answer only, and leaves one state of what was lent. `Learnt` is what a caller learns by the
 -- function's contract, as the toolchain reads it from the source. docs/ONE-ANSWER.md lists them. Assumes nothing.
 use mathlib.Core.Path.{refl}
-use Rattle.sdp_one.specs.One.{OneAnswer, OneState, OnePut}
+use Rattle.sdp_one.specs.One.{OneAnswer, OneSeen, OneState, OnePut}
 use Rattle.sdp_one.proofs.OneLaws.{same, same_put}
 use Rattle.sdp_unfit.proofs.UnfitLaws.{refusal_tells}
 use Rattle.sdp_listing.specs.Columns.{columns}
@@ -21,6 +21,7 @@ use Rattle.sdp_lines.proofs.Fault.number.Reads as sdpLinesFaultNumber
 use Rattle.sdp_lines.proofs.Answer.on_line.Reads as sdpLinesAnswerOnLine
 use Rattle.sdp_lines.proofs.Answer.plain.Reads as sdpLinesAnswerPlain
 use Rattle.sdp_cutter.proofs.move_at.Reads as sdpCutterMoveAt
+use Rattle.sdp_split.proofs.Piece.of.Reads as sdpSplitPieceOf
 use Rattle.sdp_split.proofs.word_at.Reads as sdpSplitWordAt
 use Rattle.sdp_split.proofs.first_piece.Reads as sdpSplitFirstPiece
 use Rattle.sdp_split.proofs.piece_after.Reads as sdpSplitPieceAfter
@@ -187,6 +188,9 @@ pub sdp_cutter_move_at : OneAnswer sdpCutterMoveAt.Learnt
 sdp_cutter_move_at κs a z z' e e' p q = same p q
 
 -- ---- sdp_split
+pub sdp_split_Piece_of : OneSeen (λ κs z. z.now) sdpSplitPieceOf.Learnt
+sdp_split_Piece_of κs a z z' e e' p q = same p q
+
 pub sdp_split_word_at : OneAnswer sdpSplitWordAt.Learnt
 sdp_split_word_at κs a z z' e e' p q = same p q
 

@@ -11,10 +11,10 @@ use Rattle.sdp_roles.specs.Kinds.{Kind, unused, media, other, kind_of}
 use Rattle.sdp_roles.specs.declared.Role.{Role}
 use Rattle.sdp_roles.specs.declared.Role.TheVariants as role
 use Rattle.sdp_step.specs.Step.{Reading, Stepped, goes, stops, step_role, fresh}
-use Rattle.sdp_step.specs.Hold.{Holds, Handled, Takes, Lands, Tells, role_in}
+use Rattle.sdp_step.specs.Hold.{Holds, Handled, Takes, Used, Lands, Tells, role_in}
 use Rattle.sdp_step.specs.declared.Marks.{Marks}
-use Rattle.sdp_step.specs.declared.Taken.{Taken}
-use Rattle.sdp_step.specs.declared.Taken.TheVariants.{Kept, Idle, Refused}
+use Rattle.sdp_judge.specs.declared.Wrong.{Wrong}
+use Rattle.std.specs.Prelude.{Option, Some, None, Result, Ok, Err}
 use Rattle.sdp_stamp.specs.Stamp.{no_stamps}
 use Rattle.sdp_take_once.specs.Onces.{once_role}
 use Rattle.sdp_take_row.specs.Rows.{row_role}
@@ -33,26 +33,34 @@ use Rattle.sdp_one.specs.One.{OneWhere}
 use Rattle.sdp_one.specs.Seen.{seen, seen_turn}
 use Rattle.sdp_one.proofs.OneLaws.{same}
 
-handled_once : (x : Stepped Span) (r r' : Taken) (a a' t : List ℕ) → Handled x r a t → Handled x r' a' t → (r ≡ r') × (seen r a ≡ seen r' a')
-handled_once (goes ρ) (Kept m) (Kept m') a a' t h k = (ap Kept (same h.marks k.marks), same h.bytes k.bytes)
-handled_once (goes ρ) (Kept m) Idle a a' t h k = absurd k
-handled_once (goes ρ) (Kept m) (Refused w) a a' t h k = absurd k
-handled_once (goes ρ) Idle r' a a' t h k = absurd h
-handled_once (goes ρ) (Refused w) r' a a' t h k = absurd h
-handled_once (stops w) (Kept m) r' a a' t h k = absurd h
-handled_once (stops w) Idle r' a a' t h k = absurd h
-handled_once (stops w) (Refused x) (Kept m) a a' t h k = absurd k
-handled_once (stops w) (Refused x) Idle a a' t h k = absurd k
-handled_once (stops w) (Refused x) (Refused y) a a' t h k = (ap Refused (same h.0 k.0), same h.1 k.1)
+handled_once : (x : Stepped Span) (r r' : Result Marks Wrong) (a a' t : List ℕ) → Handled x r a t → Handled x r' a' t → (r ≡ r') × (seen r a ≡ seen r' a')
+handled_once (goes ρ) (Ok m) (Ok m') a a' t h k = (ap Ok (same h.marks k.marks), same h.bytes k.bytes)
+handled_once (goes ρ) (Ok m) (Err w) a a' t h k = absurd k
+handled_once (goes ρ) (Err w) r' a a' t h k = absurd h
+handled_once (stops w) (Ok m) r' a a' t h k = absurd h
+handled_once (stops w) (Err x) (Ok m) a a' t h k = absurd k
+handled_once (stops w) (Err x) (Err y) a a' t h k = (ap Err (same h.0 k.0), same h.1 k.1)
 
-lands_once : (y : Kind) (x : Stepped Span) (m : Marks) (r r' : Taken) (a a' t : List ℕ) → Lands y x m r a t → Lands y x m r' a' t → (r ≡ r') × (seen r a ≡ seen r' a')
-lands_once unused x m (Kept n) r' a a' t h k = absurd h
-lands_once unused x m (Refused w) r' a a' t h k = absurd h
-lands_once unused x m Idle (Kept n) a a' t h k = absurd k
-lands_once unused x m Idle (Refused w) a a' t h k = absurd k
-lands_once unused x m Idle Idle a a' t h k = (refl, (handled_once x (Kept m) (Kept m) a a' t h k).1)
-lands_once media x m r r' a a' t h k = handled_once x r r' a a' t h k
-lands_once other x m r r' a a' t h k = handled_once x r r' a a' t h k
+used_once : (x : Stepped Span) (r r' : Result (Option Marks) Wrong) (a a' t : List ℕ) → Used x r a t → Used x r' a' t → (r ≡ r') × (seen r a ≡ seen r' a')
+used_once (goes ρ) (Ok (Some m)) (Ok (Some m')) a a' t h k = (ap (λ (n : Marks). Ok (Some n)) (same h.marks k.marks), same h.bytes k.bytes)
+used_once (goes ρ) (Ok (Some m)) (Ok None) a a' t h k = absurd k
+used_once (goes ρ) (Ok (Some m)) (Err w) a a' t h k = absurd k
+used_once (goes ρ) (Ok None) r' a a' t h k = absurd h
+used_once (goes ρ) (Err w) r' a a' t h k = absurd h
+used_once (stops w) (Ok (Some m)) r' a a' t h k = absurd h
+used_once (stops w) (Ok None) r' a a' t h k = absurd h
+used_once (stops w) (Err x) (Ok (Some m)) a a' t h k = absurd k
+used_once (stops w) (Err x) (Ok None) a a' t h k = absurd k
+used_once (stops w) (Err x) (Err y) a a' t h k = (ap Err (same h.0 k.0), same h.1 k.1)
+
+lands_once : (y : Kind) (x : Stepped Span) (m : Marks) (r r' : Result (Option Marks) Wrong) (a a' t : List ℕ) → Lands y x m r a t → Lands y x m r' a' t → (r ≡ r') × (seen r a ≡ seen r' a')
+lands_once unused x m (Ok (Some n)) r' a a' t h k = absurd h
+lands_once unused x m (Err w) r' a a' t h k = absurd h
+lands_once unused x m (Ok None) (Ok (Some n)) a a' t h k = absurd k
+lands_once unused x m (Ok None) (Err w) a a' t h k = absurd k
+lands_once unused x m (Ok None) (Ok None) a a' t h k = (refl, (handled_once x (Ok m) (Ok m) a a' t h k).1)
+lands_once media x m r r' a a' t h k = used_once x r r' a a' t h k
+lands_once other x m r r' a a' t h k = used_once x r r' a a' t h k
 
 -- two states that hold the same
 states_once : (b : Bool) (ρ : Reading Span) (ls : List ℕ) (c : Counts) (g g' : State) (a a' t : List ℕ) → Carries b ρ ls c g a t → Carries b ρ ls c g' a' t → (g ≡ g') × (a ≡ a')
@@ -87,7 +95,7 @@ turned_once (unread x) f (Err (Unread y)) (Err (Unread y')) a a' t h k = (ap (λ
 
 module _ (ρ : Reading Span) (t : List ℕ) where
   -- what takes a line by any step f
-  taken_once : (f : Reading Span → Stepped Span) {m : Marks} {a : List ℕ} (r r' : Taken) (z z' : List ℕ) → Holds ρ m a t
+  taken_once : (f : Reading Span → Stepped Span) {m : Marks} {a : List ℕ} (r r' : Result Marks Wrong) (z z' : List ℕ) → Holds ρ m a t
       → Takes f m r a z → Takes f m r' a z' → (r ≡ r') × (seen r z ≡ seen r' z')
   taken_once f r r' z z' h p q = handled_once (f ρ) r r' z z' t (p ρ t h) (q ρ t h)
 
@@ -112,7 +120,7 @@ module _ (ρ : Reading Span) (t : List ℕ) where
       taken_once (λ ρ. step_role (span_at a.1.1.0 v) ρ v role.Zone) r r' e.0.now e'.0.now
 
   -- what takes a line by the role x
-  told-once : (x : Reading Span → Role) (p : ℕ) (v : List ℕ) {m : Marks} {a : List ℕ} (r r' : Taken) (z z' : List ℕ) → Holds ρ m a t
+  told-once : (x : Reading Span → Role) (p : ℕ) (v : List ℕ) {m : Marks} {a : List ℕ} (r r' : Result (Option Marks) Wrong) (z z' : List ℕ) → Holds ρ m a t
       → Tells x p v m r a z → Tells x p v m r' a z' → (r ≡ r') × (seen r z ≡ seen r' z')
   told-once x p v {m} r r' z z' h q q' = lands_once (kind_of (x ρ)) (step_role (span_at p v) ρ v (x ρ)) m r r' z z' t (q ρ t h) (q' ρ t h)
 

@@ -7,6 +7,10 @@ module _ {L : Type 0} {A Z E : L → Type 0} where
   abbrev pub OneAnswer : ((κs : L) → A κs → Z κs → E κs → Type 0) → Type 0
   OneAnswer promise = (κs : L) (a : A κs) (z z' : Z κs) (e e' : E κs) → promise κs a z e → promise κs a z' e' → z ≡ z'
 
+  -- the same of what is seen of an answer: of a slice that is handed out, its bytes
+  abbrev pub OneSeen : {X : Type 0} → ((κs : L) → Z κs → X) → ((κs : L) → A κs → Z κs → E κs → Type 0) → Type 0
+  OneSeen see promise = (κs : L) (a : A κs) (z z' : Z κs) (e e' : E κs) → promise κs a z e → promise κs a z' e' → see κs z ≡ see κs z'
+
   -- the same where memory is lent to be written: the answers are the same, and all of that memory at the exit is
   abbrev pub OneState : {X : Type 0} → ((κs : L) → E κs → X) → ((κs : L) → A κs → Z κs → E κs → Type 0) → Type 0
   OneState after promise =

@@ -1,17 +1,15 @@
 -- What the promise of a function that takes a line says of the area at the exit: docs/ONE-ANSWER.md has the reason.
-use Rattle.std.specs.Prelude.{List, ℕ, drop, Ok, Err}
+use Rattle.std.specs.Prelude.{List, ℕ, drop, Result, Ok, Err}
 use Rattle.sdp_area.specs.Area.{size}
 use Rattle.sdp_area.specs.Columns.{area_size}
-use Rattle.sdp_step.specs.declared.Taken.{Taken}
-use Rattle.sdp_step.specs.declared.Taken.TheVariants.{Kept, Idle, Refused}
+use Rattle.sdp_judge.specs.declared.Wrong.{Wrong}
 use Rattle.sdp_turn.specs.Turn.{Turn}
 use Rattle.sdp_turn.specs.declared.Failure.TheVariants.{Stopped, Unread}
 
 -- a line that is not refused leaves all of the area, a refusal the bytes behind the session
-abbrev pub seen : Taken → List ℕ → List ℕ
-seen (Kept m) a = a
-seen Idle a = a
-seen (Refused w) a = drop size a
+abbrev pub seen : {X : Type 0} → Result X Wrong → List ℕ → List ℕ
+seen (Ok m) a = a
+seen (Err w) a = drop size a
 
 -- the same of what a line does to a reading: a refusal leaves the bytes behind the session and its lines
 abbrev pub seen_turn : Turn → List ℕ → List ℕ

@@ -6,13 +6,12 @@ use native.Mathlib.Omega.{arith}
 use mathlib.Core.Path.{◌≡◌, refl, ◌∙◌}
 use mathlib.Core.Bool.{false}
 use mathlib.Core.List.{List}
-use Rattle.std.specs.Prelude.{Option, Some, None}
+use Rattle.std.specs.Prelude.{Option, Some, None, Ok, Err}
 use lib.ListN.{length, drop, length-drop, drop_of_length-le}
 use Rattle.sdp_lines.specs.Lines
 use Rattle.sdp_lines.specs.Lines.{Raw, split, content, width, form_of, past, cut_form, cut_at, Form}
 use Rattle.sdp_lines.specs.Quick.{first_raw}
 use Rattle.sdp_lines.specs.declared.Cursor.{Cursor}
-use Rattle.std.specs.Prelude.{Ok, Err}
 use Rattle.sdp_lines.specs.declared.Cut.{Cut}
 use Rattle.sdp_lines.specs.declared.Cut.TheVariants.{Line, Empty, Refused, End}
 use Rattle.sdp_lines.proofs.LineLaws.{split_at_place, width_pos}

@@ -8,7 +8,7 @@ use borrow.Author.Tests.{ltb-true, leb-true, eqb-false}
 use lib.Dec.{ltb, leb, eqb, lit<}
 use lib.ListN.{length, length-append, length-map}
 use Rattle.sdp_lines.specs.declared.Span.{Span}
-use Rattle.sdp_judge.specs.Read.{Read, got, refused, whole_of}
+use Rattle.sdp_judge.specs.Read.{Read, whole_of}
 use Rattle.sdp_fields.specs.Records.{origin_of, connection_of, bandwidth_of, times_of, attribute_of}
 use Rattle.sdp_media_line.specs.MediaLine.{media_of}
 use Rattle.sdp_lists.specs.Lists.{RepeatLine, repeat_of, zones_of}
@@ -27,6 +27,7 @@ use Rattle.sdp_same.specs.Fits.{Rows, FitMedia, FitOffset, FitHead, FitTables}
 use Rattle.sdp_same.specs.Sound.{Owned, Sound}
 use Rattle.sdp_same.proofs.FineLaws.{Fine, Gives, FitLine, time-fit, repeat-fit, zones-fit, whole_fine, origin_fit, connection_fit, bandwidth-fit, attribute-fit, media-fit}
 use Rattle.sdp_same.proofs.RowLaws.{each_map, rows_append, rows_more, rows_last, rising_more, rising-append}
+use Rattle.std.specs.Prelude.{Ok, Err}
 
 -- Q of what goes on; what stops has a number that is not 0
 abbrev pub Goes : (Reading Span → Type 0) → Stepped Span → Type 0
@@ -42,13 +43,13 @@ module _ (Q : Reading Span → Type 0) where
   module _ {A : Type 0} (P : A → Type 0) where
     once_goes : (n : ℕ) → 0 < n → (b : Bool) (r : Read A) → Gives P r → (k : A → Stepped Span) → ((x : A) → P x → Goes Q (k x)) → Goes Q (once n b r k)
     once_goes n l true r g k h = l
-    once_goes n l false (got x) g k h = h x g
-    once_goes n l false (refused w) g k h = g
+    once_goes n l false (Ok x) g k h = h x g
+    once_goes n l false (Err w) g k h = g
 
     row_goes : (table cap c : ℕ) (r : Read A) → Gives P r → (k : A → Reading Span) → ((x : A) → P x → c < cap → Q (k x)) → Goes Q (row table cap c r k)
     unfolding steps.row
-    row_goes table cap c (got x) g k h = room_goes (ltb c cap) table (k x) (λ e. h x g (ltb-true c cap e))
-    row_goes table cap c (refused w) g k h = g
+    row_goes table cap c (Ok x) g k h = room_goes (ltb c cap) table (k x) (λ e. h x g (ltb-true c cap e))
+    row_goes table cap c (Err w) g k h = g
 
 -- ---- a line whose value is v: mk makes its strings, with P of each
 module _ (v : List ℕ) (mk : Piece → Span) (P : Span → Type 0) (fine : (p : Piece) → Fine v p → P (mk p)) (ρ : Reading Span) (sound : Sound P ρ.session) where
@@ -178,8 +179,8 @@ module _ (v : List ℕ) (mk : Piece → Span) (P : Span → Type 0) (fine : (p :
 
       go : (b : Bool) → eqb (length s.tables.times) 0 ≡ b → (r : Read RepeatLine) → Gives FitLine r → Goes Kept (cond b (stop 20 0) (repeated mk ρ v r))
       go true e r f = lit< tt
-      go false e (got r) f = fits _ _ r f (let z = eqb-false (length s.tables.times) 0 e in omega arith) refl refl
-      go false e (refused w) f = f
+      go false e (Ok r) f = fits _ _ r f (let z = eqb-false (length s.tables.times) 0 e in omega arith) refl refl
+      go false e (Err w) f = f
 
   -- ---- medias
   medias-kept : (ms : List (Media Span)) → Rows 32 (FitMedia P) ms → length s.tables.medias ≤ length ms → Sound P (with_medias s ms)

@@ -3,16 +3,15 @@ use Prim.Native.Nat.{ℕ, ◌+◌}
 use mathlib.Core.Path.{◌≡◌, refl, sym, ap, ◌∙◌}
 use mathlib.Core.Bool.{Bool, true, false, cond}
 use mathlib.Core.List.{List, [], ◌∷◌, ◌++◌, map, map-append}
-use Rattle.std.specs.Prelude.{Option, Some, None, option_map}
+use Rattle.std.specs.Prelude.{Option, Some, None, IfSome, option_map, Ok, Err}
 use lib.Dec.{ltb, leb, eqb}
 use lib.ListN.{length, length-map}
-use Rattle.sdp_judge.specs.Read.{Read, got, refused, whole_of}
+use Rattle.sdp_judge.specs.Read.{Read, whole_of}
 use Rattle.sdp_fields.specs.Records.{origin_of, connection_of, bandwidth_of, times_of, attribute_of}
 use Rattle.sdp_media_line.specs.MediaLine.{media_of}
 use Rattle.sdp_lists.specs.Lists.{RepeatLine, repeat_of, zones_of}
 use Rattle.sdp_split.specs.Split.{Inside}
 use Rattle.sdp_split.specs.declared.Piece.{Piece}
-use Rattle.sdp_judge.specs.declared.MaybePiece.{MaybePiece}
 use Rattle.sdp_fields.specs.declared.Origin as origin
 use Rattle.sdp_fields.specs.declared.Connection as connection
 use Rattle.sdp_media_line.specs.declared.Media as media
@@ -61,8 +60,8 @@ module _ {S T : Type 0} (f : S → T) where
     where
       go : (b : Bool) (r : Read _) → Every (λ x. said_step f (k x) ≡ k' x) r → said_step f (once n b r k) ≡ once n b r k'
       go true r h = refl
-      go false (got x) h = h x refl
-      go false (refused w) h = refl
+      go false (Ok x) h = h x refl
+      go false (Err w) h = refl
 
   room_said : (b : Bool) (table : ℕ) (ρ : Reading S) (τ : Reading T) → said_reading f ρ ≡ τ → said_step f (cond b (goes ρ) (stop 21 table)) ≡ cond b (goes τ) (stop 21 table)
   room_said true table ρ τ e = ap goes e
@@ -73,17 +72,14 @@ module _ {S T : Type 0} (f : S → T) where
   row-said table cap c c' e r k k' h = go r h ∙ ap (λ (n : ℕ). row table cap n r k') e
     where
       go : (r : Read _) → Every (λ x. said_reading f (k x) ≡ k' x) r → said_step f (row table cap c r k) ≡ row table cap c r k'
-      go (got x) h = room_said (ltb c cap) table (k x) (k' x) (h x refl)
-      go (refused w) h = refl
+      go (Ok x) h = room_said (ltb c cap) table (k x) (k' x) (h x refl)
+      go (Err w) h = refl
 
   -- ---- a line whose value is v: mk makes its strings, and what f says of them mk' makes
   module _ (v : List ℕ) (mk : Piece → S) (mk' : Piece → T) (same : (p : Piece) → Inside v p → f (mk p) ≡ mk' p) where
-    maybe-said : (m : MaybePiece) → Inside v m.piece → option_map f (maybe_in mk m) ≡ maybe_in mk' m
-    maybe-said m h = go m.there
-      where
-        go : (b : Bool) → option_map f (cond b (Some (mk m.piece)) None) ≡ cond b (Some (mk' m.piece)) None
-        go true = ap Some (same m.piece h)
-        go false = refl
+    maybe-said : (m : Option Piece) → IfSome m (Inside v) → option_map f (maybe_in mk m) ≡ maybe_in mk' m
+    maybe-said (Some p) h = ap Some (same p h)
+    maybe-said None h = refl
 
     origin_said : (o : origin.Origin) → OriginInside v o → said_origin f (origin_in mk o) ≡ origin_in mk' o
     origin_said o h = λ i.
@@ -95,7 +91,7 @@ module _ {S T : Type 0} (f : S → T) where
 
     media-said : (m : media.Media) → MediaInside v m → said_media f (media_in mk m) ≡ media_in mk' m
     media-said m h = λ i.
-        record { media = same m.media h.media i; port = m.port; num_ports = steps.ports_in mk m.num_ports; proto = same m.proto h.proto i; fmt = same m.fmt h.fmt i; media_title = None; key = None }
+        record { media = same m.media h.media i; port = m.port; num_ports = m.num_ports; proto = same m.proto h.proto i; fmt = same m.fmt h.fmt i; media_title = None; key = None }
 
     module _ (ρ : Reading S) where
       abbrev s : Session S
@@ -150,8 +146,8 @@ module _ {S T : Type 0} (f : S → T) where
 
           go : (b : Bool) (r : Read RepeatLine) → said_step f (cond b (stop 20 0) (repeated mk ρ v r)) ≡ cond b (stop 20 0) (repeated mk' τ v r)
           go true r = refl
-          go false (got r) = room (ltb (length s.tables.repeats) 64) (leb (length s.tables.offsets + length r.offsets) 256) _
-          go false (refused w) = refl
+          go false (Ok r) = room (ltb (length s.tables.repeats) 64) (leb (length s.tables.offsets + length r.offsets) 256) _
+          go false (Err w) = refl
       step-said role.Attribute =
           row-said 9 512 _ _ (sym (length-map s.tables.attributes (said_attribute f))) (attribute_of v) _ _
           (λ a q. ap (λ y. keep (with_attributes τ.session y))

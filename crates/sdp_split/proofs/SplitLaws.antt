@@ -12,10 +12,10 @@ use lib.ListN.{length, get_or, take, drop, drop_of_length-le, length-drop}
 use lib.Seq.{drop-cons}
 use Rattle.sdp_bytes.specs.Runs.{index_of}
 use Rattle.sdp_bytes.proofs.ScanLaws.{index_le, rest_from}
-use Rattle.sdp_split.specs.Split.{part, spaces, piece_from, first_piece, piece_after, rest_after, Inside, Within}
+use Rattle.sdp_split.specs.Split.{Field, part, spaces, piece_from, first_piece, piece_after, rest_after, Inside, Within}
 use Rattle.sdp_split.specs.declared.Piece.{Piece}
-use Rattle.sdp_split.specs.declared.Field.{Field}
-use Rattle.sdp_split.specs.declared.Field.TheVariants.{Got, Nothing}
+use Rattle.std.specs.Prelude.{Some, None}
+use Rattle.std.proofs.lemmas.Option.{some_pair_parts}
 
 -- ---- a run of spaces, by its places
 module _ (v : List ℕ) (i : ℕ) where
@@ -49,7 +49,7 @@ module _ (sep : ℕ) (v : List ℕ) (i n : ℕ) (q : n ≡ index_of sep (take (l
   index_is : n ≡ index_of sep (drop i v)
   index_is = rw (rest_from v i) at q
 
-  pub piece_is : Got (record { at = i; len = n }) (i + n) ≡ piece_from sep v i
+  pub piece_is : Some (record { at = i; len = n }, i + n) ≡ piece_from sep v i
   piece_is = rw index_is
 
   pub piece_fits : i ≤ length v → i + n ≤ length v
@@ -65,32 +65,31 @@ module _ (v : List ℕ) (e : ℕ) where
     unfolding piece_after
     after_here sep = rw (lt-ltb e (length v) h)
 
-    pub rest_here : Got (record { at = e + 1; len = length v - (e + 1) }) (length v) ≡ rest_after v e
+    pub rest_here : Some (record { at = e + 1; len = length v - (e + 1) }, length v) ≡ rest_after v e
     unfolding rest_after
     rest_here = rw (lt-ltb e (length v) h)
 
   module _ (h : length v ≤ e) where
-    pub after-past : (sep : ℕ) → Nothing ≡ piece_after sep v e
+    pub after-past : (sep : ℕ) → None ≡ piece_after sep v e
     unfolding piece_after
     after-past sep = rw (le-ltb e (length v) h)
 
-    pub rest_past : Nothing ≡ rest_after v e
+    pub rest_past : None ≡ rest_after v e
     unfolding rest_after
     rest_past = rw (le-ltb e (length v) h)
 
 -- ---- a field lies within its value
-pub chosen : (a b : ℕ) (f : Field) (p : Piece) (e : ℕ) → cond (ltb a b) f Nothing ≡ Got p e → (a < b) × (f ≡ Got p e)
+pub chosen : (a b : ℕ) (f : Field) (p : Piece) (e : ℕ) → cond (ltb a b) f None ≡ Some (p, e) → (a < b) × (f ≡ Some (p, e))
 chosen a b f p e = go (ltb a b) refl
   where
-    go : (t : Bool) → ltb a b ≡ t → cond t f Nothing ≡ Got p e → (a < b) × (f ≡ Got p e)
+    go : (t : Bool) → ltb a b ≡ t → cond t f None ≡ Some (p, e) → (a < b) × (f ≡ Some (p, e))
     go true q h = (ltb-true a b q, h)
     go false q h = absurd (let z : ◌≡◌ {A = ℕ} 0 1 = cc in omega arith)
 
-pub got_within : (v : List ℕ) (p : Piece) (e : ℕ) → Inside v p → e ≤ length v → Within v (Got p e)
+pub got_within : (v : List ℕ) (p : Piece) (e : ℕ) → Inside v p → e ≤ length v → Within v (Some (p, e))
 got_within v p e h k p' e' q =
-    let x : p ≡ p' = cc in
-    let y : e ≡ e' = cc in
-    (rw x at h, rw y at k)
+    let x = some_pair_parts p p' e e' q in
+    (rw x.0 at h, rw x.1 at k)
 
 piece_within : (sep : ℕ) (v : List ℕ) (i : ℕ) → i ≤ length v → Within v (piece_from sep v i)
 piece_within sep v i h =
@@ -111,5 +110,5 @@ after-within sep v i p e h =
 pub rest_within : (v : List ℕ) (e : ℕ) → Within v (rest_after v e)
 unfolding rest_after
 rest_within v i p e h =
-    let q = chosen i (length v) (Got (record { at = i + 1; len = length v - (i + 1) }) (length v)) p e h in
+    let q = chosen i (length v) (Some (record { at = i + 1; len = length v - (i + 1) }, length v)) p e h in
     got_within v _ _ (omega arith) (omega arith) p e q.1

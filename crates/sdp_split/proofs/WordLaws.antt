@@ -13,7 +13,8 @@ use Rattle.sdp_bytes.specs.Runs.{index_of}
 use Rattle.sdp_bytes.proofs.ScanLaws.{index_le}
 use Rattle.sdp_split.specs.Split.{spaces, piece_from, words_from, words_at, words, next_word, later, word_at, Inside, Within}
 use Rattle.sdp_split.specs.declared.Piece.{Piece}
-use Rattle.sdp_split.specs.declared.Field.TheVariants.{Got, Nothing}
+use Rattle.std.specs.Prelude.{Some, None}
+use Rattle.std.proofs.lemmas.Option.{some_pair_parts}
 use Rattle.sdp_split.proofs.SplitLaws.{got_within}
 
 -- ---- the words of a list that stands at place i
@@ -88,21 +89,21 @@ module _ (v : List ℕ) (i n : ℕ) (q : n ≡ spaces (drop i v)) where
   unfolding word_at
   word_here h = sym (ap next_word (here v i (i + n) (ap (λ (k : ℕ). i + k) q) h).0)
 
-  pub word_past : length v ≤ i + n → Nothing ≡ word_at v i
+  pub word_past : length v ≤ i + n → None ≡ word_at v i
   unfolding word_at
   word_past h = sym (ap next_word (gone v i (i + n) (ap (λ (k : ℕ). i + k) q) h))
 
 -- ---- one word from a place on
-pub word_none : (v : List ℕ) (i : ℕ) → word_at v i ≡ Nothing → words_at v i ≡ []
+pub word_none : (v : List ℕ) (i : ℕ) → word_at v i ≡ None → words_at v i ≡ []
 unfolding word_at
 word_none v i h = go (words_at v i) h
   where
-    go : (ws : List Piece) → next_word ws ≡ Nothing → ws ≡ []
+    go : (ws : List Piece) → next_word ws ≡ None → ws ≡ []
     go [] h = refl
     go (p ∷ ws) h = absurd (let z : ◌≡◌ {A = ℕ} 0 1 = cc in omega arith)
 
 -- where it stands: behind the spaces, up to the next one
-pub word_place : (v : List ℕ) (i : ℕ) (p : Piece) (e : ℕ) → word_at v i ≡ Got p e
+pub word_place : (v : List ℕ) (i : ℕ) (p : Piece) (e : ℕ) → word_at v i ≡ Some (p, e)
     → (words_at v i ≡ p ∷ words_at v e) × (p.at ≡ i + spaces (drop i v)) × (p.len ≡ index_of 0x20 (drop p.at v)) × (e ≡ p.at + p.len) × (0 < p.len) × (e ≤ length v)
 unfolding word_at
 word_place v i p e h = go (i + spaces (drop i v)) refl (dec_lt _ (length v))
@@ -111,13 +112,12 @@ word_place v i p e h = go (i + spaces (drop i v)) refl (dec_lt _ (length v))
         → (words_at v i ≡ p ∷ words_at v e) × (p.at ≡ i + spaces (drop i v)) × (p.len ≡ index_of 0x20 (drop p.at v)) × (e ≡ p.at + p.len) × (0 < p.len) × (e ≤ length v)
     go j q (yes l) =
         let w = here v i j q l in
-        let k : Got (record { at = j; len = index_of 0x20 (drop j v) }) (j + index_of 0x20 (drop j v)) ≡ Got p e = sym (ap next_word w.0) ∙ h in
-        let x : record { at = j; len = index_of 0x20 (drop j v) } ≡ p = cc in
-        let y : j + index_of 0x20 (drop j v) ≡ e = cc in
-        rw (← x, ← y) (w.0, q, refl, refl, w.1, omega (arith, index_le 0x20 (drop j v), length-drop j v, l))
+        let k : Some (record { at = j; len = index_of 0x20 (drop j v) }, j + index_of 0x20 (drop j v)) ≡ Some (p, e) = sym (ap next_word w.0) ∙ h in
+        let x = some_pair_parts (record { at = j; len = index_of 0x20 (drop j v) }) p (j + index_of 0x20 (drop j v)) e k in
+        rw (← x.0, ← x.1) (w.0, q, refl, refl, w.1, omega (arith, index_le 0x20 (drop j v), length-drop j v, l))
     go j q (no l) = absurd (let k = sym (ap next_word (gone v i j q (omega arith))) ∙ h in let z : ◌≡◌ {A = ℕ} 0 1 = cc in omega arith)
 
-pub word_next : (v : List ℕ) (i : ℕ) (p : Piece) (e : ℕ) → word_at v i ≡ Got p e
+pub word_next : (v : List ℕ) (i : ℕ) (p : Piece) (e : ℕ) → word_at v i ≡ Some (p, e)
     → (words_at v i ≡ p ∷ words_at v e) × ((i < e) × (e ≤ length v))
 word_next v i p e h = let w = word_place v i p e h in (w.0, (omega (arith, w.1, w.3, w.4), w.5))
 

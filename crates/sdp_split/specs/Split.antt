@@ -1,9 +1,11 @@
 -- Document 01, "Fields": how a line's value is split. A field ends where the next separator stands, or with the value.
-use Rattle.std.specs.Prelude.{ℕ, zero, suc, ◌+◌, ◌-◌, ◌≤◌, ◌≡◌, cond, List, [], ◌∷◌, length, take, drop, ltb, eqb}
+use Rattle.std.specs.Prelude.{ℕ, zero, suc, ◌+◌, ◌-◌, ◌≤◌, ◌≡◌, cond, List, [], ◌∷◌, length, take, drop, ltb, eqb, Option, Some, None}
 use Rattle.sdp_bytes.specs.Runs.{index_of}
 use Rattle.sdp_split.specs.declared.Piece.{Piece}
-use Rattle.sdp_split.specs.declared.Field.{Field}
-use Rattle.sdp_split.specs.declared.Field.TheVariants.{Got, Nothing}
+
+-- a field, as its piece and the place where it ends, or that there is none
+abbrev pub Field : Type 0
+Field = Option (Piece × ℕ)
 
 -- the bytes of a piece of v
 abbrev pub part : List ℕ → Piece → List ℕ
@@ -16,7 +18,7 @@ spaces (b ∷ s) = cond (eqb b 0x20) (suc (spaces s)) 0
 
 -- the field that starts at i and ends before the next separator, and its end
 abbrev pub piece_from : ℕ → List ℕ → ℕ → Field
-piece_from sep v i = Got (record { at = i; len = index_of sep (drop i v) }) (i + index_of sep (drop i v))
+piece_from sep v i = Some (record { at = i; len = index_of sep (drop i v) }, i + index_of sep (drop i v))
 
 -- the words of a list that stands at place i of the value, and whose first k bytes are the rest of a word that was read already
 unfoldable pub words_from : ℕ → ℕ → List ℕ → List Piece
@@ -37,8 +39,8 @@ words v = words_at v 0
 
 -- the first of some words and its end
 abbrev pub next_word : List Piece → Field
-next_word [] = Nothing
-next_word (p ∷ ws) = Got p (p.at + p.len)
+next_word [] = None
+next_word (p ∷ ws) = Some (p, p.at + p.len)
 
 -- the words after it
 abbrev pub later : List Piece → List Piece
@@ -55,11 +57,11 @@ first_piece sep v = piece_from sep v 0
 
 -- the field after the one that ended at e: there is one exactly where a separator stands at e
 unfoldable pub piece_after : ℕ → List ℕ → ℕ → Field
-piece_after sep v e = cond (ltb e (length v)) (piece_from sep v (e + 1)) Nothing
+piece_after sep v e = cond (ltb e (length v)) (piece_from sep v (e + 1)) None
 
 -- all that stands after the separator at e, as one field
 unfoldable pub rest_after : List ℕ → ℕ → Field
-rest_after v e = cond (ltb e (length v)) (Got (record { at = e + 1; len = length v - (e + 1) }) (length v)) Nothing
+rest_after v e = cond (ltb e (length v)) (Some (record { at = e + 1; len = length v - (e + 1) }, length v)) None
 
 -- ---- where a field stands
 -- a piece lies within the value
@@ -68,4 +70,4 @@ Inside v p = p.at + p.len ≤ length v
 
 -- a field, if there is one, lies within the value: its piece and its end
 abbrev pub Within : List ℕ → Field → Type 0
-Within v f = (p : Piece) (e : ℕ) → f ≡ Got p e → Inside v p × (e ≤ length v)
+Within v f = (p : Piece) (e : ℕ) → f ≡ Some (p, e) → Inside v p × (e ≤ length v)

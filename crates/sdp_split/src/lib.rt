@@ -2,23 +2,29 @@
 #![tactic(auto)]
 
 ghost use Rattle.std.specs.Prelude.{◌≡◌, ◌≤◌, length, drop};
-ghost use Rattle.sdp_split.specs.Split.{spaces, piece_from, word_at, first_piece, piece_after, rest_after};
+ghost use Rattle.sdp_split.specs.Split.{part, Inside, spaces, piece_from, word_at, first_piece, piece_after, rest_after};
 
 use sdp_bytes::search::index_of;
 
 // A string within a line's value.
-#[derive(Drop)]
+#[derive(Clone, Copy, Debug, PartialEq, Eq)]
 pub struct Piece {
     pub at: usize,
     pub len: usize,
 }
 
-// A field and its end, or that there is none.
-#[derive(Drop)]
-pub enum Field {
-    Got { piece: Piece, next: usize },
-    Nothing,
+impl Piece {
+    // Its bytes, of the value that it stands in.
+    pub fn of<'a>(self, v: &'a [u8]) -> &'a [u8]
+        requires { Inside v.now self }
+        ensures { result.now ≡ part v.now self }
+    {
+        &v[self.at..self.at + self.len]
+    }
 }
+
+// A field, as its piece and the place where it ends, or that there is none.
+pub type Field = Option<(Piece, usize)>;
 
 // How many spaces stand from place i on.
 fn spaces_at(v: &[u8], i: usize) -> usize
@@ -41,10 +47,7 @@ fn piece_from(v: &[u8], i: usize, sep: u8) -> Field
     ensures { result ≡ piece_from sep v.now i }
 {
     let len = index_of(&v[i..], sep);
-    Field::Got {
-        piece: Piece { at: i, len },
-        next: i + len,
-    }
+    Some((Piece { at: i, len }, i + len))
 }
 
 // The next word from place i on; runs of spaces are one separator.
@@ -52,13 +55,13 @@ pub fn word_at(v: &[u8], i: usize) -> Field
     ensures { result ≡ word_at v.now i }
 {
     if v.len() < i {
-        return Field::Nothing;
+        return None;
     }
     let at = i + spaces_at(v, i);
     if at < v.len() {
         return piece_from(v, at, b' ');
     }
-    Field::Nothing
+    None
 }
 
 // The first field of a value that is split at every separator.
@@ -75,7 +78,7 @@ pub fn piece_after(v: &[u8], e: usize, sep: u8) -> Field
     if e < v.len() {
         return piece_from(v, e + 1, sep);
     }
-    Field::Nothing
+    None
 }
 
 // All that stands after the separator at e.
@@ -84,13 +87,8 @@ pub fn rest_after(v: &[u8], e: usize) -> Field
 {
     if e < v.len() {
         let at = e + 1;
-        return Field::Got {
-            piece: Piece {
-                at,
-                len: v.len() - at,
-            },
-            next: v.len(),
-        };
+        let len = v.len() - at;
+        return Some((Piece { at, len }, v.len()));
     }
-    Field::Nothing
+    None
 }

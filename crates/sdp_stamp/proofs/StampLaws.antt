@@ -10,7 +10,7 @@ use lib.Dec.{ltb, leb, eqb, lit<}
 use lib.ListN.{length, get_or, set, replicate, length-append, length-replicate}
 use Rattle.sdp_lines.specs.declared.Span.{Span}
 use Rattle.sdp_split.specs.declared.Piece.{Piece}
-use Rattle.sdp_judge.specs.Read.{Read, got, refused, whole_of}
+use Rattle.sdp_judge.specs.Read.{Read, whole_of}
 use Rattle.sdp_fields.specs.Records.{origin_of, connection_of, bandwidth_of, times_of, attribute_of}
 use Rattle.sdp_media_line.specs.MediaLine.{media_of}
 use Rattle.sdp_lists.specs.Lists.{RepeatLine, repeat_of, zones_of}
@@ -37,6 +37,7 @@ use Rattle.sdp_stamp.specs.Stamp.{stamp_rows, begins, one, rows_in, title_rows, 
 use Rattle.sdp_stamp.specs.Put.{put_latest, put_since, column_of, put_column}
 use Rattle.sdp_stamp.proofs.CellLaws.{cells_over, rows_none, rows-one, rows-length, stamped-one, stamped_two, stamped_title, stamped_none}
 use Rattle.sdp_stamp.proofs.PutLaws.{latest_none, since_put}
+use Rattle.std.specs.Prelude.{Ok, Err}
 
 -- ---- in the bytes
 module _ (s : Session Span) (l t : List ℕ) (all : length l ≡ cells) (n : ℕ) where
@@ -58,7 +59,7 @@ module _ (s : Session Span) (l t : List ℕ) (all : length l ≡ cells) (n : ℕ
       ap (λ (k : ℕ). put_since base most (cell_at c) k n (area_of s l t)) before
       ∙ rows-filled base most c i (i + 1) count (omega arith) fits inside
 
--- the latest media has the title that it got
+-- the latest media has the title that it Ok
 pub title_there : (x : Span) (m : Media Span) (ms : List (Media Span)) → last_titled (set_last (titled x) (m ∷ ms)) ≡ true
 unfolding With.set_last Latest.last_given
 title_there x m [] = refl
@@ -151,8 +152,8 @@ module _ (mk : Piece → Span) (ρ : Reading Span) (v : List ℕ) (n : ℕ) (l t
   same_rows p = ap (set (rows_in s) 15) (length_last (titled (mk p)) s.tables.medias)
 
   repeat_stamps : (x : Read RepeatLine) → Going (PutIn role.Repeat) (repeated mk ρ v x)
-  repeat_stamps (refused w) = off _ _
-  repeat_stamps (got r) =
+  repeat_stamps (Err w) = off _ _
+  repeat_stamps (Ok r) =
       past-cond _ (ltb (length s.tables.repeats) 64) _ _
       (past-cond _ (leb (length s.tables.offsets + length r.offsets) 256) _ _
       (on _ _ (repeat-put ρ n l t all _ refl (omega arith) more (rw length-append (omega arith)))) (off _ _)) (off _ _)

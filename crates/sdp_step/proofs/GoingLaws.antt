@@ -6,9 +6,10 @@ use Prim.Native.Nat.{ℕ}
 use native.Mathlib.Omega.{arith}
 use lib.Dec.{ltb}
 use Rattle.sdp_judge.specs.declared.Wrong.{Wrong}
-use Rattle.sdp_judge.specs.Read.{Read, got, refused}
+use Rattle.sdp_judge.specs.Read.{Read}
 use Rattle.sdp_step.specs.Step
 use Rattle.sdp_step.specs.Step.{Reading, Stepped, goes, stops, stop, once, row}
+use Rattle.std.specs.Prelude.{Ok, Err}
 
 abbrev pub Going : {S : Type 0} → (Reading S → Type 0) → Stepped S → Type 0
 Going P σ = (ρ : Reading _) → σ ≡ goes ρ → P ρ
@@ -26,15 +27,15 @@ module _ {S : Type 0} (P : Reading S → Type 0) where
 
   module _ {A : Type 0} where
     -- there was none before
-    pub past_first : (n : ℕ) (b : Bool) (r : Read A) (k : A → Stepped S) → (b ≡ false → (x : A) → r ≡ got x → Going P (k x)) → Going P (once n b r k)
+    pub past_first : (n : ℕ) (b : Bool) (r : Read A) (k : A → Stepped S) → (b ≡ false → (x : A) → r ≡ Ok x → Going P (k x)) → Going P (once n b r k)
     past_first n true r k h = off _
-    past_first n false (got x) k h = h refl x refl
-    past_first n false (refused w) k h = off w
+    past_first n false (Ok x) k h = h refl x refl
+    past_first n false (Err w) k h = off w
 
-    pub past-once : (n : ℕ) (b : Bool) (r : Read A) (k : A → Stepped S) → ((x : A) → r ≡ got x → Going P (k x)) → Going P (once n b r k)
+    pub past-once : (n : ℕ) (b : Bool) (r : Read A) (k : A → Stepped S) → ((x : A) → r ≡ Ok x → Going P (k x)) → Going P (once n b r k)
     past-once n b r k h = past_first n b r k (λ e. h)
 
-    pub past_row : (table cap c : ℕ) (r : Read A) (k : A → Reading S) → ((x : A) → r ≡ got x → P (k x)) → Going P (row table cap c r k)
+    pub past_row : (table cap c : ℕ) (r : Read A) (k : A → Reading S) → ((x : A) → r ≡ Ok x → P (k x)) → Going P (row table cap c r k)
     unfolding Step.row
-    past_row table cap c (got x) k h = past-cond (ltb c cap) (goes (k x)) (stop 21 table) (on (k x) (h x refl)) (off _)
-    past_row table cap c (refused w) k h = off w
+    past_row table cap c (Ok x) k h = past-cond (ltb c cap) (goes (k x)) (stop 21 table) (on (k x) (h x refl)) (off _)
+    past_row table cap c (Err w) k h = off w

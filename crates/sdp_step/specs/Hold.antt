@@ -1,5 +1,5 @@
 -- What the functions that take a line promise, for every session that the area holds: the step's answer, and the area for it.
-use Rattle.std.specs.Prelude.{◌≡◌, false, List, [], ◌++◌, ℕ, length, drop, Result, Ok, Err}
+use Rattle.std.specs.Prelude.{◌≡◌, false, List, [], ◌++◌, ℕ, length, drop, Option, Some, None, Result, Ok, Err}
 use Rattle.sdp_numbers.specs.Refusals as refusals
 use Rattle.sdp_lines.specs.declared.Span.{Span}
 use Rattle.sdp_area.specs.Session.{Within}
@@ -13,8 +13,7 @@ use Rattle.sdp_roles.specs.Roles.{role_at}
 use Rattle.sdp_roles.specs.Kinds.{Kind, unused, media, other, kind_of}
 use Rattle.sdp_roles.specs.declared.Role.{Role}
 use Rattle.sdp_step.specs.declared.Marks.{Marks}
-use Rattle.sdp_step.specs.declared.Taken.{Taken}
-use Rattle.sdp_step.specs.declared.Taken.TheVariants.{Kept, Idle, Refused}
+use Rattle.sdp_judge.specs.declared.Wrong.{Wrong}
 
 -- what the code keeps beside the area
 abbrev pub marks_of : Reading Span → Marks
@@ -28,37 +27,41 @@ pub record Holds (ρ : Reading Span) (m : Marks) (a t : List ℕ) : Type 0 where
   pub unzoned : ρ.zoned ≡ false → ρ.session.tables.zones ≡ []
 
 -- a line with a use: a step that goes on is kept in the area; after one that stops, only the bytes behind the session still count
-abbrev pub Handled : Stepped Span → Taken → List ℕ → List ℕ → Type 0
-Handled (goes ρ) (Kept m) a t = Holds ρ m a t
-Handled (goes ρ) Idle a t = ⊥
-Handled (goes ρ) (Refused w) a t = ⊥
-Handled (stops w) (Kept m) a t = ⊥
-Handled (stops w) Idle a t = ⊥
-Handled (stops w) (Refused x) a t = (x ≡ w) × (drop size a ≡ t)
+abbrev pub Handled : Stepped Span → Result Marks Wrong → List ℕ → List ℕ → Type 0
+Handled (goes ρ) (Ok m) a t = Holds ρ m a t
+Handled (goes ρ) (Err w) a t = ⊥
+Handled (stops w) (Ok m) a t = ⊥
+Handled (stops w) (Err x) a t = (x ≡ w) × (drop size a ≡ t)
 
 -- one line taken: whatever session the area held, the step's outcome is there
-abbrev pub Takes : (Reading Span → Stepped Span) → Marks → Taken → List ℕ → List ℕ → Type 0
+abbrev pub Takes : (Reading Span → Stepped Span) → Marks → Result Marks Wrong → List ℕ → List ℕ → Type 0
 Takes f m r a a' = (ρ : Reading Span) (t : List ℕ) → Holds ρ m a t → Handled (f ρ) r a' t
 
 -- a row that was stored, or did not fit the table
-abbrev pub stored_of : Result (Unit {0}) Full → ℕ → Marks → Taken
-stored_of (Ok _) table m = Kept m
-stored_of (Err _) table m = Refused (plain refusals.table_full table)
+abbrev pub stored_of : Result (Unit {0}) Full → ℕ → Marks → Result Marks Wrong
+stored_of (Ok _) table m = Ok m
+stored_of (Err _) table m = Err (plain refusals.table_full table)
 
 -- a line of the role x, whose value v stands at place p
-abbrev pub Reads : Role → ℕ → List ℕ → Marks → Taken → List ℕ → List ℕ → Type 0
+abbrev pub Reads : Role → ℕ → List ℕ → Marks → Result Marks Wrong → List ℕ → List ℕ → Type 0
 Reads x p v m r a a' = Takes (λ ρ. step_role (span_at p v) ρ v x) m r a a'
 
--- a line of any kind: one without use is told as idle, and the marks m stay
-abbrev pub Lands : Kind → Stepped Span → Marks → Taken → List ℕ → List ℕ → Type 0
-Lands unused x m (Kept n) a t = ⊥
-Lands unused x m Idle a t = Handled x (Kept m) a t
-Lands unused x m (Refused w) a t = ⊥
-Lands media x m r a t = Handled x r a t
-Lands other x m r a t = Handled x r a t
+-- the same of a line with a use, told beside lines without
+abbrev pub Used : Stepped Span → Result (Option Marks) Wrong → List ℕ → List ℕ → Type 0
+Used x (Ok None) a t = ⊥
+Used x (Ok (Some m)) a t = Handled x (Ok m) a t
+Used x (Err w) a t = Handled x (Err w) a t
+
+-- a line of any kind: where it has no use, no marks are told, and the marks m stay
+abbrev pub Lands : Kind → Stepped Span → Marks → Result (Option Marks) Wrong → List ℕ → List ℕ → Type 0
+Lands unused x m (Ok None) a t = Handled x (Ok m) a t
+Lands unused x m (Ok (Some n)) a t = ⊥
+Lands unused x m (Err w) a t = ⊥
+Lands media x m r a t = Used x r a t
+Lands other x m r a t = Used x r a t
 
 -- a line whose role hangs on the session that the area held, its value v at place p
-abbrev pub Tells : (Reading Span → Role) → ℕ → List ℕ → Marks → Taken → List ℕ → List ℕ → Type 0
+abbrev pub Tells : (Reading Span → Role) → ℕ → List ℕ → Marks → Result (Option Marks) Wrong → List ℕ → List ℕ → Type 0
 Tells x p v m r a a' = (ρ : Reading Span) (t : List ℕ) → Holds ρ m a t → Lands (kind_of (x ρ)) (step_role (span_at p v) ρ v (x ρ)) m r a' t
 
 -- the role of a line with the letter l, after the medias so far

@@ -1,14 +1,12 @@
 -- Document 01, "Lines", "Fields", "Tables": what one line does to a session. mk makes a string of a piece of the line's value, so nothing
 -- here knows the text, nor a line's number.
-use Rattle.std.specs.Prelude.{ℕ, ◌+◌, Bool, true, false, cond, List, [], ◌∷◌, ◌++◌, map, length, ltb, leb, eqb, Option, Some, None}
+use Rattle.std.specs.Prelude.{ℕ, ◌+◌, Bool, true, false, cond, List, [], ◌∷◌, ◌++◌, map, length, ltb, leb, eqb, Option, Some, None, option_map, Ok, Err}
 use Rattle.sdp_numbers.specs.Refusals as refusals
 use Rattle.sdp_numbers.specs.Fields as fields
 use Rattle.sdp_numbers.specs.Tables as tables
 use Rattle.sdp_numbers.specs.Tables.{most_emails, most_phones, most_media_connections, most_bandwidths, most_times}
 use Rattle.sdp_numbers.specs.Tables.{most_repeats, most_offsets, most_zones, most_attributes, most_medias}
 use Rattle.sdp_split.specs.declared.Piece.{Piece}
-use Rattle.sdp_judge.specs.declared.MaybePiece.{MaybePiece}
-use Rattle.sdp_media_line.specs.declared.MaybeNumber.{MaybeNumber}
 use Rattle.sdp_judge.specs.declared.Wrong.{Wrong}
 use Rattle.sdp_lists.specs.declared.Zone as zone
 use Rattle.sdp_fields.specs.declared.Origin as origin
@@ -17,7 +15,7 @@ use Rattle.sdp_fields.specs.declared.Bandwidth as bandwidth
 use Rattle.sdp_fields.specs.declared.Time as time
 use Rattle.sdp_fields.specs.declared.Attribute as attribute
 use Rattle.sdp_media_line.specs.declared.Media as media
-use Rattle.sdp_judge.specs.Read.{Read, got, refused, plain, whole_of}
+use Rattle.sdp_judge.specs.Read.{Read, plain, whole_of}
 use Rattle.sdp_fields.specs.Records.{origin_of, connection_of, bandwidth_of, times_of, attribute_of}
 use Rattle.sdp_media_line.specs.MediaLine.{media_of}
 use Rattle.sdp_lists.specs.Lists.{RepeatLine, repeat_of, zones_of}
@@ -47,18 +45,18 @@ stop n w = stops (plain n w)
 -- "at most once, and a second one is refused before its value is read": n is its refusal number
 abbrev pub once : {S A : Type 0} → ℕ → Bool → Read A → (A → Stepped S) → Stepped S
 once n true r k = stop n 0
-once n false (got x) k = k x
-once n false (refused w) k = stops w
+once n false (Ok x) k = k x
+once n false (Err w) k = stops w
 
 -- "21 is given exactly for a line that the Rust accepts there and whose records no longer fit": a table of c rows with room for cap
 unfoldable pub row : {S A : Type 0} → ℕ → ℕ → ℕ → Read A → (A → Reading S) → Stepped S
-row table cap c (got x) k = cond (ltb c cap) (goes (k x)) (stop refusals.table_full table)
-row table cap c (refused w) k = stops w
+row table cap c (Ok x) k = cond (ltb c cap) (goes (k x)) (stop refusals.table_full table)
+row table cap c (Err w) k = stops w
 
 -- ---- a record's pieces as strings
 module _ {S : Type 0} (mk : Piece → S) where
-  abbrev pub maybe_in : MaybePiece → Option S
-  maybe_in m = cond m.there (Some (mk m.piece)) None
+  abbrev pub maybe_in : Option Piece → Option S
+  maybe_in m = option_map mk m
 
   abbrev pub origin_in : origin.Origin → Origin S
   origin_in o =
@@ -83,15 +81,12 @@ module _ {S : Type 0} (mk : Piece → S) where
   abbrev pub bandwidth_in : ℕ → bandwidth.Bandwidth → Bandwidth S
   bandwidth_in n b = record { owner = n; bwtype = mk b.bwtype; bandwidth = b.bandwidth }
 
-  abbrev pub ports_in : MaybeNumber → Option ℕ
-  ports_in m = cond m.there (Some m.value) None
-
   abbrev pub media_in : media.Media → Media S
   media_in m =
       record {
         media = mk m.media;
         port = m.port;
-        num_ports = ports_in m.num_ports;
+        num_ports = m.num_ports;
         proto = mk m.proto;
         fmt = mk m.fmt;
         media_title = None;
@@ -149,8 +144,8 @@ module _ {S : Type 0} (mk : Piece → S) (ρ : Reading S) (v : List ℕ) where
 
   -- "r belongs to the latest t"
   abbrev pub repeated : Read RepeatLine → Stepped S
-  repeated (refused w) = stops w
-  repeated (got r) = repeat_taken ρ (repeat_in (length times) r) r.offsets
+  repeated (Err w) = stops w
+  repeated (Ok r) = repeat_taken ρ (repeat_in (length times) r) r.offsets
 
   -- the z line: its being there is kept even where it has no pairs
   abbrev pub zones_taken : List zone.Zone → Stepped S

@@ -1,11 +1,10 @@
 // The strings of a line's value as places in the text.
 #![tactic(auto)]
 
-ghost use Rattle.std.specs.Prelude.{◌≡◌, [], ◌+◌, ◌≤◌, cond, Some, None};
+ghost use Rattle.std.specs.Prelude.{◌≡◌, [], ◌+◌, ◌≤◌, IfSome, option_map};
 ghost use Rattle.sdp_numbers.specs.Refusals.{longest_text};
 ghost use Rattle.sdp_strings.specs.Strings.{span_at};
 
-use sdp_judge::MaybePiece;
 use sdp_lines::{Place, Span};
 use sdp_split::Piece;
 
@@ -21,10 +20,9 @@ pub fn span_of(at: usize, p: Piece) -> Span
 }
 
 // The same where it may be absent.
-pub fn maybe_of(at: usize, m: MaybePiece) -> Option<Span>
-    requires { at + m.piece.at ≤ longest_text }
-    ensures { result ≡ cond m.there (Some (span_at at [] m.piece)) None }
+pub fn maybe_of(at: usize, m: Option<Piece>) -> Option<Span>
+    requires { IfSome m (λ p. at + p.at ≤ longest_text) }
+    ensures { result ≡ option_map (span_at at []) m }
 {
-    let p = m.piece;
-    if m.there { Some(span_of(at, p)) } else { None }
+    Some(span_of(at, m?))
 }

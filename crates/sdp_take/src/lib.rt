@@ -5,18 +5,19 @@ ghost use Rattle.std.specs.Prelude.{◌≡◌, ◌+◌, ◌≤◌, length};
 ghost use Rattle.sdp_numbers.specs.Refusals.{longest_text};
 ghost use Rattle.sdp_area.specs.Area.{size};
 ghost use Rattle.sdp_step.specs.Hold.{Tells, role_in};
-ghost use Rattle.sdp_take.specs.Shapes.{shape_role};
+ghost use Rattle.sdp_take.specs.Shapes.{shape_role, told};
 
 use sdp_area::{Contact, Text, medias};
+use sdp_judge::Wrong;
 use sdp_lines::Place;
 use sdp_roles::{Role, role_at};
-use sdp_step::{Marks, Taken};
+use sdp_step::Marks;
 use sdp_take_list::{take_repeat, take_zone};
 use sdp_take_once::{Once, take_once};
 use sdp_take_row::{Row, take_row};
 
 // How a line is taken.
-#[derive(Drop)]
+#[derive(Clone, Copy)]
 enum Shape {
     Once(Once),
     Row(Row),
@@ -49,22 +50,41 @@ fn shape_of(role: Role) -> Shape
     }
 }
 
+// What was taken of a line with a use.
+fn told(r: Result<Marks, Wrong>) -> Result<Option<Marks>, Wrong>
+    ensures { result ≡ told r }
+{
+    r.map(Some)
+}
+
 // A line by its role.
-fn take_role(area: &mut [u8], v: &[u8], at: usize, marks: Marks, role: Role) -> Taken
+fn take_role(
+    area: &mut [u8],
+    v: &[u8],
+    at: usize,
+    marks: Marks,
+    role: Role,
+) -> Result<Option<Marks>, Wrong>
     requires { (size ≤ length area.old) × (at + length v.now ≤ longest_text) }
     ensures { Tells (λ ρ. role) at v.now marks result area.old area.new }
 {
     match shape_of(role) {
-        Shape::Once(what) => take_once(area, v, at, marks, what),
-        Shape::Row(what) => take_row(area, v, at, marks, what),
-        Shape::Repeat => take_repeat(area, v, at, marks),
-        Shape::Zone => take_zone(area, v, at, marks),
-        Shape::Nothing => Taken::Idle,
+        Shape::Once(what) => told(take_once(area, v, at, marks, what)),
+        Shape::Row(what) => told(take_row(area, v, at, marks, what)),
+        Shape::Repeat => told(take_repeat(area, v, at, marks)),
+        Shape::Zone => told(take_zone(area, v, at, marks)),
+        Shape::Nothing => Ok(None),
     }
 }
 
 // A line of good form, whose value stands at a place of the text.
-pub fn take_line(area: &mut [u8], at: Place, marks: Marks, letter: u8, value: &[u8]) -> Taken
+pub fn take_line(
+    area: &mut [u8],
+    at: Place,
+    marks: Marks,
+    letter: u8,
+    value: &[u8],
+) -> Result<Option<Marks>, Wrong>
     requires { (size ≤ length area.old) × (at.0 + length value.now ≤ longest_text) }
     ensures { Tells (role_in letter) at.0 value.now marks result area.old area.new }
 {

@@ -8,24 +8,25 @@ use mathlib.Core.List.{List, [], ◌∷◌, ◌++◌, append_assoc, append-nil, 
 use lib.Dec.{ltb}
 use lib.ListN.{length, length-append}
 use borrow.Author.Tests.{lt-ltb, ltb-true}
-use Rattle.sdp_judge.specs.Read.{Read, got, refused, and_then}
+use Rattle.sdp_judge.specs.Read.{Read, and_then}
 use Rattle.sdp_cells.specs.Tables.{add}
+use Rattle.std.specs.Prelude.{Ok, Err}
 
 module _ {A : Type 0} where
   -- nothing so far
-  pub none_yet : (r : Read (List A)) → r ≡ and_then r (λ xs. got ([] ++ xs))
-  none_yet (got xs) = refl
-  none_yet (refused w) = refl
+  pub none_yet : (r : Read (List A)) → r ≡ and_then r (λ xs. Ok ([] ++ xs))
+  none_yet (Ok xs) = refl
+  none_yet (Err w) = refl
 
   -- one more
   pub one_more : (r : Read (List A)) (done : List A) (x : A)
-      → and_then (and_then r (λ xs. got (x ∷ xs))) (λ xs. got (done ++ xs)) ≡ and_then r (λ xs. got ((done ++ (x ∷ [])) ++ xs))
-  one_more (got xs) done x = ap got (sym (append_assoc done (x ∷ []) xs))
-  one_more (refused w) done x = refl
+      → and_then (and_then r (λ xs. Ok (x ∷ xs))) (λ xs. Ok (done ++ xs)) ≡ and_then r (λ xs. Ok ((done ++ (x ∷ [])) ++ xs))
+  one_more (Ok xs) done x = ap Ok (sym (append_assoc done (x ∷ []) xs))
+  one_more (Err w) done x = refl
 
   -- all
-  pub all_read : (done : List A) → and_then (got []) (λ xs. got (done ++ xs)) ≡ got done
-  all_read done = ap got (append-nil done)
+  pub all_read : (done : List A) → and_then (Ok []) (λ xs. Ok (done ++ xs)) ≡ Ok done
+  all_read done = ap Ok (append-nil done)
 
   pub length_more : (done : List A) (x : A) → length (done ++ (x ∷ [])) ≡ length done + 1
   length_more done x = length-append done (x ∷ [])

@@ -6,7 +6,7 @@ use mathlib.Core.Bool.{true, false}
 use mathlib.Core.List.{List, ◌++◌}
 use Rattle.sdp_lines.specs.declared.Span.{Span}
 use Rattle.sdp_split.specs.declared.Piece.{Piece}
-use Rattle.sdp_judge.specs.Read.{got, refused, plain, whole_of}
+use Rattle.sdp_judge.specs.Read.{plain, whole_of}
 use Rattle.sdp_judge.specs.declared.Wrong.{Wrong}
 use Rattle.sdp_cells.specs.Bytes.{le}
 use Rattle.sdp_area.specs.Session.{Session}
@@ -20,11 +20,11 @@ use Rattle.sdp_area.proofs.LatestLaws.{title_mark, title_set}
 use Rattle.sdp_step.specs.Step.{Reading, goes, once, keep, step_role}
 use Rattle.sdp_step.specs.Hold.{Holds, Handled}
 use Rattle.sdp_step.specs.declared.Marks.{Marks}
-use Rattle.sdp_step.specs.declared.Taken.TheVariants.{Kept, Refused}
 use Rattle.sdp_step.proofs.HandleLaws.{once-second, once_wrong, once-kept}
 use Rattle.sdp_step.proofs.OnceLaws.{head_kept, medias-kept, length_last}
 use Rattle.sdp_step.proofs.TailLaws.{tail_of}
 use Rattle.sdp_take_once.specs.Onces.{text_role, text_number, text_field}
+use Rattle.std.specs.Prelude.{Ok, Err}
 
 -- the session with the string
 abbrev with_text : Text → Session Span → Span → Session Span
@@ -49,14 +49,14 @@ module _ (ρ : Reading Span) (m : Marks) (a t : List ℕ) (h : Holds ρ m a t) w
     text-step Title = rw (title_mark ρ.session t h.within a h.bytes)
 
     module _ (x : Text) where
-      pub text-second : mark_text x a ≡ true → Handled (step_role mk ρ v (text_role x)) (Refused (plain (text_number x) 0)) a t
+      pub text-second : mark_text x a ≡ true → Handled (step_role mk ρ v (text_role x)) (Err (plain (text_number x) 0)) a t
       text-second e = rw (text-step x) (once-second (text_number x) (mark_text x a) _ _ a t e (tail_of h))
 
       -- n is the field that the code asked for
       module _ (e : mark_text x a ≡ false) (n : ℕ) (is : n ≡ text_field x) where
-        pub text_wrong : (w : Wrong) → whole_of n v ≡ refused w → Handled (step_role mk ρ v (text_role x)) (Refused w) a t
+        pub text_wrong : (w : Wrong) → whole_of n v ≡ Err w → Handled (step_role mk ρ v (text_role x)) (Err w) a t
         text_wrong w f = rw (text-step x, ← is) (once_wrong (text_number x) (mark_text x a) _ _ a t e w f (tail_of h))
 
-        pub text-kept : (p : Piece) (a' : List ℕ) → whole_of n v ≡ got p → a' ≡ over_text x a (le 2 1 ++ span (mk p))
-            → Handled (step_role mk ρ v (text_role x)) (Kept m) a' t
+        pub text-kept : (p : Piece) (a' : List ℕ) → whole_of n v ≡ Ok p → a' ≡ over_text x a (le 2 1 ++ span (mk p))
+            → Handled (step_role mk ρ v (text_role x)) (Ok m) a' t
         text-kept p a' f b = rw (text-step x, ← is) (once-kept (text_number x) (mark_text x a) _ _ a' t e p _ m f refl (text_held x (mk p) a' b))

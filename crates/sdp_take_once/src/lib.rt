@@ -10,27 +10,27 @@ ghost use Rattle.sdp_take_once.specs.Onces.{text_role, text_number, text_field, 
 use sdp_area::{
     Text, has_connection, has_origin, has_text, set_connection, set_name, set_origin, set_text,
 };
-use sdp_fields::{Connection, ConnectionRead, Origin, OriginRead};
-use sdp_judge::{WholeRead, Wrong, whole};
+use sdp_fields::{Connection, Origin};
+use sdp_judge::{Wrong, whole};
 use sdp_roles::Role;
-use sdp_step::{Marks, Taken};
+use sdp_step::Marks;
 use sdp_strings::{maybe_of, span_of};
 
 // An o line.
-fn take_origin(area: &mut [u8], v: &[u8], at: usize, marks: Marks) -> Taken
+fn take_origin(area: &mut [u8], v: &[u8], at: usize, marks: Marks) -> Result<Marks, Wrong>
     requires { (size ≤ length area.old) × (at + length v.now ≤ longest_text) }
     ensures { Reads Role.Origin at v.now marks result area.old area.new }
 {
     if has_origin(area) {
-        return Taken::Refused(Wrong {
+        return Err(Wrong {
             number: 12,
             field: 0,
             at: 0,
         });
     }
     match Origin::parse(v) {
-        OriginRead::Refused(w) => Taken::Refused(w),
-        OriginRead::Got(o) => {
+        Err(w) => Err(w),
+        Ok(o) => {
             let username = o.username;
             let username = maybe_of(at, username);
             let sess_id = o.sess_id;
@@ -50,29 +50,29 @@ fn take_origin(area: &mut [u8], v: &[u8], at: usize, marks: Marks) -> Taken
                 unicast_address: address,
             };
             set_origin(area, origin);
-            Taken::Kept(marks)
+            Ok(marks)
         }
     }
 }
 
 // An s line.
-fn take_name(area: &mut [u8], v: &[u8], at: usize, marks: Marks) -> Taken
+fn take_name(area: &mut [u8], v: &[u8], at: usize, marks: Marks) -> Result<Marks, Wrong>
     requires { (size ≤ length area.old) × (at + length v.now ≤ longest_text) }
     ensures { Reads Role.Name at v.now marks result area.old area.new }
 {
     if marks.named {
-        return Taken::Refused(Wrong {
+        return Err(Wrong {
             number: 13,
             field: 0,
             at: 0,
         });
     }
     match whole(v, 34) {
-        WholeRead::Refused(w) => Taken::Refused(w),
-        WholeRead::Got(p) => {
+        Err(w) => Err(w),
+        Ok(p) => {
             let x = span_of(at, p);
             set_name(area, x);
-            Taken::Kept(Marks {
+            Ok(Marks {
                 named: true,
                 zoned: marks.zoned,
             })
@@ -103,42 +103,48 @@ fn text_field(which: Text) -> u64
 }
 
 // An i or a u line before the first m, or an i line of a media.
-fn take_text(area: &mut [u8], v: &[u8], at: usize, marks: Marks, which: Text) -> Taken
+fn take_text(
+    area: &mut [u8],
+    v: &[u8],
+    at: usize,
+    marks: Marks,
+    which: Text,
+) -> Result<Marks, Wrong>
     requires { (size ≤ length area.old) × (at + length v.now ≤ longest_text) }
     ensures { Reads (text_role which) at v.now marks result area.old area.new }
 {
     if has_text(area, which) {
-        return Taken::Refused(Wrong {
+        return Err(Wrong {
             number: text_number(which),
             field: 0,
             at: 0,
         });
     }
     match whole(v, text_field(which)) {
-        WholeRead::Refused(w) => Taken::Refused(w),
-        WholeRead::Got(p) => {
+        Err(w) => Err(w),
+        Ok(p) => {
             let x = span_of(at, p);
             set_text(area, which, x);
-            Taken::Kept(marks)
+            Ok(marks)
         }
     }
 }
 
 // A c line before the first m.
-fn take_connection(area: &mut [u8], v: &[u8], at: usize, marks: Marks) -> Taken
+fn take_connection(area: &mut [u8], v: &[u8], at: usize, marks: Marks) -> Result<Marks, Wrong>
     requires { (size ≤ length area.old) × (at + length v.now ≤ longest_text) }
     ensures { Reads Role.Connection at v.now marks result area.old area.new }
 {
     if has_connection(area) {
-        return Taken::Refused(Wrong {
+        return Err(Wrong {
             number: 16,
             field: 0,
             at: 0,
         });
     }
     match Connection::parse(v) {
-        ConnectionRead::Refused(w) => Taken::Refused(w),
-        ConnectionRead::Got(c) => {
+        Err(w) => Err(w),
+        Ok(c) => {
             let nettype = c.nettype;
             let nettype = span_of(at, nettype);
             let addrtype = c.addrtype;
@@ -151,13 +157,13 @@ fn take_connection(area: &mut [u8], v: &[u8], at: usize, marks: Marks) -> Taken
                 connection_address: address,
             };
             set_connection(area, connection);
-            Taken::Kept(marks)
+            Ok(marks)
         }
     }
 }
 
 // What a session or a media has at most once.
-#[derive(Drop)]
+#[derive(Clone, Copy)]
 pub enum Once {
     Origin,
     Name,
@@ -166,7 +172,13 @@ pub enum Once {
 }
 
 // Its line.
-pub fn take_once(area: &mut [u8], v: &[u8], at: usize, marks: Marks, what: Once) -> Taken
+pub fn take_once(
+    area: &mut [u8],
+    v: &[u8],
+    at: usize,
+    marks: Marks,
+    what: Once,
+) -> Result<Marks, Wrong>
     requires { (size ≤ length area.old) × (at + length v.now ≤ longest_text) }
     ensures { Reads (once_role what) at v.now marks result area.old area.new }
 {

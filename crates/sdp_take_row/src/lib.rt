@@ -11,13 +11,11 @@ use sdp_area::{
     Contact, medias, push_attribute, push_bandwidth, push_connection, push_contact, push_media,
     push_time,
 };
-use sdp_fields::{
-    Attribute, AttributeRead, Bandwidth, BandwidthRead, Connection, ConnectionRead, Time, TimeRead,
-};
-use sdp_judge::{WholeRead, whole};
-use sdp_media_line::{MaybeNumber, Media, MediaRead};
+use sdp_fields::{Attribute, Bandwidth, Connection, Time};
+use sdp_judge::{Wrong, whole};
+use sdp_media_line::Media;
 use sdp_roles::Role;
-use sdp_step::{Marks, Taken, stored};
+use sdp_step::{Marks, stored};
 use sdp_strings::{maybe_of, span_of};
 
 // The field that an e or a p line is refused at.
@@ -41,13 +39,19 @@ fn contact_table(which: Contact) -> u64
 }
 
 // An e or a p line.
-fn take_contact(area: &mut [u8], v: &[u8], at: usize, marks: Marks, which: Contact) -> Taken
+fn take_contact(
+    area: &mut [u8],
+    v: &[u8],
+    at: usize,
+    marks: Marks,
+    which: Contact,
+) -> Result<Marks, Wrong>
     requires { (size ≤ length area.old) × (at + length v.now ≤ longest_text) }
     ensures { Reads (contact_role which) at v.now marks result area.old area.new }
 {
     match whole(v, contact_field(which)) {
-        WholeRead::Refused(w) => Taken::Refused(w),
-        WholeRead::Got(p) => {
+        Err(w) => Err(w),
+        Ok(p) => {
             let x = span_of(at, p);
             let p = push_contact(area, which, x);
             stored(p, contact_table(which), marks)
@@ -56,13 +60,13 @@ fn take_contact(area: &mut [u8], v: &[u8], at: usize, marks: Marks, which: Conta
 }
 
 // A c line of a media.
-fn take_media_connection(area: &mut [u8], v: &[u8], at: usize, marks: Marks) -> Taken
+fn take_media_connection(area: &mut [u8], v: &[u8], at: usize, marks: Marks) -> Result<Marks, Wrong>
     requires { (size ≤ length area.old) × (at + length v.now ≤ longest_text) }
     ensures { Reads Role.MediaConnection at v.now marks result area.old area.new }
 {
     match Connection::parse(v) {
-        ConnectionRead::Refused(w) => Taken::Refused(w),
-        ConnectionRead::Got(c) => {
+        Err(w) => Err(w),
+        Ok(c) => {
             let nettype = c.nettype;
             let nettype = span_of(at, nettype);
             let addrtype = c.addrtype;
@@ -82,13 +86,13 @@ fn take_media_connection(area: &mut [u8], v: &[u8], at: usize, marks: Marks) -> 
 }
 
 // A b line.
-fn take_bandwidth(area: &mut [u8], v: &[u8], at: usize, marks: Marks) -> Taken
+fn take_bandwidth(area: &mut [u8], v: &[u8], at: usize, marks: Marks) -> Result<Marks, Wrong>
     requires { (size ≤ length area.old) × (at + length v.now ≤ longest_text) }
     ensures { Reads Role.Bandwidth at v.now marks result area.old area.new }
 {
     match Bandwidth::parse(v) {
-        BandwidthRead::Refused(w) => Taken::Refused(w),
-        BandwidthRead::Got(b) => {
+        Err(w) => Err(w),
+        Ok(b) => {
             let bwtype = b.bwtype;
             let bwtype = span_of(at, bwtype);
             let owner = medias(area);
@@ -99,13 +103,13 @@ fn take_bandwidth(area: &mut [u8], v: &[u8], at: usize, marks: Marks) -> Taken
 }
 
 // A t line.
-fn take_time(area: &mut [u8], v: &[u8], at: usize, marks: Marks) -> Taken
+fn take_time(area: &mut [u8], v: &[u8], at: usize, marks: Marks) -> Result<Marks, Wrong>
     requires { (size ≤ length area.old) × (at + length v.now ≤ longest_text) }
     ensures { Reads Role.Time at v.now marks result area.old area.new }
 {
     match Time::parse(v) {
-        TimeRead::Refused(w) => Taken::Refused(w),
-        TimeRead::Got(t) => {
+        Err(w) => Err(w),
+        Ok(t) => {
             let p = push_time(area, t.start_time, t.stop_time);
             stored(p, 5, marks)
         }
@@ -113,13 +117,13 @@ fn take_time(area: &mut [u8], v: &[u8], at: usize, marks: Marks) -> Taken
 }
 
 // An a line.
-fn take_attribute(area: &mut [u8], v: &[u8], at: usize, marks: Marks) -> Taken
+fn take_attribute(area: &mut [u8], v: &[u8], at: usize, marks: Marks) -> Result<Marks, Wrong>
     requires { (size ≤ length area.old) × (at + length v.now ≤ longest_text) }
     ensures { Reads Role.Attribute at v.now marks result area.old area.new }
 {
     match Attribute::parse(v) {
-        AttributeRead::Refused(w) => Taken::Refused(w),
-        AttributeRead::Got(k) => {
+        Err(w) => Err(w),
+        Ok(k) => {
             let name = k.attribute;
             let name = span_of(at, name);
             let value = k.value;
@@ -132,13 +136,13 @@ fn take_attribute(area: &mut [u8], v: &[u8], at: usize, marks: Marks) -> Taken
 }
 
 // An m line.
-fn take_media(area: &mut [u8], v: &[u8], at: usize, marks: Marks) -> Taken
+fn take_media(area: &mut [u8], v: &[u8], at: usize, marks: Marks) -> Result<Marks, Wrong>
     requires { (size ≤ length area.old) × (at + length v.now ≤ longest_text) }
     ensures { Reads Role.Media at v.now marks result area.old area.new }
 {
     match Media::parse_m_line(v) {
-        MediaRead::Refused(w) => Taken::Refused(w),
-        MediaRead::Got(m) => {
+        Err(w) => Err(w),
+        Ok(m) => {
             let media = m.media;
             let media = span_of(at, media);
             let ports = m.num_ports;
@@ -161,18 +165,14 @@ fn take_media(area: &mut [u8], v: &[u8], at: usize, marks: Marks) -> Taken
 }
 
 // The number of ports of an m line, as the area keeps it.
-fn ports_of(n: MaybeNumber) -> Option<usize>
-    ensures { result ≡ cond n.there (Some n.value) None }
+fn ports_of(n: Option<u64>) -> Option<usize>
+    ensures { result ≡ n }
 {
-    if n.there {
-        Some(n.value as usize)
-    } else {
-        None
-    }
+    Some(n? as usize)
 }
 
 // What is one row of a table.
-#[derive(Drop)]
+#[derive(Clone, Copy)]
 pub enum Row {
     Contact(Contact),
     MediaConnection,
@@ -183,7 +183,13 @@ pub enum Row {
 }
 
 // Its line.
-pub fn take_row(area: &mut [u8], v: &[u8], at: usize, marks: Marks, what: Row) -> Taken
+pub fn take_row(
+    area: &mut [u8],
+    v: &[u8],
+    at: usize,
+    marks: Marks,
+    what: Row,
+) -> Result<Marks, Wrong>
     requires { (size ≤ length area.old) × (at + length v.now ≤ longest_text) }
     ensures { Reads (row_role what) at v.now marks result area.old area.new }
 {

@@ -15,7 +15,7 @@ use sdp_line::{opening_line, take};
 use sdp_lines::{Answer, LineNumber, Place, Span};
 use sdp_roles::role_at;
 use sdp_stamp::stamp;
-use sdp_step::{Marks, Taken};
+use sdp_step::Marks;
 
 // What a reading carries from line to line beside the area: the marks, whether the version line is behind it, and how many
 // lines were kept, empty and ignored so far. In another order the compiled loop is slower (docs/SPEED.md).
@@ -128,12 +128,12 @@ fn good_line(
     let role = role_at(medias(area), letter);
     let before = offsets(area);
     match take(area, at, state.marks(), number, letter, &text[begin..end]) {
-        Taken::Kept(marks) => {
+        Ok(Some(marks)) => {
             stamp(area, role, before, number.0);
             Ok(Some(state.one_kept(marks)))
         }
-        Taken::Idle => Ok(Some(state.one_ignored())),
-        Taken::Refused(w) => Err(Failure::Stopped(wrong_at(number, at, w))),
+        Ok(None) => Ok(Some(state.one_ignored())),
+        Err(w) => Err(Failure::Stopped(wrong_at(number, at, w))),
     }
 }
 

@@ -5,12 +5,12 @@ use native.Mathlib.Omega.{arith}
 use mathlib.Core.Path.{◌≡◌, refl, sym}
 use mathlib.Core.Bool.{false, false≢true}
 use mathlib.Core.List.{List, [], ◌∷◌, ◌++◌}
-use Rattle.std.specs.Prelude.{None}
+use Rattle.std.specs.Prelude.{None, Ok, Err}
 use lib.Dec.{ltb, leb, eqb}
 use lib.ListN.{length, get_or, set, length-append}
 use Rattle.sdp_lines.specs.declared.Span.{Span}
 use Rattle.sdp_split.specs.declared.Piece.{Piece}
-use Rattle.sdp_judge.specs.Read.{Read, got, refused, whole_of}
+use Rattle.sdp_judge.specs.Read.{Read, whole_of}
 use Rattle.sdp_fields.specs.Records.{origin_of, connection_of, bandwidth_of, times_of, attribute_of}
 use Rattle.sdp_media_line.specs.MediaLine.{media_of}
 use Rattle.sdp_lists.specs.Lists.{RepeatLine, repeat_of, zones_of}
@@ -73,8 +73,8 @@ module _ (mk : Piece → Span) (ρ : Reading Span) (v : List ℕ) (z : Unzoned �
   more xs x k e = up_set k (length (xs ++ (x ∷ []))) (rows_in s) (rw (e, length-append xs (x ∷ [])) (omega arith))
 
   repeat_grows : (x : Read RepeatLine) → Going (Grown ρ) (repeated mk ρ v x)
-  repeat_grows (refused w) = off _ _
-  repeat_grows (got r) =
+  repeat_grows (Err w) = off _ _
+  repeat_grows (Ok r) =
       past-cond _ (ltb (length s.tables.repeats) 64) _ _
       (past-cond _ (leb (length s.tables.offsets + length r.offsets) 256) _ _
       (on _ _ (record { rows = up_two 11 _ _ (rows_in s) (rw length-append (omega arith)) (rw length-append (omega arith)); medias = stay refl; unzoned = z })) (off _ _)) (off _ _)

@@ -15,10 +15,7 @@ use sdp_area::{
 };
 use sdp_builders::{Media, Origin};
 use sdp_decode::num2;
-use sdp_fields::OriginRead;
-use sdp_judge::Amount;
 use sdp_lines::{Answer, Cursor, Cut, Place, Span};
-use sdp_media_line::MediaRead;
 use sdp_order::Verdict;
 use std::io;
 use std::io::{Read, Stdin};
@@ -188,18 +185,14 @@ fn origin_out(rt: &impl Print, s: &[u8], o: Origin) -> io::Result<()> {
     string_out(rt, s, o.unicast_address)
 }
 
-fn username_of(m: sdp_judge::MaybePiece) -> Option<Span> {
-    if m.there {
-        Some(span_of(m.piece))
-    } else {
-        None
-    }
+fn username_of(m: Option<sdp_split::Piece>) -> Option<Span> {
+    Some(span_of(m?))
 }
 
 // The address of an o line becomes its username.
 fn username_out(rt: &impl Print, s: &[u8]) -> io::Result<()> {
     letter_out(rt, b'o')?;
-    if let OriginRead::Got(o) = sdp_fields::Origin::parse(s) {
+    if let Ok(o) = sdp_fields::Origin::parse(s) {
         let address = o.unicast_address;
         let new = Span {
             at: Place(address.at),
@@ -229,7 +222,7 @@ fn media_out(rt: &impl Print, s: &[u8], m: Media) -> io::Result<()> {
 
 // The number at a place of s, 0 if none of 16 bits stands there.
 fn ports_at(s: &[u8], at: usize) -> u16 {
-    if let Amount::Got { value, next } = sdp_judge::word_number(s, at, 0) {
+    if let Ok((value, _)) = sdp_judge::word_number(s, at, 0) {
         if value <= 65535 {
             return value as u16;
         }
@@ -237,18 +230,14 @@ fn ports_at(s: &[u8], at: usize) -> u16 {
     0
 }
 
-fn ports_of(m: sdp_media_line::MaybeNumber) -> Option<usize> {
-    if m.there {
-        Some(m.value as usize)
-    } else {
-        None
-    }
+fn ports_of(n: Option<u64>) -> Option<usize> {
+    Some(n? as usize)
 }
 
 // The first format of an m line becomes its number of ports.
 fn num_ports_out(rt: &impl Print, s: &[u8]) -> io::Result<()> {
     letter_out(rt, b'm')?;
-    if let MediaRead::Got(m) = sdp_media_line::Media::parse_m_line(s) {
+    if let Ok(m) = sdp_media_line::Media::parse_m_line(s) {
         let new = ports_at(s, m.fmt.at);
         let before = Media {
             media: span_of(m.media),

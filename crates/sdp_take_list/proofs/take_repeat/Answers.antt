@@ -9,7 +9,6 @@ use Rattle.sdp_lists.proofs.RestLaws.{head_next}
 use Rattle.sdp_area.proofs.GrownLaws.{times_count, repeats_count, repeats-grown}
 use Rattle.sdp_strings.specs.Strings.{span_at}
 use Rattle.sdp_step.specs.Step.{step_role}
-use Rattle.sdp_step.proofs.AnswerLaws.{repeat_got, repeat-refused}
 use Rattle.sdp_take_list.proofs.RepeatLaws.{none_latest, some_latest, room_begin, head_wrong, head_got}
 use Rattle.sdp_step.proofs.TailLaws.{tail_of}
 use Rattle.sdp_take_list.proofs.take_repeat.Goals as goal
@@ -21,23 +20,23 @@ returns-in_default c ρ t h =
     rw (rw (times_count ρ.session t h.within c.args.area.now h.bytes) at e) (refl, tail_of h)
 
 pub take_offsets-requires : goal.take_offsets-requires
-take_offsets-requires c = (omega arith, head_next _ _ (repeat_got _ _ (sym c.parse.ensures ∙ c.in-Got.is)))
+take_offsets-requires c = (omega arith, head_next _ _ (sym c.parse.ensures ∙ c.in-Ok.is))
 
-pub returns-in-Refused : goal.returns-in-Refused
+pub returns-in-Err : goal.returns-in-Err
 unfolding step_role
-returns-in-Refused c ρ t h =
-    let e = (some_latest (num 2 c.args.area.now times_at) _ (sym c.latest_time.ensures ∙ c.in-Time.is)).0 in
-    let f = repeat-refused _ _ (sym c.parse.ensures ∙ c.in-Refused.is) in
-    rw (rw (times_count ρ.session t h.within c.args.area.now h.bytes) at e, head_wrong (span_at c.args.at []) ρ c.args.v.now c.in-Refused.w f) (refl, tail_of h)
+returns-in-Err c ρ t h =
+    let e = (some_latest (num 2 c.args.area.now times_at) _ (sym c.latest_time.ensures ∙ c.in-Some.is)).0 in
+    let f = (sym c.parse.ensures ∙ c.in-Err.is) in
+    rw (rw (times_count ρ.session t h.within c.args.area.now h.bytes) at e, head_wrong (span_at c.args.at []) ρ c.args.v.now c.in-Err.w f) (refl, tail_of h)
 
-pub returns-in-Got : goal.returns-in-Got
+pub returns-in-Ok : goal.returns-in-Ok
 unfolding step_role
-returns-in-Got c ρ t h =
-    let s = some_latest (num 2 c.args.area.now times_at) _ (sym c.latest_time.ensures ∙ c.in-Time.is) in
-    let f = repeat_got _ _ (sym c.parse.ensures ∙ c.in-Got.is) in
+returns-in-Ok c ρ t h =
+    let s = some_latest (num 2 c.args.area.now times_at) _ (sym c.latest_time.ensures ∙ c.in-Some.is) in
+    let f = (sym c.parse.ensures ∙ c.in-Ok.is) in
     let k = s.1 ∙ times_count ρ.session t h.within c.args.area.now h.bytes in
     let o = ap (λ (i : ℕ). i + 1) (c.repeats-owner.ensures.0 ∙ repeats_count ρ.session t h.within _ h.bytes) in
     let g = repeats-grown ρ.session t h.within _ h.bytes _ in
     let u = c.push_repeat-p.ensures in
     let r = room_begin ρ.session h.within _ _ _ t (u.value ∙ g.0) (u.area_after ∙ g.1) in
-    rw (rw (times_count ρ.session t h.within c.args.area.now h.bytes) at s.0, head_got (span_at c.args.at []) ρ c.args.v.now c.in-Got.h f, ← k) (c.take_offsets.ensures ρ _ _ t h o (rw (← c.repeat_room.ensures) at r))
+    rw (rw (times_count ρ.session t h.within c.args.area.now h.bytes) at s.0, head_got (span_at c.args.at []) ρ c.args.v.now c.in-Ok.h f, ← k) (c.take_offsets.ensures ρ _ _ t h o (rw (← c.repeat_room.ensures) at r))

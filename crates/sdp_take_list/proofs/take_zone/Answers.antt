@@ -5,6 +5,7 @@ use native.Mathlib.Omega.{arith}
 use mathlib.Core.Path.{refl, sym, ap, ◌∙◌}
 use mathlib.Core.Bool.{false}
 use mathlib.Core.List.{[]}
+use Rattle.std.specs.Prelude.{Ok}
 use borrow.Author.Rules.{rules}
 use Rattle.sdp_lists.proofs.RestLaws.{zone_next}
 use Rattle.sdp_step.specs.Step.{step_role}
@@ -19,33 +20,33 @@ unfolding step_role
 returns-then-marks c ρ t h =
     once-second 17 _ _ _ (held h) t (sym (ap (λ (m : Marks). m.zoned) h.marks) ∙ c.if-marks.true) (tail_of h)
 
-pub loop-w-init : goal.loop-w-init
-loop-w-init c =
+pub loop-zone-init : goal.loop-zone-init
+loop-zone-init c =
     (refl, omega arith, omega arith, λ ρ t h u. zoning_begin _ ρ.session t _ (h.unzoned u) h.bytes)
 
-pub returns-in-Refused : goal.returns-in-Refused
+pub returns-in-Err : goal.returns-in-Err
 unfolding step_role
-returns-in-Refused c ρ t h =
-    (once_wrong 17 _ _ _ _ _ (sym (ap (λ (m : Marks). m.zoned) h.marks) ∙ c.if-marks.false) _ (zoning_wrong _ ρ.session h.within t _ _ _ (c.loop-w.invariant.3 ρ t h (sym (ap (λ (m : Marks). m.zoned) h.marks) ∙ c.if-marks.false)) _ (sym c.parse.ensures ∙ c.in-Refused.is)) (zoning_tail _ ρ.session h.within t _ _ _ (c.loop-w.invariant.3 ρ t h (sym (ap (λ (m : Marks). m.zoned) h.marks) ∙ c.if-marks.false))))
+returns-in-Err c ρ t h =
+    (once_wrong 17 _ _ _ _ _ (sym (ap (λ (m : Marks). m.zoned) h.marks) ∙ c.if-marks.false) _ (zoning_wrong _ ρ.session h.within t _ _ _ (c.loop-zone.invariant.3 ρ t h (sym (ap (λ (m : Marks). m.zoned) h.marks) ∙ c.if-marks.false)) _ (sym c.parse.ensures ∙ c.in-Err.is)) (zoning_tail _ ρ.session h.within t _ _ _ (c.loop-zone.invariant.3 ρ t h (sym (ap (λ (m : Marks). m.zoned) h.marks) ∙ c.if-marks.false))))
 
 pub overflow_add-n : goal.overflow_add-n
 overflow_add-n c = omega (arith, c.requires.1)
 
-pub loop-w-smaller : goal.loop-w-smaller
-loop-w-smaller c = let m = (zone_next _ _ _ _ (sym c.parse.ensures ∙ c.in-Got.is)).1 in omega arith
+pub loop-zone-smaller : goal.loop-zone-smaller
+loop-zone-smaller c = let m = (zone_next _ _ _ _ (sym c.parse.ensures ∙ c.in-Ok-Some.is ∙ ap Ok c.in-Ok-Some.field-0-is)).1 in omega arith
 
-pub loop-w-preserved : goal.loop-w-preserved
-loop-w-preserved c =
-    let e = (sym c.parse.ensures ∙ c.in-Got.is) in
+pub loop-zone-preserved : goal.loop-zone-preserved
+loop-zone-preserved c =
+    let e = (sym c.parse.ensures ∙ c.in-Ok-Some.is ∙ ap Ok c.in-Ok-Some.field-0-is) in
     let m = (zone_next _ _ _ _ e).1 in
-    (search rules, omega arith, omega arith, λ ρ t h u. zoning_next _ ρ.session h.within t _ _ _ (c.loop-w.invariant.3 ρ t h u) _ _ _ e c.push_zone.ensures.area_after)
+    (search rules, omega arith, omega arith, λ ρ t h u. zoning_next _ ρ.session h.within t _ _ _ (c.loop-zone.invariant.3 ρ t h u) _ _ _ e c.push_zone.ensures.area_after)
 
 pub returns-then-pairs-gt64 : goal.returns-then-pairs-gt64
 unfolding step_role
 returns-then-pairs-gt64 c ρ t h =
-    once_then 17 _ _ _ _ _ (sym (ap (λ (m : Marks). m.zoned) h.marks) ∙ c.if-marks.false) _ _ (zoning_all _ ρ.session h.within t _ _ _ (c.loop-w.invariant.3 ρ t h (sym (ap (λ (m : Marks). m.zoned) h.marks) ∙ c.if-marks.false)) (sym c.parse.ensures ∙ c.in-Done.is)) (zones_full (span_at c.args.at []) _ ρ _ _ t _ h _ _ (c.loop-w.invariant.3 ρ t h (sym (ap (λ (m : Marks). m.zoned) h.marks) ∙ c.if-marks.false)) c.if-pairs-gt64.true)
+    once_then 17 _ _ _ _ _ (sym (ap (λ (m : Marks). m.zoned) h.marks) ∙ c.if-marks.false) _ _ (zoning_all _ ρ.session h.within t _ _ _ (c.loop-zone.invariant.3 ρ t h (sym (ap (λ (m : Marks). m.zoned) h.marks) ∙ c.if-marks.false)) (sym c.parse.ensures ∙ c.in-Ok-None.is ∙ ap Ok c.in-Ok-None.field-0-is)) (zones_full (span_at c.args.at []) _ ρ _ _ t _ h _ _ (c.loop-zone.invariant.3 ρ t h (sym (ap (λ (m : Marks). m.zoned) h.marks) ∙ c.if-marks.false)) c.if-pairs-gt64.true)
 
 pub returns : goal.returns
 unfolding step_role
 returns c ρ t h =
-    once_then 17 _ _ _ _ _ (sym (ap (λ (m : Marks). m.zoned) h.marks) ∙ c.if-marks.false) _ _ (zoning_all _ ρ.session h.within t _ _ _ (c.loop-w.invariant.3 ρ t h (sym (ap (λ (m : Marks). m.zoned) h.marks) ∙ c.if-marks.false)) (sym c.parse.ensures ∙ c.in-Done.is)) (zones-kept (span_at c.args.at []) _ ρ _ _ t _ h _ _ (c.loop-w.invariant.3 ρ t h (sym (ap (λ (m : Marks). m.zoned) h.marks) ∙ c.if-marks.false)) c.if-pairs-gt64.false)
+    once_then 17 _ _ _ _ _ (sym (ap (λ (m : Marks). m.zoned) h.marks) ∙ c.if-marks.false) _ _ (zoning_all _ ρ.session h.within t _ _ _ (c.loop-zone.invariant.3 ρ t h (sym (ap (λ (m : Marks). m.zoned) h.marks) ∙ c.if-marks.false)) (sym c.parse.ensures ∙ c.in-Ok-None.is ∙ ap Ok c.in-Ok-None.field-0-is)) (zones-kept (span_at c.args.at []) _ ρ _ _ t _ h _ _ (c.loop-zone.invariant.3 ρ t h (sym (ap (λ (m : Marks). m.zoned) h.marks) ∙ c.if-marks.false)) c.if-pairs-gt64.false)

@@ -10,9 +10,9 @@ use Rattle.sdp_step.specs.Hold.{Holds}
 use Rattle.sdp_take_list.proofs.ZoneLaws.{Zoning}
 use Rattle.sdp_take_list.proofs.take_zone.Given as goal
 
-abbrev pub invariant-loop-w : goal.invariant-loop-w
-invariant-loop-w l =
+abbrev pub invariant-loop-zone : goal.invariant-loop-zone
+invariant-loop-zone l =
     (length l.area ≡ length l.initial.area) × (l.i ≤ length l.v) × (l.n ≤ l.i) × ((ρ : Reading Span) (t : List _) → Holds ρ l.marks l.initial.area t → ρ.zoned ≡ false → Zoning l.v ρ.session t l.area l.i l.n)
 
-abbrev pub decreases-loop-w : goal.decreases-loop-w
-decreases-loop-w l = length l.v - l.i
+abbrev pub decreases-loop-zone : goal.decreases-loop-zone
+decreases-loop-zone l = length l.v - l.i

@@ -5,7 +5,6 @@ use Rattle.sdp_judge.proofs.EveryLaws.{whole-within}
 use Rattle.sdp_area.proofs.HeadLaws.{name_set}
 use Rattle.sdp_step.specs.Step.{step_role}
 use Rattle.sdp_step.specs.declared.Marks.{Marks}
-use Rattle.sdp_step.proofs.AnswerLaws.{whole_got, whole-refused}
 use Rattle.sdp_step.proofs.HandleLaws.{once-second, once_wrong, once-kept}
 use Rattle.sdp_step.proofs.OnceLaws.{head_kept}
 use Rattle.sdp_step.proofs.TailLaws.{held, tail_of}
@@ -19,17 +18,17 @@ returns-then-marks c ρ t h =
 
 pub span_of-x-requires : goal.span_of-x-requires
 span_of-x-requires c =
-    omega (arith, whole-within _ _ _ (whole_got _ _ (sym c.whole.ensures ∙ c.in-Got.is)), c.requires.1)
+    omega (arith, whole-within _ _ _ (sym c.whole.ensures ∙ c.in-Ok.is), c.requires.1)
 
 pub set_name-requires : goal.set_name-requires
 set_name-requires c = omega (arith, c.requires.0)
 
-pub returns-in-Refused : goal.returns-in-Refused
+pub returns-in-Err : goal.returns-in-Err
 unfolding step_role
-returns-in-Refused c ρ t h =
-    (once_wrong 13 _ _ _ (held h) t (sym (ap (λ (m : Marks). m.named) h.marks) ∙ c.if-marks.false) _ (whole-refused _ _ (sym c.whole.ensures ∙ c.in-Refused.is)) (tail_of h))
+returns-in-Err c ρ t h =
+    (once_wrong 13 _ _ _ (held h) t (sym (ap (λ (m : Marks). m.named) h.marks) ∙ c.if-marks.false) _ (sym c.whole.ensures ∙ c.in-Err.is) (tail_of h))
 
-pub returns-in-Got : goal.returns-in-Got
+pub returns-in-Ok : goal.returns-in-Ok
 unfolding step_role
-returns-in-Got c ρ t h =
-    once-kept 13 _ _ _ _ _ (sym (ap (λ (m : Marks). m.named) h.marks) ∙ c.if-marks.false) _ _ _ (whole_got _ _ (sym c.whole.ensures ∙ c.in-Got.is)) refl (head_kept ρ _ _ _ _ t _ h (ap (λ (m : Marks). record { named = true; zoned = m.zoned }) h.marks) (c.set_name.ensures ∙ rw c.span_of-x.ensures (name_set ρ.session t h.within _ h.bytes _)))
+returns-in-Ok c ρ t h =
+    once-kept 13 _ _ _ _ _ (sym (ap (λ (m : Marks). m.named) h.marks) ∙ c.if-marks.false) _ _ _ (sym c.whole.ensures ∙ c.in-Ok.is) refl (head_kept ρ _ _ _ _ t _ h (ap (λ (m : Marks). record { named = true; zoned = m.zoned }) h.marks) (c.set_name.ensures ∙ rw c.span_of-x.ensures (name_set ρ.session t h.within _ h.bytes _)))

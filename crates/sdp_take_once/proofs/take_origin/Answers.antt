@@ -4,8 +4,8 @@ use native.Mathlib.Omega.{arith}
 use Rattle.sdp_fields.proofs.BoundLaws.{origin_within}
 use Rattle.sdp_area.proofs.HeadLaws.{origin_mark, origin_set}
 use Rattle.sdp_step.specs.Step.{step_role}
-use Rattle.sdp_step.proofs.AnswerLaws.{origin_got, origin_refused}
 use Rattle.sdp_step.proofs.HandleLaws.{once-second, once_wrong, once-kept}
+use Rattle.sdp_step.proofs.MaybeLaws.{maybe_fits}
 use Rattle.sdp_step.proofs.OnceLaws.{head_kept}
 use Rattle.sdp_step.proofs.TailLaws.{held, tail_of}
 use Rattle.sdp_take_once.proofs.take_origin.Goals as goal
@@ -17,33 +17,33 @@ returns-then-has_origin c ρ t h =
 
 pub maybe_of-username-requires : goal.maybe_of-username-requires
 maybe_of-username-requires c =
-    omega (arith, (origin_within _ _ (origin_got _ _ (sym c.parse.ensures ∙ c.in-Got.is))).username, c.requires.1)
+    maybe_fits _ _ _ _ (origin_within _ _ (sym c.parse.ensures ∙ c.in-Ok.is)).username c.requires.1
 
 pub span_of-sess_id-requires : goal.span_of-sess_id-requires
 span_of-sess_id-requires c =
-    omega (arith, (origin_within _ _ (origin_got _ _ (sym c.parse.ensures ∙ c.in-Got.is))).id, c.requires.1)
+    omega (arith, (origin_within _ _ (sym c.parse.ensures ∙ c.in-Ok.is)).id, c.requires.1)
 
 pub span_of-nettype-requires : goal.span_of-nettype-requires
 span_of-nettype-requires c =
-    omega (arith, (origin_within _ _ (origin_got _ _ (sym c.parse.ensures ∙ c.in-Got.is))).nettype, c.requires.1)
+    omega (arith, (origin_within _ _ (sym c.parse.ensures ∙ c.in-Ok.is)).nettype, c.requires.1)
 
 pub span_of-addrtype-requires : goal.span_of-addrtype-requires
 span_of-addrtype-requires c =
-    omega (arith, (origin_within _ _ (origin_got _ _ (sym c.parse.ensures ∙ c.in-Got.is))).addrtype, c.requires.1)
+    omega (arith, (origin_within _ _ (sym c.parse.ensures ∙ c.in-Ok.is)).addrtype, c.requires.1)
 
 pub span_of-address-requires : goal.span_of-address-requires
 span_of-address-requires c =
-    omega (arith, (origin_within _ _ (origin_got _ _ (sym c.parse.ensures ∙ c.in-Got.is))).address, c.requires.1)
+    omega (arith, (origin_within _ _ (sym c.parse.ensures ∙ c.in-Ok.is)).address, c.requires.1)
 
 pub set_origin-requires : goal.set_origin-requires
 set_origin-requires c = omega (arith, c.requires.0)
 
-pub returns-in-Refused : goal.returns-in-Refused
+pub returns-in-Err : goal.returns-in-Err
 unfolding step_role
-returns-in-Refused c ρ t h =
-    (once_wrong 12 _ _ _ (held h) t (sym (origin_mark ρ.session t h.within _ h.bytes) ∙ sym c.has_origin.ensures ∙ c.if-has_origin.false) _ (origin_refused _ _ (sym c.parse.ensures ∙ c.in-Refused.is)) (tail_of h))
+returns-in-Err c ρ t h =
+    (once_wrong 12 _ _ _ (held h) t (sym (origin_mark ρ.session t h.within _ h.bytes) ∙ sym c.has_origin.ensures ∙ c.if-has_origin.false) _ (sym c.parse.ensures ∙ c.in-Err.is) (tail_of h))
 
-pub returns-in-Got : goal.returns-in-Got
+pub returns-in-Ok : goal.returns-in-Ok
 unfolding step_role
-returns-in-Got c ρ t h =
-    once-kept 12 _ _ _ _ _ (sym (origin_mark ρ.session t h.within _ h.bytes) ∙ sym c.has_origin.ensures ∙ c.if-has_origin.false) _ _ _ (origin_got _ _ (sym c.parse.ensures ∙ c.in-Got.is)) refl (head_kept ρ _ _ _ _ t _ h h.marks (c.set_origin.ensures ∙ rw (c.maybe_of-username.ensures, c.span_of-sess_id.ensures, c.span_of-nettype.ensures, c.span_of-addrtype.ensures, c.span_of-address.ensures) (origin_set ρ.session t h.within _ h.bytes _)))
+returns-in-Ok c ρ t h =
+    once-kept 12 _ _ _ _ _ (sym (origin_mark ρ.session t h.within _ h.bytes) ∙ sym c.has_origin.ensures ∙ c.if-has_origin.false) _ _ _ (sym c.parse.ensures ∙ c.in-Ok.is) refl (head_kept ρ _ _ _ _ t _ h h.marks (c.set_origin.ensures ∙ rw (c.maybe_of-username.ensures, c.span_of-sess_id.ensures, c.span_of-nettype.ensures, c.span_of-addrtype.ensures, c.span_of-address.ensures) (origin_set ρ.session t h.within _ h.bytes _)))

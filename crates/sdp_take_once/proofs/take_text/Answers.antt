@@ -8,7 +8,6 @@ use Rattle.sdp_area.specs.Which.{over_text}
 use Rattle.sdp_lines.specs.declared.Span.{Span}
 use Rattle.sdp_judge.proofs.EveryLaws.{whole-within}
 use Rattle.sdp_strings.specs.Strings.{span_at}
-use Rattle.sdp_step.proofs.AnswerLaws.{whole_got, whole-refused}
 use Rattle.sdp_take_once.proofs.TextLaws.{text-second, text_wrong, text-kept}
 use Rattle.sdp_take_once.proofs.take_text.Goals as goal
 
@@ -19,14 +18,14 @@ returns-then-has_text c ρ t h =
 
 pub span_of-x-requires : goal.span_of-x-requires
 span_of-x-requires c =
-    omega (arith, whole-within _ _ _ (whole_got _ _ (sym c.whole.ensures ∙ c.in-Got.is)), c.requires.1)
+    omega (arith, whole-within _ _ _ (sym c.whole.ensures ∙ c.in-Ok.is), c.requires.1)
 
-pub returns-in-Refused : goal.returns-in-Refused
-returns-in-Refused c ρ t h =
+pub returns-in-Err : goal.returns-in-Err
+returns-in-Err c ρ t h =
     let b = c.args in
-    (text_wrong ρ b.marks b.area.now t h (span_at b.at b.v.now) b.v.now b.which (sym c.has_text.ensures ∙ c.if-has_text.false) _ c.text_field.ensures _ (whole-refused _ _ (sym c.whole.ensures ∙ c.in-Refused.is)))
+    (text_wrong ρ b.marks b.area.now t h (span_at b.at b.v.now) b.v.now b.which (sym c.has_text.ensures ∙ c.if-has_text.false) _ c.text_field.ensures _ (sym c.whole.ensures ∙ c.in-Err.is))
 
-pub returns-in-Got : goal.returns-in-Got
-returns-in-Got c ρ t h =
+pub returns-in-Ok : goal.returns-in-Ok
+returns-in-Ok c ρ t h =
     let b = c.args in
-    text-kept ρ b.marks b.area.now t h (span_at b.at b.v.now) b.v.now b.which (sym c.has_text.ensures ∙ c.if-has_text.false) _ c.text_field.ensures _ _ (whole_got _ _ (sym c.whole.ensures ∙ c.in-Got.is)) (c.set_text.ensures ∙ ap (λ (y : Span). over_text b.which b.area.now (le 2 1 ++ span y)) c.span_of-x.ensures)
+    text-kept ρ b.marks b.area.now t h (span_at b.at b.v.now) b.v.now b.which (sym c.has_text.ensures ∙ c.if-has_text.false) _ c.text_field.ensures _ _ (sym c.whole.ensures ∙ c.in-Ok.is) (c.set_text.ensures ∙ ap (λ (y : Span). over_text b.which b.area.now (le 2 1 ++ span y)) c.span_of-x.ensures)

@@ -5,7 +5,7 @@ use Rattle.sdp_fields.proofs.BoundLaws.{attribute-within}
 use Rattle.sdp_area.specs.With.{with_attributes}
 use Rattle.sdp_area.proofs.GrownLaws.{attributes-grown, medias_count}
 use Rattle.sdp_step.specs.Step.{step_role}
-use Rattle.sdp_step.proofs.AnswerLaws.{attribute_got, attribute-refused}
+use Rattle.sdp_step.proofs.MaybeLaws.{maybe_fits}
 use Rattle.sdp_step.proofs.HandleLaws.{row_wrong, row_pushed}
 use Rattle.sdp_step.proofs.TailLaws.{held, tail_of}
 use Rattle.sdp_step.proofs.WithinLaws.{within-attributes}
@@ -17,19 +17,19 @@ use Rattle.sdp_take_row.proofs.take_attribute.Goals as goal
 
 pub span_of-name-requires : goal.span_of-name-requires
 span_of-name-requires c =
-    omega (arith, (attribute-within _ _ (attribute_got _ _ (sym c.parse.ensures ∙ c.in-Got.is))).attribute, c.requires.1)
+    omega (arith, (attribute-within _ _ (sym c.parse.ensures ∙ c.in-Ok.is)).attribute, c.requires.1)
 
 pub maybe_of-value-requires : goal.maybe_of-value-requires
 maybe_of-value-requires c =
-    omega (arith, (attribute-within _ _ (attribute_got _ _ (sym c.parse.ensures ∙ c.in-Got.is))).value, c.requires.1)
+    maybe_fits _ _ _ _ (attribute-within _ _ (sym c.parse.ensures ∙ c.in-Ok.is)).value c.requires.1
 
-pub returns-in-Refused : goal.returns-in-Refused
+pub returns-in-Err : goal.returns-in-Err
 unfolding step_role
-returns-in-Refused c ρ t h =
-    (row_wrong 9 512 _ _ _ (held h) t _ (attribute-refused _ _ (sym c.parse.ensures ∙ c.in-Refused.is)) (tail_of h))
+returns-in-Err c ρ t h =
+    (row_wrong 9 512 _ _ _ (held h) t _ (sym c.parse.ensures ∙ c.in-Err.is) (tail_of h))
 
-pub returns-in-Got : goal.returns-in-Got
+pub returns-in-Ok : goal.returns-in-Ok
 unfolding step_role
-returns-in-Got c ρ t h =
-    let q = attribute_in (span_at c.args.at []) (length ρ.session.tables.medias) c.in-Got.k in
-    rw c.stored.ensures (row_pushed 9 512 ρ.session.tables.attributes _ _ _ (attribute_got _ _ (sym c.parse.ensures ∙ c.in-Got.is)) q (with_attributes ρ.session) _ t _ _ ρ h _ (c.push_attribute-p.ensures.value ∙ (attributes-grown ρ.session t h.within _ h.bytes q).0) (c.push_attribute-p.ensures.area_after ∙ rw (c.medias-owner.ensures.0, medias_count ρ.session t h.within _ h.bytes, c.span_of-name.ensures, c.maybe_of-value.ensures) (attributes-grown ρ.session t h.within _ h.bytes q).1) (within-attributes ρ.session h.within) refl refl refl)
+returns-in-Ok c ρ t h =
+    let q = attribute_in (span_at c.args.at []) (length ρ.session.tables.medias) c.in-Ok.k in
+    rw c.stored.ensures (row_pushed 9 512 ρ.session.tables.attributes _ _ _ (sym c.parse.ensures ∙ c.in-Ok.is) q (with_attributes ρ.session) _ t _ _ ρ h _ (c.push_attribute-p.ensures.value ∙ (attributes-grown ρ.session t h.within _ h.bytes q).0) (c.push_attribute-p.ensures.area_after ∙ rw (c.medias-owner.ensures.0, medias_count ρ.session t h.within _ h.bytes, c.span_of-name.ensures, c.maybe_of-value.ensures) (attributes-grown ρ.session t h.within _ h.bytes q).1) (within-attributes ρ.session h.within) refl refl refl)

@@ -5,7 +5,6 @@ use Rattle.sdp_fields.proofs.BoundLaws.{bandwidth-within}
 use Rattle.sdp_area.specs.With.{with_bandwidths}
 use Rattle.sdp_area.proofs.GrownLaws.{bandwidths-grown, medias_count}
 use Rattle.sdp_step.specs.Step.{step_role}
-use Rattle.sdp_step.proofs.AnswerLaws.{bandwidth_got, bandwidth-refused}
 use Rattle.sdp_step.proofs.HandleLaws.{row_wrong, row_pushed}
 use Rattle.sdp_step.proofs.TailLaws.{held, tail_of}
 use Rattle.sdp_step.proofs.WithinLaws.{within-bandwidths}
@@ -17,15 +16,15 @@ use Rattle.sdp_take_row.proofs.take_bandwidth.Goals as goal
 
 pub span_of-bwtype-requires : goal.span_of-bwtype-requires
 span_of-bwtype-requires c =
-    omega (arith, bandwidth-within _ _ (bandwidth_got _ _ (sym c.parse.ensures ∙ c.in-Got.is)), c.requires.1)
+    omega (arith, bandwidth-within _ _ (sym c.parse.ensures ∙ c.in-Ok.is), c.requires.1)
 
-pub returns-in-Refused : goal.returns-in-Refused
+pub returns-in-Err : goal.returns-in-Err
 unfolding step_role
-returns-in-Refused c ρ t h =
-    (row_wrong 4 64 _ _ _ (held h) t _ (bandwidth-refused _ _ (sym c.parse.ensures ∙ c.in-Refused.is)) (tail_of h))
+returns-in-Err c ρ t h =
+    (row_wrong 4 64 _ _ _ (held h) t _ (sym c.parse.ensures ∙ c.in-Err.is) (tail_of h))
 
-pub returns-in-Got : goal.returns-in-Got
+pub returns-in-Ok : goal.returns-in-Ok
 unfolding step_role
-returns-in-Got c ρ t h =
-    let q = bandwidth_in (span_at c.args.at []) (length ρ.session.tables.medias) c.in-Got.b in
-    rw c.stored.ensures (row_pushed 4 64 ρ.session.tables.bandwidths _ _ _ (bandwidth_got _ _ (sym c.parse.ensures ∙ c.in-Got.is)) q (with_bandwidths ρ.session) _ t _ _ ρ h _ (c.push_bandwidth-p.ensures.value ∙ (bandwidths-grown ρ.session t h.within _ h.bytes q).0) (c.push_bandwidth-p.ensures.area_after ∙ rw (c.medias-owner.ensures.0, medias_count ρ.session t h.within _ h.bytes, c.span_of-bwtype.ensures) (bandwidths-grown ρ.session t h.within _ h.bytes q).1) (within-bandwidths ρ.session h.within) refl refl refl)
+returns-in-Ok c ρ t h =
+    let q = bandwidth_in (span_at c.args.at []) (length ρ.session.tables.medias) c.in-Ok.b in
+    rw c.stored.ensures (row_pushed 4 64 ρ.session.tables.bandwidths _ _ _ (sym c.parse.ensures ∙ c.in-Ok.is) q (with_bandwidths ρ.session) _ t _ _ ρ h _ (c.push_bandwidth-p.ensures.value ∙ (bandwidths-grown ρ.session t h.within _ h.bytes q).0) (c.push_bandwidth-p.ensures.area_after ∙ rw (c.medias-owner.ensures.0, medias_count ρ.session t h.within _ h.bytes, c.span_of-bwtype.ensures) (bandwidths-grown ρ.session t h.within _ h.bytes q).1) (within-bandwidths ρ.session h.within) refl refl refl)

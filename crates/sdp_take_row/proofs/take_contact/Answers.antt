@@ -7,20 +7,19 @@ use Rattle.sdp_judge.proofs.EveryLaws.{whole-within}
 use Rattle.sdp_area.specs.Area.{span}
 use Rattle.sdp_area.specs.Which.{contacts_at, most_contacts}
 use Rattle.sdp_strings.specs.Strings.{span_at}
-use Rattle.sdp_step.proofs.AnswerLaws.{whole_got, whole-refused}
 use Rattle.sdp_take_row.proofs.ContactLaws.{contact_wrong, contact_pushed}
 use Rattle.sdp_take_row.proofs.take_contact.Goals as goal
 
 pub span_of-x-requires : goal.span_of-x-requires
 span_of-x-requires c =
-    omega (arith, whole-within _ _ _ (whole_got _ _ (sym c.whole.ensures ∙ c.in-Got.is)), c.requires.1)
+    omega (arith, whole-within _ _ _ (sym c.whole.ensures ∙ c.in-Ok.is), c.requires.1)
 
-pub returns-in-Refused : goal.returns-in-Refused
-returns-in-Refused c ρ t h =
+pub returns-in-Err : goal.returns-in-Err
+returns-in-Err c ρ t h =
     let b = c.args in
-    (contact_wrong ρ b.marks b.area.now t h (span_at b.at b.v.now) b.v.now _ b.which c.contact_field.ensures _ (whole-refused _ _ (sym c.whole.ensures ∙ c.in-Refused.is)))
+    (contact_wrong ρ b.marks b.area.now t h (span_at b.at b.v.now) b.v.now _ b.which c.contact_field.ensures _ (sym c.whole.ensures ∙ c.in-Err.is))
 
-pub returns-in-Got : goal.returns-in-Got
-returns-in-Got c ρ t h =
+pub returns-in-Ok : goal.returns-in-Ok
+returns-in-Ok c ρ t h =
     let b = c.args in
-    rw (c.stored.ensures, c.contact_table.ensures) (contact_pushed ρ b.marks b.area.now t h (span_at b.at b.v.now) b.v.now _ b.which c.contact_field.ensures _ _ _ (whole_got _ _ (sym c.whole.ensures ∙ c.in-Got.is)) c.push_contact-p.ensures.value (c.push_contact-p.ensures.area_after ∙ ap (λ (y : Span). grown b.area.now (contacts_at b.which) (most_contacts b.which) (span y)) c.span_of-x.ensures))
+    rw (c.stored.ensures, c.contact_table.ensures) (contact_pushed ρ b.marks b.area.now t h (span_at b.at b.v.now) b.v.now _ b.which c.contact_field.ensures _ _ _ (sym c.whole.ensures ∙ c.in-Ok.is) c.push_contact-p.ensures.value (c.push_contact-p.ensures.area_after ∙ ap (λ (y : Span). grown b.area.now (contacts_at b.which) (most_contacts b.which) (span y)) c.span_of-x.ensures))

@@ -5,7 +5,6 @@ use Rattle.sdp_media_line.proofs.BoundLaws.{media-within}
 use Rattle.sdp_area.specs.With.{with_medias}
 use Rattle.sdp_area.proofs.GrownLaws.{medias-grown}
 use Rattle.sdp_step.specs.Step.{step_role}
-use Rattle.sdp_step.proofs.AnswerLaws.{media_got, media-refused}
 use Rattle.sdp_step.proofs.HandleLaws.{row_wrong, row_pushed}
 use Rattle.sdp_step.proofs.TailLaws.{held, tail_of}
 use Rattle.sdp_step.proofs.WithinLaws.{within-medias}
@@ -16,23 +15,23 @@ use Rattle.sdp_take_row.proofs.take_media.Goals as goal
 
 pub span_of-media-requires : goal.span_of-media-requires
 span_of-media-requires c =
-    omega (arith, (media-within _ _ (media_got _ _ (sym c.parse_m_line.ensures ∙ c.in-Got.is))).media, c.requires.1)
+    omega (arith, (media-within _ _ (sym c.parse_m_line.ensures ∙ c.in-Ok.is)).media, c.requires.1)
 
 pub span_of-proto-requires : goal.span_of-proto-requires
 span_of-proto-requires c =
-    omega (arith, (media-within _ _ (media_got _ _ (sym c.parse_m_line.ensures ∙ c.in-Got.is))).proto, c.requires.1)
+    omega (arith, (media-within _ _ (sym c.parse_m_line.ensures ∙ c.in-Ok.is)).proto, c.requires.1)
 
 pub span_of-fmt-requires : goal.span_of-fmt-requires
 span_of-fmt-requires c =
-    omega (arith, (media-within _ _ (media_got _ _ (sym c.parse_m_line.ensures ∙ c.in-Got.is))).fmt, c.requires.1)
+    omega (arith, (media-within _ _ (sym c.parse_m_line.ensures ∙ c.in-Ok.is)).fmt, c.requires.1)
 
-pub returns-in-Refused : goal.returns-in-Refused
+pub returns-in-Err : goal.returns-in-Err
 unfolding step_role
-returns-in-Refused c ρ t h =
-    (row_wrong 10 32 _ _ _ (held h) t _ (media-refused _ _ (sym c.parse_m_line.ensures ∙ c.in-Refused.is)) (tail_of h))
+returns-in-Err c ρ t h =
+    (row_wrong 10 32 _ _ _ (held h) t _ (sym c.parse_m_line.ensures ∙ c.in-Err.is) (tail_of h))
 
-pub returns-in-Got : goal.returns-in-Got
+pub returns-in-Ok : goal.returns-in-Ok
 unfolding step_role
-returns-in-Got c ρ t h =
-    let q = media_in (span_at c.args.at []) c.in-Got.m in
-    rw c.stored.ensures (row_pushed 10 32 ρ.session.tables.medias _ _ _ (media_got _ _ (sym c.parse_m_line.ensures ∙ c.in-Got.is)) q (with_medias ρ.session) _ t _ _ ρ h _ (c.push_media-p.ensures.value ∙ (medias-grown ρ.session t h.within _ h.bytes q).0) (c.push_media-p.ensures.area_after ∙ rw (c.span_of-media.ensures, c.ports_of-ports.ensures, c.span_of-proto.ensures, c.span_of-fmt.ensures) (medias-grown ρ.session t h.within _ h.bytes q).1) (within-medias ρ.session h.within) refl refl refl)
+returns-in-Ok c ρ t h =
+    let q = media_in (span_at c.args.at []) c.in-Ok.m in
+    rw c.stored.ensures (row_pushed 10 32 ρ.session.tables.medias _ _ _ (sym c.parse_m_line.ensures ∙ c.in-Ok.is) q (with_medias ρ.session) _ t _ _ ρ h _ (c.push_media-p.ensures.value ∙ (medias-grown ρ.session t h.within _ h.bytes q).0) (c.push_media-p.ensures.area_after ∙ rw (c.span_of-media.ensures, c.ports_of-ports.ensures, c.span_of-proto.ensures, c.span_of-fmt.ensures) (medias-grown ρ.session t h.within _ h.bytes q).1) (within-medias ρ.session h.within) refl refl refl)

@@ -5,7 +5,6 @@ use Rattle.sdp_fields.proofs.BoundLaws.{connection_within}
 use Rattle.sdp_area.specs.With.{with_connections}
 use Rattle.sdp_area.proofs.GrownLaws.{connections-grown, medias_count}
 use Rattle.sdp_step.specs.Step.{step_role}
-use Rattle.sdp_step.proofs.AnswerLaws.{connection_got, connection_refused}
 use Rattle.sdp_step.proofs.HandleLaws.{row_wrong, row_pushed}
 use Rattle.sdp_step.proofs.TailLaws.{held, tail_of}
 use Rattle.sdp_step.proofs.WithinLaws.{within-connections}
@@ -17,23 +16,23 @@ use Rattle.sdp_take_row.proofs.take_media_connection.Goals as goal
 
 pub span_of-nettype-requires : goal.span_of-nettype-requires
 span_of-nettype-requires c =
-    omega (arith, (connection_within _ _ (connection_got _ _ (sym c.parse.ensures ∙ c.in-Got.is))).nettype, c.requires.1)
+    omega (arith, (connection_within _ _ (sym c.parse.ensures ∙ c.in-Ok.is)).nettype, c.requires.1)
 
 pub span_of-addrtype-requires : goal.span_of-addrtype-requires
 span_of-addrtype-requires c =
-    omega (arith, (connection_within _ _ (connection_got _ _ (sym c.parse.ensures ∙ c.in-Got.is))).addrtype, c.requires.1)
+    omega (arith, (connection_within _ _ (sym c.parse.ensures ∙ c.in-Ok.is)).addrtype, c.requires.1)
 
 pub span_of-address-requires : goal.span_of-address-requires
 span_of-address-requires c =
-    omega (arith, (connection_within _ _ (connection_got _ _ (sym c.parse.ensures ∙ c.in-Got.is))).address, c.requires.1)
+    omega (arith, (connection_within _ _ (sym c.parse.ensures ∙ c.in-Ok.is)).address, c.requires.1)
 
-pub returns-in-Refused : goal.returns-in-Refused
+pub returns-in-Err : goal.returns-in-Err
 unfolding step_role
-returns-in-Refused c ρ t h =
-    (row_wrong 3 64 _ _ _ (held h) t _ (connection_refused _ _ (sym c.parse.ensures ∙ c.in-Refused.is)) (tail_of h))
+returns-in-Err c ρ t h =
+    (row_wrong 3 64 _ _ _ (held h) t _ (sym c.parse.ensures ∙ c.in-Err.is) (tail_of h))
 
-pub returns-in-Got : goal.returns-in-Got
+pub returns-in-Ok : goal.returns-in-Ok
 unfolding step_role
-returns-in-Got c ρ t h =
-    let q = media_connection_in (span_at c.args.at []) (length ρ.session.tables.medias) c.in-Got.c in
-    rw c.stored.ensures (row_pushed 3 64 ρ.session.tables.connections _ _ _ (connection_got _ _ (sym c.parse.ensures ∙ c.in-Got.is)) q (with_connections ρ.session) _ t _ _ ρ h _ (c.push_connection-p.ensures.value ∙ (connections-grown ρ.session t h.within _ h.bytes q).0) (c.push_connection-p.ensures.area_after ∙ rw (c.medias-owner.ensures.0, medias_count ρ.session t h.within _ h.bytes, c.span_of-nettype.ensures, c.span_of-addrtype.ensures, c.span_of-address.ensures) (connections-grown ρ.session t h.within _ h.bytes q).1) (within-connections ρ.session h.within) refl refl refl)
+returns-in-Ok c ρ t h =
+    let q = media_connection_in (span_at c.args.at []) (length ρ.session.tables.medias) c.in-Ok.c in
+    rw c.stored.ensures (row_pushed 3 64 ρ.session.tables.connections _ _ _ (sym c.parse.ensures ∙ c.in-Ok.is) q (with_connections ρ.session) _ t _ _ ρ h _ (c.push_connection-p.ensures.value ∙ (connections-grown ρ.session t h.within _ h.bytes q).0) (c.push_connection-p.ensures.area_after ∙ rw (c.medias-owner.ensures.0, medias_count ρ.session t h.within _ h.bytes, c.span_of-nettype.ensures, c.span_of-addrtype.ensures, c.span_of-address.ensures) (connections-grown ρ.session t h.within _ h.bytes q).1) (within-connections ρ.session h.within) refl refl refl)

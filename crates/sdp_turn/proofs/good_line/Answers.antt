@@ -14,24 +14,24 @@ take-requires c =
 pub one_kept-requires : goal.one_kept-requires
 one_kept-requires c = c.requires.1.1.0
 
-pub returns-in-Kept : goal.returns-in-Kept
-returns-in-Kept c =
+pub returns-in-Ok-Some : goal.returns-in-Ok-Some
+returns-in-Ok-Some c =
     let a = c.args in
-    rw c.one_kept.ensures
+    rw (rw c.in-Ok-Some.field-0-is at c.one_kept.ensures)
     (good_kept a.text.now a.number.0 a.letter a.value a.state a.area.now _ _ _ _ _ _ c.medias.ensures.0 c.offsets-before.ensures.0 c.role_at-role.ensures c.stamp.ensures
-    (rw (c.in-Kept.is, c.marks.ensures, part_is a.text.now a.value) at c.take.ensures))
+    (rw (c.in-Ok-Some.is, c.in-Ok-Some.field-0-is, c.marks.ensures, part_is a.text.now a.value) at c.take.ensures))
 
-pub returns-in-Idle : goal.returns-in-Idle
-returns-in-Idle c =
+pub returns-in-Ok-None : goal.returns-in-Ok-None
+returns-in-Ok-None c =
     let a = c.args in
     rw c.one_ignored.ensures
     (good_idle a.text.now a.number.0 a.letter a.value a.state a.area.now _
-    (rw (c.in-Idle.is, c.marks.ensures, part_is a.text.now a.value) at c.take.ensures))
+    (rw (c.in-Ok-None.is, c.in-Ok-None.field-0-is, c.marks.ensures, part_is a.text.now a.value) at c.take.ensures))
 
-pub returns-in-Refused : goal.returns-in-Refused
-returns-in-Refused c =
+pub returns-in-Err : goal.returns-in-Err
+returns-in-Err c =
     let a = c.args in
     let v = bytes_of a.text.now a.value in
     good_refused a.text.now a.number.0 a.letter a.value a.state a.area.now _ _ _
     (λ ρ e. c.wrong_at.ensures (λ n. byte_fits a.text.now a.value _ c.requires.1.0 c.requires.1.1.1 (blamed_inside a.letter v _ (step_blames v (span_at a.value.at.0 v) ρ a.letter _ e) n)))
-    (rw (c.in-Refused.is, c.marks.ensures, part_is a.text.now a.value) at c.take.ensures)
+    (rw (c.in-Err.is, c.marks.ensures, part_is a.text.now a.value) at c.take.ensures)
