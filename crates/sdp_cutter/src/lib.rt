@@ -37,7 +37,7 @@ pub enum Next {
     End,
 }
 
-// What it found, and where it stands then.
+// What it found, and where it stands then: the two numbers that the cutter has, as document 01 asks for them.
 #[derive(Clone, Copy)]
 pub struct Moved {
     pub next: Next,

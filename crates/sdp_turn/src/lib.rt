@@ -18,7 +18,8 @@ use sdp_stamp::stamp;
 use sdp_step::Marks;
 
 // What a reading carries from line to line beside the area: the marks, whether the version line is behind it, and how many
-// lines were kept, empty and ignored so far. In another order the compiled loop is slower (docs/SPEED.md).
+// lines were kept, empty and ignored so far. In another order the compiled loop is slower (docs/SPEED.md). `Few` is no invariant
+// of it: each line adds one, and what bounds them all is the text, which a state doesn't have.
 #[derive(Clone, Copy, Default)]
 pub struct State {
     pub named: bool,
@@ -110,7 +111,8 @@ fn wrong_at(line: LineNumber, value: Place, w: Wrong) -> Answer
     }
 }
 
-// A line of good form after the version line, whose value stands in the text.
+// A line of good form after the version line, whose value stands in the text. Its three parts stay apart, as `take` has them
+// (docs/FORMS.md).
 fn good_line(
     text: &[u8],
     area: &mut [u8],
