@@ -3,25 +3,9 @@ use Prim.Native.Nat.{ℕ, suc, ◌≤◌, ◌<◌, ◌+◌, ◌-◌}
 use mathlib.Core.Path.{◌≡◌, refl, ap, ◌∙◌}
 use mathlib.Core.Bool.{Bool, true, false, cond}
 use native.Mathlib.Omega.{arith}
-use lib.Dec.{leb, ltb}
-use borrow.Author.Tests.{eq-eqb, ne_eqb}
-use Rattle.sdp_hours.specs.Listing as listing
 use Rattle.sdp_hours.specs.Listing.{Start, before}
 use Rattle.sdp_listing.specs.Columns as columns
 use Rattle.sdp_listing.specs.Columns.{Columns, row_at, rows_from, place_of}
-
--- ---- which of two comes first, number by number
-pub first_at : (x y : Start) → (x.at ≡ y.at → ⊥) → ltb x.at y.at ≡ before x y
-unfolding listing.before
-first_at x y h = rw (ne_eqb x.at y.at h) refl
-
-pub first_time : (x y : Start) → x.at ≡ y.at → (x.time ≡ y.time → ⊥) → ltb x.time y.time ≡ before x y
-unfolding listing.before
-first_time x y e h = rw (eq-eqb x.at y.at e, ne_eqb x.time y.time h) refl
-
-pub first_repeat : (x y : Start) → x.at ≡ y.at → x.time ≡ y.time → leb x.repeat y.repeat ≡ before x y
-unfolding listing.before
-first_repeat x y e f = rw (eq-eqb x.at y.at e, eq-eqb x.time y.time f) refl
 
 -- ---- the place, looked for from row i on
 module _ (c : Columns) (x : Start) (n : ℕ) where

@@ -2,6 +2,7 @@
 use Rattle.std.specs.Prelude.{ℕ, zero, suc, ◌+◌, ◌-◌, cond, List, [], ◌∷◌, get_or}
 use Rattle.sdp_hours.specs.Listing.{Start, before}
 use Rattle.sdp_listing.specs.declared.Entry.{Entry}
+use Rattle.sdp_listing.specs.declared.Listing.{Listing}
 
 pub record Columns : Type 0 where
   pub ats : List ℕ
@@ -67,3 +68,7 @@ start_of x = record { at = x.at; time = x.time; repeat = x.repeat }
 
 abbrev pub start_at : ℕ → ℕ → ℕ → Start
 start_at a t r = record { at = a; time = t; repeat = r }
+
+-- the three arrays of a list that is lent
+abbrev pub held : Listing → Columns
+held l = columns l.at.now l.time.now l.repeat.now

@@ -5,12 +5,12 @@ ghost use Rattle.std.specs.Prelude.{◌≡◌, ◌+◌, ◌-◌, ◌*◌, ◌^�
 ghost use Rattle.sdp_hours.specs.Listing.{before};
 ghost use Rattle.sdp_hours.specs.Starts.{numbered};
 ghost use Rattle.sdp_window.specs.Run.{of_run};
-ghost use Rattle.sdp_listing.specs.Columns.{columns, rows_from, place_of, shift_in, put_in, put_all, start_of, start_at};
+ghost use Rattle.sdp_listing.specs.Columns.{columns, row_at, rows_from, place_of, shift_in, put_in, put_all, start_of};
 
-use sdp_window::{LAST, Run};
+use sdp_window::Run;
 
-// A start with the numbers of its time and of its repeat.
-#[derive(Clone, Copy)]
+// A start with the numbers of its time and of its repeat. The derived order is the list's: "rising, ties by time, then repeat".
+#[derive(Clone, Copy, Debug, PartialEq, Eq, PartialOrd, Ord)]
 pub struct Entry {
     pub at: u64,
     pub time: u64,
@@ -24,32 +24,20 @@ pub struct Whose {
     pub repeat: u64,
 }
 
-// x may stand before the start of the other three numbers: "ties by time, then repeat".
-fn comes_first(x: Entry, at: u64, time: u64, repeat: u64) -> bool
-    ensures { result ≡ before (start_of x) (start_at at time repeat) }
-{
-    if x.at != at {
-        return x.at < at;
-    }
-    if x.time != time {
-        return x.time < time;
-    }
-    x.repeat <= repeat
+// The list: the first len numbers of each of the three arrays.
+#[derive(Drop)]
+pub struct Listing<'a> {
+    pub at: &'a mut [u64],
+    pub time: &'a mut [u64],
+    pub repeat: &'a mut [u64],
+    pub len: usize,
 }
 
-// How many of the first n starts stand before the place of x.
-fn place_of<'a>(at: &'a [u64], time: &'a [u64], repeat: &'a [u64], n: usize, x: Entry) -> usize
-    requires { (n ≤ length at.now) × (n ≤ length time.now) × (n ≤ length repeat.now) }
-    ensures { (result ≡ place_of (start_of x) (rows_from (columns at.now time.now repeat.now) 0 n)) × (result ≤ n) }
+// x may stand before y.
+fn comes_first(x: Entry, y: Entry) -> bool
+    ensures { result ≡ before (start_of x) (start_of y) }
 {
-    let mut i: usize = 0;
-    while i < n {
-        if comes_first(x, at[i], time[i], repeat[i]) {
-            return i;
-        }
-        i += 1;
-    }
-    i
+    x <= y
 }
 
 // v at place p; what stands from there on, up to place n, moves up by one.
@@ -57,68 +45,69 @@ fn shift_in(a: &mut [u64], p: usize, n: usize, v: u64)
     requires { (p ≤ n) × (n < length a.old) }
     ensures { a.new ≡ shift_in p (n - p) v a.old }
 {
-    let mut i = p;
     let mut x = v;
-    while i < n {
+    for i in p..n {
         let y = a[i];
         a[i] = x;
         x = y;
-        i += 1;
     }
-    a[i] = x;
+    a[n] = x;
 }
 
-// One start more among the first n.
-fn put_in(at: &mut [u64], time: &mut [u64], repeat: &mut [u64], n: usize, x: Entry)
-    requires { (n < length at.old) × (n < length time.old) × (n < length repeat.old) }
-    ensures { columns at.new time.new repeat.new ≡ put_in (columns at.old time.old repeat.old) n (start_of x) }
-{
-    let p = place_of(at, time, repeat, n, x);
-    shift_in(at, p, n, x.at);
-    shift_in(time, p, n, x.time);
-    shift_in(repeat, p, n, x.repeat);
-}
-
-// v + d, where that is a number of 64 bits.
-fn next_of(v: u64, d: u64) -> u64
-    ensures { v + d < 2 ^ 64 → result ≡ v + d }
-{
-    if LAST - v < d {
-        return v;
+impl Listing<'_> {
+    // The start of row i.
+    fn row(&self, i: usize) -> Entry
+        requires { (i < length self.now.at.now) × (i < length self.now.time.now) × (i < length self.now.repeat.now) }
+        ensures { start_of result ≡ row_at (columns self.now.at.now self.now.time.now self.now.repeat.now) i }
+    {
+        Entry {
+            at: self.at[i],
+            time: self.time[i],
+            repeat: self.repeat[i],
+        }
     }
-    v + d
-}
 
-// All of a run, d apart, into the first n.
-pub fn put_run(
-    at: &mut [u64],
-    time: &mut [u64],
-    repeat: &mut [u64],
-    n: usize,
-    whose: Whose,
-    d: u64,
-    run: Run,
-)
-    requires { (n + run.count ≤ length at.old) × (n + run.count ≤ length time.old) × (n + run.count ≤ length repeat.old) × (0 < run.count → run.first + (run.count - 1) * d < 2 ^ 64) }
-    ensures { columns at.new time.new repeat.new ≡ put_all (columns at.old time.old repeat.old) n (numbered whose.time whose.repeat (of_run d run)) }
-{
-    let mut k: u64 = 0;
-    let mut m = n;
-    let mut x = run.first;
-    while k < run.count {
-        put_in(
-            at,
-            time,
-            repeat,
-            m,
-            Entry {
+    // How many of the starts stand before the place of x.
+    fn place_of(&self, x: Entry) -> usize
+        requires { (self.now.len ≤ length self.now.at.now) × (self.now.len ≤ length self.now.time.now) × (self.now.len ≤ length self.now.repeat.now) }
+        ensures { (result ≡ place_of (start_of x) (rows_from (columns self.now.at.now self.now.time.now self.now.repeat.now) 0 self.now.len)) × (result ≤ self.now.len) }
+    {
+        for i in 0..self.len {
+            if comes_first(x, self.row(i)) {
+                return i;
+            }
+        }
+        self.len
+    }
+
+    // One start more.
+    fn put_in(&mut self, x: Entry)
+        requires { (self.old.len < length self.old.at.now) × (self.old.len < length self.old.time.now) × (self.old.len < length self.old.repeat.now) }
+        ensures columns { columns self.new.at.now self.new.time.now self.new.repeat.now ≡ put_in (columns self.old.at.now self.old.time.now self.old.repeat.now) self.old.len (start_of x) }
+        ensures len { self.new.len ≡ self.old.len + 1 }
+    {
+        let n = self.len;
+        let p = self.place_of(x);
+        shift_in(self.at, p, n, x.at);
+        shift_in(self.time, p, n, x.time);
+        shift_in(self.repeat, p, n, x.repeat);
+        self.len = n + 1;
+    }
+
+    // All of a run, d apart.
+    pub fn put_run(&mut self, whose: Whose, d: u64, run: Run)
+        requires { (self.old.len + run.count ≤ length self.old.at.now) × (self.old.len + run.count ≤ length self.old.time.now) × (self.old.len + run.count ≤ length self.old.repeat.now) × (0 < run.count → run.first + (run.count - 1) * d < 2 ^ 64) }
+        ensures columns { columns self.new.at.now self.new.time.now self.new.repeat.now ≡ put_all (columns self.old.at.now self.old.time.now self.old.repeat.now) self.old.len (numbered whose.time whose.repeat (of_run d run)) }
+        ensures len { self.new.len ≡ self.old.len + run.count }
+    {
+        let mut x = run.first;
+        for k in 0..run.count {
+            self.put_in(Entry {
                 at: x,
                 time: whose.time,
                 repeat: whose.repeat,
-            },
-        );
-        x = next_of(x, d);
-        m += 1;
-        k += 1;
+            });
+            x = x.saturating_add(d);
+        }
     }
 }

@@ -4,7 +4,7 @@ use mathlib.Core.Path.{refl}
 use Rattle.sdp_one.specs.One.{OneAnswer, OneSeen, OneState, OnePut}
 use Rattle.sdp_one.proofs.OneLaws.{same, same_put}
 use Rattle.sdp_unfit.proofs.UnfitLaws.{refusal_tells}
-use Rattle.sdp_listing.specs.Columns.{columns}
+use Rattle.sdp_listing.specs.Columns.{held}
 use Rattle.sdp_bytes.proofs.runs.eight.Reads as sdpBytesRunsEight
 use Rattle.sdp_bytes.proofs.runs.run_len.Reads as sdpBytesRunsRunLen
 use Rattle.sdp_bytes.proofs.search.index_of.Reads as sdpBytesSearchIndexOf
@@ -113,7 +113,7 @@ use Rattle.sdp_tables.proofs.put_medias.Reads as sdpTablesPutMedias
 use Rattle.sdp_write.proofs.length.Reads as sdpWriteLength
 use Rattle.sdp_write.proofs.fill.Reads as sdpWriteFill
 use Rattle.sdp_window.proofs.run_in_part.Reads as sdpWindowRunInPart
-use Rattle.sdp_listing.proofs.put_run.Reads as sdpListingPutRun
+use Rattle.sdp_listing.proofs.Listing.put_run.Reads as sdpListingListingPutRun
 use Rattle.sdp_starts.proofs.starts_in.Reads as sdpStartsStartsIn
 use Rattle.sdp_order.proofs.letter_order.Reads as sdpOrderLetterOrder
 use Rattle.sdp_order.proofs.VerdictFromResultBoolRefusal.from.Reads as sdpOrderVerdictOf
@@ -490,8 +490,8 @@ pub sdp_window_run_in_part : OneAnswer sdpWindowRunInPart.Learnt
 sdp_window_run_in_part κs a z z' e e' p q = same p q
 
 -- ---- sdp_listing
-pub sdp_listing_put_run : OneState (λ κs e. columns e.0.now e.1.0.now e.1.1.0.now) sdpListingPutRun.Learnt
-sdp_listing_put_run κs a z z' e e' p q = (refl, same p q)
+pub sdp_listing_listing_put_run : OneState (λ κs e. (held e.0, e.0.len)) sdpListingListingPutRun.Learnt
+sdp_listing_listing_put_run κs a z z' e e' p q = (refl, ap₂ (λ c n. (c, n)) (same p.columns q.columns) (same p.len q.len))
 
 -- ---- sdp_starts
 pub sdp_starts_starts_in : OneAnswer sdpStartsStartsIn.Learnt

@@ -1,6 +1,6 @@
 -- Starts put into a list that is being made: none, a run of them, too many, one list after the other. Assumes nothing.
 use mathlib.Core.Path.{◌≡◌, refl, sym, ap, ◌∙◌}
-use mathlib.Core.Bool.{Bool, true, false}
+use mathlib.Core.Bool.{Bool, true, false, false≢true}
 use mathlib.Core.List.{List, [], ◌++◌}
 use Prim.Native.Nat.{ℕ, ◌+◌, ◌≤◌, ◌<◌}
 use native.Mathlib.Omega.{arith}
@@ -15,7 +15,9 @@ use Rattle.sdp_listing.specs.Columns.{Columns, put_all}
 use Rattle.sdp_listing.proofs.HeldLaws.{put_all_held}
 use Rattle.sdp_listing.proofs.LengthLaws.{put_all_lengths}
 use Rattle.sdp_starts.specs.Fill as filling
-use Rattle.sdp_starts.specs.Fill.{capped, Roomy, Holds, Fills}
+use Rattle.sdp_starts.specs.Fill.{capped, counted, Roomy, Holds, Fills}
+use Rattle.std.specs.Prelude.{Result, Ok, Err}
+use Rattle.std.specs.Result.{IsErr}
 
 -- ---- a count, as far as 257
 pub capped_few : (n : ℕ) → n ≤ most_starts → capped n ≡ n
@@ -65,6 +67,20 @@ fills_over c n xs h =
     record {
       roomy = λ r. r;
       holds = λ l k. let m = many_is (length l) n k.count h in stay_many c c n l xs m.1 (omega (arith, m.0));
+    }
+
+-- the count of an answer that is an error
+pub fills_err : {E : Type 0} {c c' : Columns} {n : ℕ} {xs : List Start} (r : Result (Unit {0}) E) (m : ℕ) → IsErr r → Fills c n xs c' (most_starts + 1)
+    → Fills c n xs c' (counted r m)
+fills_err {E} {c} {c'} {n} {xs} (Ok u) m h f = absurd (false≢true h)
+fills_err {E} {c} {c'} {n} {xs} (Err e) m h f = f
+
+-- of a list that is over already
+pub fills_full : (c : Columns) (n : ℕ) (xs : List Start) → most_starts < n → Fills c n xs c (most_starts + 1)
+fills_full c n xs h =
+    record {
+      roomy = λ r. r;
+      holds = λ l k. stay_many c c (most_starts + 1) l xs refl (omega (arith, (many_is (length l) n k.count h).0));
     }
 
 pub fills_past : (c : Columns) (n : ℕ) (xs : List Start) → n ≤ most_starts → most_starts < n + length xs → Fills c n xs c (most_starts + 1)

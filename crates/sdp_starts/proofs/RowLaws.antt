@@ -16,7 +16,8 @@ use Rattle.sdp_hours.specs.Starts.{owns}
 use Rattle.sdp_listing.specs.Columns.{Columns}
 use Rattle.sdp_starts.specs.Fill as filling
 use Rattle.sdp_starts.specs.Fill.{Roomy, Fills, owns_at}
-use Rattle.sdp_starts.proofs.FillLaws.{fills_none, fills_then, fills_as}
+use Rattle.sdp_starts.proofs.FillLaws.{fills_none, fills_then, fills_as, fills_over}
+use Rattle.sdp_numbers.specs.Refusals.{most_starts}
 
 -- ---- the loop over a table: n rows of at most 40 bytes each from base + 2 on, what the first i of them list is put in
 module _ {X : Type 0} (f : ℕ → X → List Start) (rd : List ℕ → ℕ → X) (w base : ℕ) (a : List ℕ) (n : ℕ) (c₀ : Columns) (n₀ : ℕ) where
@@ -52,6 +53,10 @@ module _ {X : Type 0} (f : ℕ → X → List Start) (rd : List ℕ → ℕ → 
       fills_as
       (sym (append-nil l.done) ∙ ap (λ (r : List Start). l.done ++ r) (sym (rows_none row w n i p h)) ∙ l.split ∙ each_rows f rd w _ a 1 _)
       l.fills
+
+  -- too many already: the rows that are left change nothing
+  pub left_full : {c : Columns} {p i m : ℕ} → most_starts < m → Left c p i m → Fills c₀ n₀ (each f 1 (table rd w a base)) c m
+  left_full {c} {p} {i} {m} h l = fills_as (l.split ∙ each_rows f rd w _ a 1 _) (fills_then l.fills (fills_over c m (each_at row w (n - i) (i + 1) p) h))
 
   -- the columns stay roomy
   pub left_roomy : {c : Columns} {p i m : ℕ} → Left c p i m → Roomy c₀ → Roomy c

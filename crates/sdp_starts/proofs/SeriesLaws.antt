@@ -34,7 +34,7 @@ use Rattle.sdp_listing.specs.declared.Whose.{Whose}
 use Rattle.sdp_starts.specs.Fill as filling
 use Rattle.sdp_starts.specs.Fill.{Roomy, Fills, part_of, before_of, series_of, whose_by, time_for}
 use Rattle.sdp_starts.specs.declared.Rule.{Rule}
-use Rattle.sdp_starts.proofs.FillLaws.{fills_none, fills_then, fills_as, fills_past, fills_put}
+use Rattle.sdp_starts.proofs.FillLaws.{fills_none, fills_then, fills_as, fills_past, fills_put, fills_over}
 
 -- ---- one part
 length-numbers : (d c v : ℕ) → length (numbers d c v) ≡ c
@@ -146,6 +146,13 @@ module _ (x : Whose) (s : Series) (stop : ℕ) (w : Window) (a : List ℕ) (n : 
     passed_end {c'} {m'} h t =
         let e : over x s stop w z (rows_at zone_of 16 (n - i) a q) after ≡ part_of x s (part_from after z) w = ap (λ (k : ℕ). over x s stop w z (rows_at zone_of 16 k a q) after) (let o : n - i ≡ 0 = omega arith in o) in
         fills_as (ap (λ (r : List Start). l.done ++ r) (sym e) ∙ l.split) (fills_then l.fills t)
+
+    -- too many: the parts that are left change nothing
+    pub passed_stop : {c' : Columns} {b : ℕ} → i < n → b ≡ num 8 a q → Fills c m (before_of x s (part_from after z) b w) c' (most_starts + 1)
+        → Fills c₀ n₀ (over x s stop w 0 (zones_in a) 0) c' (most_starts + 1)
+    passed_stop {c'} {b} h e t =
+        let l' = passed_turn {c' = c'} {m' = most_starts + 1} {b = b} {z' = num 8 a (q + 8)} h e refl t in
+        fills_as l'.split (fills_then l'.fills (fills_over c' (most_starts + 1) (over x s stop w (num 8 a (q + 8)) (rows_at zone_of 16 (n - (i + 1)) a (q + 16)) b) (omega arith)))
 
     -- the columns stay roomy
     pub passed_roomy : Roomy c₀ → Roomy c

@@ -1,6 +1,6 @@
 -- What the functions of this crate do to a list that is being made: it stands in three columns, and n is how many starts it has, 257 for
 -- more than 256.
-use Rattle.std.specs.Prelude.{ℕ, zero, suc, ◌+◌, ◌≤◌, ◌≡◌, Bool, false, cond, ◌||◌, List, [], length, ltb, eqb}
+use Rattle.std.specs.Prelude.{Result, Ok, Err, ℕ, zero, suc, ◌+◌, ◌≤◌, ◌≡◌, Bool, false, cond, ◌||◌, List, [], length, ltb, eqb}
 use Rattle.sdp_numbers.specs.Refusals.{most_starts}
 use Rattle.sdp_cells.specs.Bytes.{num}
 use Rattle.sdp_area.specs.Session.{Time, Repeat}
@@ -12,8 +12,9 @@ use Rattle.sdp_window.specs.Parts.{until, steps_for, segment_from}
 use Rattle.sdp_window.specs.declared.Series.{Series}
 use Rattle.sdp_window.specs.declared.Part.{Part}
 use Rattle.sdp_window.specs.declared.Window.{Window}
-use Rattle.sdp_listing.specs.Columns.{Columns, columns_of}
+use Rattle.sdp_listing.specs.Columns.{Columns, columns_of, held}
 use Rattle.sdp_listing.specs.declared.Whose.{Whose}
+use Rattle.sdp_listing.specs.declared.Listing.{Listing}
 use Rattle.sdp_starts.specs.declared.Rule.{Rule}
 
 -- as far as 257
@@ -35,6 +36,15 @@ pub record Holds (c : Columns) (n : ℕ) (l : List Start) : Type 0 where
 pub record Fills (c : Columns) (n : ℕ) (xs : List Start) (c' : Columns) (n' : ℕ) : Type 0 where
   pub roomy : Roomy c → Roomy c'
   pub holds : (l : List Start) → Holds c n l → Holds c' n' (into l xs)
+
+-- the count of an answer: 257 for more than 256
+abbrev pub counted : {E : Type 0} → Result (Unit {0}) E → ℕ → ℕ
+counted (Ok u) n = n
+counted (Err e) n = most_starts + 1
+
+-- the same of a list that is lent and what the function answers
+abbrev pub Puts : {E : Type 0} → Listing → List Start → Listing → Result (Unit {0}) E → Type 0
+Puts a xs b r = Fills (held a) a.len xs (held b) (counted r b.len)
 
 -- ---- owners
 -- one of n rows of w bytes each, from p on, belongs to k: a row begins with its owner

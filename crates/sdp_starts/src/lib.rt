@@ -1,5 +1,4 @@
-// Document 02, P3, "When will it start?": the starts of a session in a window. The list is made in three lent arrays of 256 numbers each; n
-// is how many starts it has so far, 257 for more than 256.
+// Document 02, P3, "When will it start?": the starts of a session in a window. The list is made in three lent arrays of 256 numbers each.
 #![tactic(auto)]
 
 ghost use Rattle.std.specs.Prelude.{◌≡◌, true, [], ◌+◌, ◌<◌};
@@ -9,21 +8,19 @@ ghost use Rattle.sdp_decode.specs.Decode.{time_of, repeat_of, offset_of, repeats
 ghost use Rattle.sdp_hours.specs.Hours.{rise};
 ghost use Rattle.sdp_hours.specs.Starts.{once, refused, starts_text};
 ghost use Rattle.sdp_window.specs.Parts.{until};
-ghost use Rattle.sdp_listing.specs.Columns.{columns};
-ghost use Rattle.sdp_starts.specs.Fill.{Fills, Roomy, owns_at};
+ghost use Rattle.sdp_listing.specs.Columns.{columns, held};
+ghost use Rattle.sdp_starts.specs.Fill.{Fills, Puts, Roomy, owns_at};
 ghost use Rattle.sdp_starts.specs.Fill.{part_of, before_of, series_of, repeat_in, time_in, found_in, time_by, repeat_by, time_for, whose_by};
 ghost use Rattle.sdp_starts.specs.Returned.{returned};
 
 use sdp_area::{OFFSETS, REPEATS, TIMES, ZONES};
 use sdp_decode::{num2, num8};
-use sdp_listing::{Whose, put_run};
+use sdp_listing::{Listing, Whose};
 use sdp_unfit::unfit;
 use sdp_window::{Part, Series, Window, run_in_part};
 
 // The longest list: "29 more than 256 starts".
 const MOST: usize = 256;
-// The count of a longer one.
-const OVER: usize = 257;
 
 // The answer: the list in rising order, ties by time, then repeat. After a refusal, and from count on, all numbers are 0.
 #[repr(C)]
@@ -44,344 +41,266 @@ pub struct Rule {
     pub interval: u64,
 }
 
+// There are more than 256 starts.
+#[derive(Clone, Copy, Debug, PartialEq, Eq)]
+struct TooMany;
+
+// A time with a start: its number, and when it starts and stops.
+#[derive(Clone, Copy)]
+struct Timed {
+    number: u64,
+    start: u64,
+    stop: u64,
+}
+
+// What is asked for: the starts of the session of an area, whose adjustment times rise, in a window.
+#[derive(Drop)]
+struct Asked<'a> {
+    area: &'a [u8],
+    window: Window,
+    ghost rises: { rise 0 (zones_in area.now) ≡ true },
+}
+
 // The starts of a series that lie in a part of the line of time.
-fn put_part(
-    at: &mut [u64],
-    time: &mut [u64],
-    repeat: &mut [u64],
-    n: usize,
-    whose: Whose,
-    s: Series,
-    p: Part,
-    w: Window,
-) -> usize
-    requires { Roomy (columns at.old time.old repeat.old) }
-    ensures { Fills (columns at.old time.old repeat.old) n (part_of whose s p w) (columns at.new time.new repeat.new) result }
+fn put_part(list: &mut Listing, whose: Whose, s: Series, p: Part, w: Window) -> Result<(), TooMany>
+    requires { Roomy (held list.old) }
+    ensures { Puts list.old (part_of whose s p w) list.new result }
 {
-    if MOST < n {
-        return n;
-    }
     let run = run_in_part(s, p, w);
-    let count = run.count;
-    let room = (MOST - n) as u64;
-    if room < count {
-        return OVER;
+    let Some(room) = MOST.checked_sub(list.len) else {
+        return Err(TooMany);
+    };
+    if (room as u64) < run.count {
+        return Err(TooMany);
     }
-    put_run(at, time, repeat, n, whose, s.interval, run);
-    n + count as usize
+    list.put_run(whose, s.interval, run);
+    Ok(())
 }
 
 // The earlier of an end, 0 for none, and a.
 fn until(end: u64, a: u64) -> u64
     ensures { result ≡ until end a }
 {
-    if end == 0 {
-        return a;
-    }
-    if a <= end {
-        return a;
-    }
-    end
+    if end == 0 { a } else { a.min(end) }
 }
 
 // The part before the adjustment time a: before 0 there is nothing.
 fn put_before(
-    at: &mut [u64],
-    time: &mut [u64],
-    repeat: &mut [u64],
-    n: usize,
+    list: &mut Listing,
     whose: Whose,
     s: Series,
     p: Part,
     a: u64,
     w: Window,
-) -> usize
-    requires { Roomy (columns at.old time.old repeat.old) }
-    ensures { Fills (columns at.old time.old repeat.old) n (before_of whose s p a w) (columns at.new time.new repeat.new) result }
+) -> Result<(), TooMany>
+    requires { Roomy (held list.old) }
+    ensures { Puts list.old (before_of whose s p a w) list.new result }
 {
     if a == 0 {
-        return n;
+        return Ok(());
     }
-    let end = until(p.end, a);
     let q = Part {
         after: p.after,
-        end,
+        end: until(p.end, a),
         zone: p.zone,
     };
-    put_part(at, time, repeat, n, whose, s, q, w)
-}
-
-// A repeat with one offset, part by part between the adjustment times.
-fn put_series(
-    at: &mut [u64],
-    time: &mut [u64],
-    repeat: &mut [u64],
-    n: usize,
-    area: &[u8],
-    whose: Whose,
-    rule: Rule,
-    offset: u64,
-    w: Window,
-) -> usize
-    requires { Roomy (columns at.old time.old repeat.old) × (rise 0 (zones_in area.now) ≡ true) }
-    ensures { Fills (columns at.old time.old repeat.old) n (series_of area.now whose rule offset w) (columns at.new time.new repeat.new) result }
-{
-    let zones = num2(area, ZONES);
-    let s = Series {
-        start: rule.start,
-        offset,
-        interval: rule.interval,
-    };
-    let stop = rule.stop;
-    let mut m = n;
-    let mut after: u64 = 0;
-    let mut zone: u64 = 0;
-    let mut q = ZONES + 2;
-    let mut i: usize = 0;
-    while i < zones {
-        let a = num8(area, q);
-        let p = Part {
-            after,
-            end: stop,
-            zone,
-        };
-        m = put_before(at, time, repeat, m, whose, s, p, a, w);
-        after = a;
-        zone = num8(area, q + 8);
-        q += 16;
-        i += 1;
-    }
-    let last = Part {
-        after,
-        end: stop,
-        zone,
-    };
-    put_part(at, time, repeat, m, whose, s, last, w)
-}
-
-// Whether a row of the table at base, of w bytes, belongs to n.
-fn owns(area: &[u8], base: usize, w: usize, n: usize) -> bool
-    requires { (base < 20000) × (w < 40) }
-    ensures { result ≡ owns_at area.now w n (num 2 area.now base) (base + 2) }
-{
-    let rows = num2(area, base);
-    let mut p = base + 2;
-    let mut i: usize = 0;
-    while i < rows {
-        if num2(area, p) == n {
-            return true;
-        }
-        p += w;
-        i += 1;
-    }
-    false
-}
-
-// The offset of the row at p, where it is one of repeat j of time i.
-fn put_offset(
-    at: &mut [u64],
-    time: &mut [u64],
-    repeat: &mut [u64],
-    n: usize,
-    area: &[u8],
-    p: usize,
-    i: usize,
-    j: usize,
-    rule: Rule,
-    w: Window,
-) -> usize
-    requires { Roomy (columns at.old time.old repeat.old) × (rise 0 (zones_in area.now) ≡ true) × (p < 4000000) }
-    ensures { Fills (columns at.old time.old repeat.old) n (mine j (offset_of area.now p).owner (series_of area.now (whose_by i j) rule (offset_of area.now p).offset w)) (columns at.new time.new repeat.new) result }
-{
-    if num2(area, p) != j {
-        return n;
-    }
-    let offset = num8(area, p + 2);
-    let whose = Whose {
-        time: i as u64,
-        repeat: j as u64,
-    };
-    put_series(at, time, repeat, n, area, whose, rule, offset, w)
-}
-
-// All offsets of repeat j of time i.
-fn put_offsets(
-    at: &mut [u64],
-    time: &mut [u64],
-    repeat: &mut [u64],
-    n: usize,
-    area: &[u8],
-    i: usize,
-    j: usize,
-    rule: Rule,
-    w: Window,
-) -> usize
-    requires { Roomy (columns at.old time.old repeat.old) × (rise 0 (zones_in area.now) ≡ true) }
-    ensures { Fills (columns at.old time.old repeat.old) n (each (λ k o. mine j o.owner (series_of area.now (whose_by i j) rule o.offset w)) 1 (offsets_in area.now)) (columns at.new time.new repeat.new) result }
-{
-    let rows = num2(area, OFFSETS);
-    let mut m = n;
-    let mut p = OFFSETS + 2;
-    let mut k: usize = 0;
-    while k < rows {
-        m = put_offset(at, time, repeat, m, area, p, i, j, rule, w);
-        p += 10;
-        k += 1;
-    }
-    m
-}
-
-// Repeat j of time i: "one offset of 0 where none is written".
-fn put_repeat(
-    at: &mut [u64],
-    time: &mut [u64],
-    repeat: &mut [u64],
-    n: usize,
-    area: &[u8],
-    i: usize,
-    j: usize,
-    rule: Rule,
-    w: Window,
-) -> usize
-    requires { Roomy (columns at.old time.old repeat.old) × (rise 0 (zones_in area.now) ≡ true) }
-    ensures { Fills (columns at.old time.old repeat.old) n (repeat_in area.now w i (time_by rule) j (repeat_by i rule)) (columns at.new time.new repeat.new) result }
-{
-    if owns(area, OFFSETS, 10, j) {
-        return put_offsets(at, time, repeat, n, area, i, j, rule, w);
-    }
-    let whose = Whose {
-        time: i as u64,
-        repeat: j as u64,
-    };
-    put_series(at, time, repeat, n, area, whose, rule, 0, w)
-}
-
-// Repeat j, the row at p, where it is one of time i.
-fn put_own_repeat(
-    at: &mut [u64],
-    time: &mut [u64],
-    repeat: &mut [u64],
-    n: usize,
-    area: &[u8],
-    p: usize,
-    i: usize,
-    j: usize,
-    start: u64,
-    stop: u64,
-    w: Window,
-) -> usize
-    requires { Roomy (columns at.old time.old repeat.old) × (rise 0 (zones_in area.now) ≡ true) × (p < 4000000) }
-    ensures { Fills (columns at.old time.old repeat.old) n (mine i (repeat_of area.now p).owner (repeat_in area.now w i (time_for start stop) j (repeat_of area.now p))) (columns at.new time.new repeat.new) result }
-{
-    if num2(area, p) != i {
-        return n;
-    }
-    let rule = Rule {
-        start,
-        stop,
-        interval: num8(area, p + 2),
-    };
-    put_repeat(at, time, repeat, n, area, i, j, rule, w)
-}
-
-// All repeats of time i.
-fn put_repeats(
-    at: &mut [u64],
-    time: &mut [u64],
-    repeat: &mut [u64],
-    n: usize,
-    area: &[u8],
-    i: usize,
-    start: u64,
-    stop: u64,
-    w: Window,
-) -> usize
-    requires { Roomy (columns at.old time.old repeat.old) × (rise 0 (zones_in area.now) ≡ true) }
-    ensures { Fills (columns at.old time.old repeat.old) n (each (λ j r. mine i r.owner (repeat_in area.now w i (time_for start stop) j r)) 1 (repeats_in area.now)) (columns at.new time.new repeat.new) result }
-{
-    let rows = num2(area, REPEATS);
-    let mut m = n;
-    let mut p = REPEATS + 2;
-    let mut j: usize = 0;
-    while j < rows {
-        m = put_own_repeat(at, time, repeat, m, area, p, i, j + 1, start, stop, w);
-        p += 18;
-        j += 1;
-    }
-    m
+    put_part(list, whose, s, q, w)
 }
 
 // A time without repeats.
-fn put_once(
-    at: &mut [u64],
-    time: &mut [u64],
-    repeat: &mut [u64],
-    n: usize,
-    i: usize,
-    start: u64,
-    stop: u64,
-    w: Window,
-) -> usize
-    requires { Roomy (columns at.old time.old repeat.old) }
-    ensures { Fills (columns at.old time.old repeat.old) n (once [] [] [] w.from w.to i (time_for start stop)) (columns at.new time.new repeat.new) result }
+fn put_once(list: &mut Listing, t: Timed, w: Window) -> Result<(), TooMany>
+    requires { Roomy (held list.old) }
+    ensures { Puts list.old (once [] [] [] w.from w.to t.number (time_for t.start t.stop)) list.new result }
 {
     let whose = Whose {
-        time: i as u64,
+        time: t.number,
         repeat: 0,
     };
     let s = Series {
-        start,
+        start: t.start,
         offset: 0,
         interval: 0,
     };
     let p = Part {
         after: 0,
-        end: stop,
+        end: t.stop,
         zone: 0,
     };
-    put_part(at, time, repeat, n, whose, s, p, w)
+    put_part(list, whose, s, p, w)
 }
 
-// Time i, the row at p: "A start time of 0 is unbounded and lists nothing".
-fn put_time(
-    at: &mut [u64],
-    time: &mut [u64],
-    repeat: &mut [u64],
-    n: usize,
-    area: &[u8],
-    p: usize,
-    i: usize,
-    w: Window,
-) -> usize
-    requires { Roomy (columns at.old time.old repeat.old) × (rise 0 (zones_in area.now) ≡ true) × (p < 4000000) }
-    ensures { Fills (columns at.old time.old repeat.old) n (time_in area.now w i (time_of area.now p)) (columns at.new time.new repeat.new) result }
+// Whether a row of the table at base, of w bytes, belongs to n.
+fn owns(area: &[u8], base: usize, w: usize, n: u64) -> bool
+    requires { (base < 20000) × (w < 40) }
+    ensures { result ≡ owns_at area.now w n (num 2 area.now base) (base + 2) }
 {
-    let start = num8(area, p);
-    if start == 0 {
-        return n;
+    let rows = num2(area, base);
+    let mut p = base + 2;
+    for i in 0..rows {
+        if num2(area, p) as u64 == n {
+            return true;
+        }
+        p += w;
     }
-    let stop = num8(area, p + 8);
-    if owns(area, REPEATS, 18, i) {
-        return put_repeats(at, time, repeat, n, area, i, start, stop, w);
-    }
-    put_once(at, time, repeat, n, i, start, stop, w)
+    false
 }
 
-// All times.
-fn put_times(at: &mut [u64], time: &mut [u64], repeat: &mut [u64], area: &[u8], w: Window) -> usize
-    requires { Roomy (columns at.old time.old repeat.old) × (rise 0 (zones_in area.now) ≡ true) }
-    ensures { Fills (columns at.old time.old repeat.old) 0 (found_in area.now w) (columns at.new time.new repeat.new) result }
-{
-    let rows = num2(area, TIMES);
-    let mut n: usize = 0;
-    let mut p = TIMES + 2;
-    let mut i: usize = 0;
-    while i < rows {
-        n = put_time(at, time, repeat, n, area, p, i + 1, w);
-        p += 16;
-        i += 1;
+impl Asked<'_> {
+    // A repeat with one offset, part by part between the adjustment times.
+    fn put_series(
+        &self,
+        list: &mut Listing,
+        whose: Whose,
+        rule: Rule,
+        offset: u64,
+    ) -> Result<(), TooMany>
+        requires { Roomy (held list.old) }
+        ensures { Puts list.old (series_of self.now.area.now whose rule offset self.now.window) list.new result }
+    {
+        let zones = num2(self.area, ZONES);
+        let s = Series {
+            start: rule.start,
+            offset,
+            interval: rule.interval,
+        };
+        let stop = rule.stop;
+        let w = self.window;
+        let mut after: u64 = 0;
+        let mut zone: u64 = 0;
+        let mut q = ZONES + 2;
+        for i in 0..zones {
+            let a = num8(self.area, q);
+            let p = Part {
+                after,
+                end: stop,
+                zone,
+            };
+            put_before(list, whose, s, p, a, w)?;
+            after = a;
+            zone = num8(self.area, q + 8);
+            q += 16;
+        }
+        let last = Part {
+            after,
+            end: stop,
+            zone,
+        };
+        put_part(list, whose, s, last, w)
     }
-    n
+
+    // The offset of the row at p, where it is one of this repeat.
+    fn put_offset(
+        &self,
+        list: &mut Listing,
+        whose: Whose,
+        rule: Rule,
+        p: usize,
+    ) -> Result<(), TooMany>
+        requires roomy { Roomy (held list.old) }
+        requires near { p < 4000000 }
+        ensures { Puts list.old (mine whose.repeat (offset_of self.now.area.now p).owner (series_of self.now.area.now whose rule (offset_of self.now.area.now p).offset self.now.window)) list.new result }
+    {
+        if num2(self.area, p) as u64 != whose.repeat {
+            return Ok(());
+        }
+        let offset = num8(self.area, p + 2);
+        self.put_series(list, whose, rule, offset)
+    }
+
+    // All offsets of a repeat.
+    fn put_offsets(&self, list: &mut Listing, whose: Whose, rule: Rule) -> Result<(), TooMany>
+        requires { Roomy (held list.old) }
+        ensures { Puts list.old (each (λ k o. mine whose.repeat o.owner (series_of self.now.area.now whose rule o.offset self.now.window)) 1 (offsets_in self.now.area.now)) list.new result }
+    {
+        let rows = num2(self.area, OFFSETS);
+        let mut p = OFFSETS + 2;
+        for k in 0..rows {
+            self.put_offset(list, whose, rule, p)?;
+            p += 10;
+        }
+        Ok(())
+    }
+
+    // A repeat: "one offset of 0 where none is written".
+    fn put_repeat(&self, list: &mut Listing, whose: Whose, rule: Rule) -> Result<(), TooMany>
+        requires { Roomy (held list.old) }
+        ensures { Puts list.old (repeat_in self.now.area.now self.now.window whose.time (time_by rule) whose.repeat (repeat_by whose.time rule)) list.new result }
+    {
+        if owns(self.area, OFFSETS, 10, whose.repeat) {
+            return self.put_offsets(list, whose, rule);
+        }
+        self.put_series(list, whose, rule, 0)
+    }
+
+    // Repeat j, the row at p, where it is one of the time.
+    fn put_own_repeat(&self, list: &mut Listing, t: Timed, j: u64, p: usize) -> Result<(), TooMany>
+        requires roomy { Roomy (held list.old) }
+        requires near { p < 4000000 }
+        ensures { Puts list.old (mine t.number (repeat_of self.now.area.now p).owner (repeat_in self.now.area.now self.now.window t.number (time_for t.start t.stop) j (repeat_of self.now.area.now p))) list.new result }
+    {
+        if num2(self.area, p) as u64 != t.number {
+            return Ok(());
+        }
+        let whose = Whose {
+            time: t.number,
+            repeat: j,
+        };
+        let rule = Rule {
+            start: t.start,
+            stop: t.stop,
+            interval: num8(self.area, p + 2),
+        };
+        self.put_repeat(list, whose, rule)
+    }
+
+    // All repeats of a time.
+    fn put_repeats(&self, list: &mut Listing, t: Timed) -> Result<(), TooMany>
+        requires { Roomy (held list.old) }
+        ensures { Puts list.old (each (λ j r. mine t.number r.owner (repeat_in self.now.area.now self.now.window t.number (time_for t.start t.stop) j r)) 1 (repeats_in self.now.area.now)) list.new result }
+    {
+        let rows = num2(self.area, REPEATS);
+        let mut p = REPEATS + 2;
+        for j in 0..rows {
+            self.put_own_repeat(list, t, (j + 1) as u64, p)?;
+            p += 18;
+        }
+        Ok(())
+    }
+
+    // Time i, the row at p: "A start time of 0 is unbounded and lists nothing".
+    fn put_time(&self, list: &mut Listing, i: u64, p: usize) -> Result<(), TooMany>
+        requires roomy { Roomy (held list.old) }
+        requires near { p < 4000000 }
+        ensures { Puts list.old (time_in self.now.area.now self.now.window i (time_of self.now.area.now p)) list.new result }
+    {
+        let start = num8(self.area, p);
+        if start == 0 {
+            return Ok(());
+        }
+        let t = Timed {
+            number: i,
+            start,
+            stop: num8(self.area, p + 8),
+        };
+        if owns(self.area, REPEATS, 18, i) {
+            return self.put_repeats(list, t);
+        }
+        put_once(list, t, self.window)
+    }
+
+    // All times.
+    fn put_times(&self, list: &mut Listing) -> Result<(), TooMany>
+        requires { Roomy (held list.old) }
+        ensures { Puts list.old (found_in self.now.area.now self.now.window) list.new result }
+    {
+        let rows = num2(self.area, TIMES);
+        let mut p = TIMES + 2;
+        for i in 0..rows {
+            self.put_time(list, (i + 1) as u64, p)?;
+            p += 16;
+        }
+        Ok(())
+    }
 }
 
 // Whether no adjustment time is below the one before it.
@@ -391,15 +310,13 @@ fn zones_rise(area: &[u8]) -> bool
     let rows = num2(area, ZONES);
     let mut p = ZONES + 2;
     let mut last: u64 = 0;
-    let mut i: usize = 0;
-    while i < rows {
+    for i in 0..rows {
         let a = num8(area, p);
         if a < last {
             return false;
         }
         last = a;
         p += 16;
-        i += 1;
     }
     true
 }
@@ -430,15 +347,31 @@ pub fn starts_in(text: &[u8], area: &[u8], from: u64, to: u64) -> Starts
     let mut at: [u64; 256] = [0; 256];
     let mut time: [u64; 256] = [0; 256];
     let mut repeat: [u64; 256] = [0; 256];
-    let n = put_times(&mut at, &mut time, &mut repeat, area, Window { from, to });
-    if MOST < n {
+    let asked = Asked {
+        area,
+        window: Window { from, to },
+    };
+    let mut list = Listing {
+        at: &mut at,
+        time: &mut time,
+        repeat: &mut repeat,
+        len: 0,
+    };
+    if let Err(_) = asked.put_times(&mut list) {
         return refused(29);
     }
-    Starts {
-        number: 0,
-        count: n as u64,
-        at,
-        time,
-        repeat,
+    if MOST < list.len {
+        return refused(29);
     }
+    let mut starts = Starts {
+        number: 0,
+        count: list.len as u64,
+        at: [0; 256],
+        time: [0; 256],
+        repeat: [0; 256],
+    };
+    starts.at.copy_from_slice(list.at);
+    starts.time.copy_from_slice(list.time);
+    starts.repeat.copy_from_slice(list.repeat);
+    starts
 }

@@ -1,7 +1,6 @@
 -- `sdp_listing::shift_in` meets its contract. The invariant: what is still to be done gives the whole. Assumes nothing.
-use mathlib.Core.Path.{refl, ◌∙◌}
+use mathlib.Core.Path.{◌≡◌, refl, ◌∙◌}
 use native.Mathlib.Omega.{arith}
-use Prim.Native.Nat.{◌-◌}
 use lib.ListN.{length-set}
 use Rattle.sdp_listing.proofs.ShiftLaws.{shift_turn, shift_end}
 use Rattle.sdp_listing.proofs.shift_in.Goals as goal
@@ -15,7 +14,6 @@ loop-i-preserved c =
     (omega arith, simp length-set (omega arith), e)
 
 pub returns : goal.returns
-returns c = shift_end _ _ _ _ c.loop-i-test.false (omega (arith, c.requires.1)) ∙ c.loop-i.invariant.2
-
-pub shape_of-a : goal.shape_of-a
-shape_of-a c = simp length-set (omega arith)
+returns c =
+    let e : c.loop-i.i ≡ c.args.n = omega (arith, c.loop-i.invariant.0, c.loop-i-test.false) in
+    rw e at (shift_end _ _ _ _ c.loop-i-test.false (omega (arith, c.requires.1, c.loop-i.invariant.0)) ∙ c.loop-i.invariant.2)

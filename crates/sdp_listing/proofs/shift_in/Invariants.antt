@@ -8,6 +8,3 @@ use Rattle.sdp_listing.proofs.shift_in.Given as goal
 abbrev pub invariant-loop-i : goal.invariant-loop-i
 invariant-loop-i l =
     (l.i ≤ l.n) × (length l.a ≡ length l.initial.a) × (shift_in l.i (l.n - l.i) l.x l.a ≡ shift_in l.p (l.n - l.p) l.v l.initial.a)
-
-abbrev pub decreases-loop-i : goal.decreases-loop-i
-decreases-loop-i l = l.n - l.i

@@ -7,4 +7,4 @@ pub returns-then-a-eq0 : goal.returns-then-a-eq0
 returns-then-a-eq0 c = fills_as (before_none _ _ _ _ _ c.if-a-eq0.true) fills_none
 
 pub returns : goal.returns
-returns c = fills_as (before_some _ _ _ _ _ _ c.if-a-eq0.false c.until-end.ensures) c.put_part.ensures
+returns c = fills_as (before_some _ _ _ _ _ _ c.if-a-eq0.false c.until.ensures) c.put_part.ensures

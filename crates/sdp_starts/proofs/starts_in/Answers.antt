@@ -3,6 +3,7 @@ use mathlib.Core.Path.{refl, sym, ◌∙◌}
 use mathlib.Core.List.{[]}
 use Rattle.sdp_unfit.proofs.UnfitLaws.{numbered}
 use Rattle.sdp_starts.proofs.ToldLaws.{refused_as, none_held, zeros_roomy, told-unfit, told_fall, told_many, told_list}
+use native.Mathlib.Omega.{arith}
 use Rattle.sdp_starts.proofs.starts_in.Goals as goal
 
 pub returns-in-Err : goal.returns-in-Err
@@ -14,14 +15,20 @@ returns-then-not-zones_rise c =
     refused_as _ _ _ c.refused-then-not-zones_rise.ensures
     (told_fall _ _ _ _ _ c.in_default.ensures refl (sym c.zones_rise.ensures ∙ c.if-not-zones_rise.true))
 
-pub put_times-n-requires : goal.put_times-n-requires
-put_times-n-requires c = (zeros_roomy, sym c.zones_rise.ensures ∙ c.if-not-zones_rise.false)
+pub put_times-requires : goal.put_times-requires
+put_times-requires c = zeros_roomy
 
-pub returns-then-n-gt-MOST : goal.returns-then-n-gt-MOST
-returns-then-n-gt-MOST c =
-    refused_as _ _ _ c.refused-then-n-gt-MOST.ensures
-    (told_many _ _ _ _ _ c.in_default.ensures refl (sym c.zones_rise.ensures ∙ c.if-not-zones_rise.false) _ _ (c.put_times-n.ensures.holds [] none_held) c.if-n-gt-MOST.true)
+pub returns-in-Err-put_times : goal.returns-in-Err-put_times
+returns-in-Err-put_times c =
+    refused_as _ _ _ c.refused-in-Err-put_times.ensures
+    (told_many _ _ _ _ _ c.in_default.ensures refl (sym c.zones_rise.ensures ∙ c.if-not-zones_rise.false) _ _ (c.in-Err-put_times.ensures.holds [] none_held) (omega arith))
+
+pub returns-then-list-gt-MOST : goal.returns-then-list-gt-MOST
+returns-then-list-gt-MOST c =
+    refused_as _ _ _ c.refused-then-list-gt-MOST.ensures
+    (told_many _ _ _ _ _ c.in_default.ensures refl (sym c.zones_rise.ensures ∙ c.if-not-zones_rise.false) _ _ (c.in_default-put_times.ensures.holds [] none_held) c.if-list-gt-MOST.true)
 
 pub returns : goal.returns
 returns c =
-    told_list _ _ _ _ _ c.in_default.ensures refl (sym c.zones_rise.ensures ∙ c.if-not-zones_rise.false) _ _ (c.put_times-n.ensures.holds [] none_held) c.if-n-gt-MOST.false
+    rw (c.copy_from_slice.ensures.after, c.copy_from_slice-2.ensures.after, c.copy_from_slice-3.ensures.after)
+    (told_list _ _ _ _ _ c.in_default.ensures refl (sym c.zones_rise.ensures ∙ c.if-not-zones_rise.false) _ _ (c.in_default-put_times.ensures.holds [] none_held) c.if-list-gt-MOST.false)

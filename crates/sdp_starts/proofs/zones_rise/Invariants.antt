@@ -10,6 +10,3 @@ use Rattle.sdp_starts.proofs.zones_rise.Given as goal
 abbrev pub invariant-loop-i : goal.invariant-loop-i
 invariant-loop-i l =
     (l.rows < 65536) × (l.p ≤ zones_at + 2 + l.i * 16) × (l.i ≤ l.rows) × (rise 0 (zones_in l.area) ≡ rise l.last (rows_at zone_of 16 (l.rows - l.i) l.area l.p))
-
-abbrev pub decreases-loop-i : goal.decreases-loop-i
-decreases-loop-i l = l.rows - l.i

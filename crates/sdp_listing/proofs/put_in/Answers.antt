@@ -1,7 +1,0 @@
--- `sdp_listing::put_in` meets its contract. Assumes nothing.
-use Rattle.sdp_listing.proofs.RunLaws.{put_in_is}
-use Rattle.sdp_listing.proofs.put_in.Goals as goal
-
-pub returns : goal.returns
-returns c =
-    put_in_is _ _ _ _ _ _ _ _ _ c.place_of-p.ensures.0 c.shift_in.ensures c.shift_in-2.ensures c.shift_in-3.ensures
