@@ -9,6 +9,8 @@ use lib.ListN.{length, take, drop, get_or, set, length-drop, length-set, length-
 use lib.Seq.{drop-cons, take-add, take_all, take-take}
 use lib.Dec.{ltb, leb}
 use borrow.Author.Tests.{leb-true, ltb-true, ltb-false, ne_eqb}
+use Rattle.std.proofs.Common.{count_by}
+use Rattle.std.proofs.lemmas.List.Recursion.{is_count_by}
 use Rattle.sdp_bytes.specs.Ranges.{◌to◌, within}
 use Rattle.sdp_bytes.specs.Runs as runs
 use Rattle.sdp_bytes.specs.Runs.{run, run_len}
@@ -86,6 +88,15 @@ pub length-clean : (s : List ℕ) → length (clean s) ≤ length s
 unfolding clean
 length-clean [] = omega arith
 length-clean (b ∷ s) = omega (arith, length-append (kept b) (clean s), length-kept b, length-clean s)
+
+-- as many as those that are not left out
+pub clean-count : (s : List ℕ) → length (clean s) ≡ count_by (λ b. not (dropped b)) s
+unfolding clean kept
+clean-count = is_count_by (λ t. length (clean t)) (λ b. not (dropped b)) refl (λ b t. go b t (dropped b))
+  where
+    go : (b : ℕ) (t : List ℕ) (d : Bool) → length (cond d [] (b ∷ []) ++ clean t) ≡ cond (not d) (1 + length (clean t)) (length (clean t))
+    go b t true = refl
+    go b t false = omega arith
 
 -- ---- bytes above CR, the largest byte that is left out
 abbrev pub quiet : ℕ → Bool
