@@ -15,18 +15,18 @@ pub said : {x y : Out} {bs cs : List ℕ} → bs ≡ cs → Puts x bs y → Puts
 said e p = record { same = p.same; put = bytes.said e p.put }
 
 -- ---- what is left to be put: the invariant of a loop
-pub record Left (x₀ : Out) (whole : List ℕ) (x : Out) (rest : List ℕ) : Type 0 where
+pub record Owed (x₀ : Out) (whole : List ℕ) (x : Out) (rest : List ℕ) : Type 0 where
   pub same : x.bytes.ghost_name ≡ x₀.bytes.ghost_name
-  pub left : Same x₀.bytes.now x₀.at whole x.bytes.now x.at rest
+  pub owes : Same x₀.bytes.now x₀.at whole x.bytes.now x.at rest
 
-pub begin : {x : Out} {bs bs' : List ℕ} → bs ≡ bs' → Left x bs x bs'
-begin e = record { same = refl; left = bytes.begin e }
+pub begin : {x : Out} {bs bs' : List ℕ} → bs ≡ bs' → Owed x bs x bs'
+begin e = record { same = refl; owes = bytes.begin e }
 
-pub turn : {x₀ x y : Out} {whole rest xs ys : List ℕ} → Left x₀ whole x rest → Cut rest xs ys → Puts x xs y → Left x₀ whole y ys
-turn l e p = record { same = p.same ∙ l.same; left = bytes.turn l.left e p.put }
+pub turn : {x₀ x y : Out} {whole rest xs ys : List ℕ} → Owed x₀ whole x rest → Cut rest xs ys → Puts x xs y → Owed x₀ whole y ys
+turn l e p = record { same = p.same ∙ l.same; owes = bytes.turn l.owes e p.put }
 
-pub finish : {x₀ x : Out} {whole rest : List ℕ} → Left x₀ whole x rest → rest ≡ [] → Puts x₀ whole x
-finish l e = record { same = l.same; put = bytes.finish l.left e }
+pub finish : {x₀ x : Out} {whole rest : List ℕ} → Owed x₀ whole x rest → rest ≡ [] → Puts x₀ whole x
+finish l e = record { same = l.same; put = bytes.finish l.owes e }
 
 -- nothing was put
 pub nothing : (x : Out) → Puts x [] x

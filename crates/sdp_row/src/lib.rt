@@ -1,5 +1,5 @@
-// The parts of a line and single lines of a session, put into an output, after writer.rs. p is a place in the area; what is read from there on
-// lies in it.
+// The parts of a line and single lines of a session, put into an output, after writer.rs. p is a place in the area; what is read from there
+// on lies in it.
 #![tactic(auto)]
 
 ghost use Rattle.std.specs.Prelude.{[], ◌∷◌, ◌++◌, ◌+◌, ◌≤◌, length};
@@ -16,29 +16,35 @@ use sdp_area::{CONNECTION, ORIGIN};
 use sdp_cells::{get2, get8};
 use sdp_put::Out;
 
+// A session: its area, and the text that its strings lie in.
+#[derive(Clone, Copy)]
+pub struct Source<'a> {
+    pub text: &'a [u8],
+    pub area: &'a [u8],
+}
+
 // The string whose place and length stand at p.
-pub fn put_string(out: &mut Out<'_>, text: &[u8], area: &[u8], p: usize)
-    requires { p + 4 ≤ length area.now }
-    ensures { Puts out.old (clean (bytes_of text.now (span_of area.now p))) out.new }
+pub fn put_string(out: &mut Out<'_>, s: Source<'_>, p: usize)
+    requires { p + 4 ≤ length s.area.now }
+    ensures { Puts out.old (clean (bytes_of s.entry.text.now (span_of s.entry.area.now p))) out.new }
 {
-    let place = get2(area, p);
-    let len = get2(area, p + 2);
-    out.text(text, place, len);
+    let place = get2(s.area, p);
+    let len = get2(s.area, p + 2);
+    out.text(s.text, place, len);
 }
 
 // A line of one string.
 pub fn put_string_line(
     out: &mut Out<'_>,
     letter: u8,
-    text: &[u8],
-    area: &[u8],
+    s: Source<'_>,
     p: usize,
 )
-    requires { p + 4 ≤ length area.now }
-    ensures { Puts out.old (string_line (bytes_of text.now) letter (span_of area.now p)) out.new }
+    requires { p + 4 ≤ length s.area.now }
+    ensures { Puts out.old (string_line (bytes_of s.entry.text.now) letter (span_of s.entry.area.now p)) out.new }
 {
     out.two(letter, b'=');
-    put_string(out, text, area, p);
+    put_string(out, s, p);
     out.two(13, 10);
 }
 
@@ -46,25 +52,24 @@ pub fn put_string_line(
 pub fn put_maybe_line(
     out: &mut Out<'_>,
     letter: u8,
-    text: &[u8],
-    area: &[u8],
+    s: Source<'_>,
     p: usize,
 )
-    requires { p + 6 ≤ length area.now }
-    ensures { Puts out.old (optional (string_line (bytes_of text.now) letter) (marked span_of area.now p)) out.new }
+    requires { p + 6 ≤ length s.area.now }
+    ensures { Puts out.old (optional (string_line (bytes_of s.entry.text.now) letter) (marked span_of s.entry.area.now p)) out.new }
 {
-    if get2(area, p) == 0 {
+    if get2(s.area, p) == 0 {
         return;
     }
-    put_string_line(out, letter, text, area, p + 2);
+    put_string_line(out, letter, s, p + 2);
 }
 
-fn put_spaced(out: &mut Out<'_>, text: &[u8], area: &[u8], p: usize)
-    requires { p + 4 ≤ length area.now }
-    ensures { Puts out.old (spaced (clean (bytes_of text.now (span_of area.now p)))) out.new }
+fn put_spaced(out: &mut Out<'_>, s: Source<'_>, p: usize)
+    requires { p + 4 ≤ length s.area.now }
+    ensures { Puts out.old (spaced (clean (bytes_of s.entry.text.now (span_of s.entry.area.now p)))) out.new }
 {
     out.byte(b' ');
-    put_string(out, text, area, p);
+    put_string(out, s, p);
 }
 
 fn put_spaced_number(out: &mut Out<'_>, v: u64)
@@ -82,73 +87,73 @@ pub fn put_spaced_time(out: &mut Out<'_>, v: u64)
 }
 
 // A username, or - where it has no bytes: judged before anything is dropped from it.
-fn put_name(out: &mut Out<'_>, text: &[u8], area: &[u8], p: usize)
-    requires { p + 4 ≤ length area.now }
-    ensures { Puts out.old (or_dash (bytes_of text.now (span_of area.now p))) out.new }
+fn put_name(out: &mut Out<'_>, s: Source<'_>, p: usize)
+    requires { p + 4 ≤ length s.area.now }
+    ensures { Puts out.old (or_dash (bytes_of s.entry.text.now (span_of s.entry.area.now p))) out.new }
 {
-    if get2(area, p + 2) == 0 {
+    if get2(s.area, p + 2) == 0 {
         return out.byte(b'-');
     }
-    if text.len() <= get2(area, p) {
+    if s.text.len() <= get2(s.area, p) {
         return out.byte(b'-');
     }
-    put_string(out, text, area, p);
+    put_string(out, s, p);
 }
 
 // A username that is absent is - too.
-fn put_username(out: &mut Out<'_>, text: &[u8], area: &[u8], p: usize)
-    requires { p + 6 ≤ length area.now }
-    ensures { Puts out.old (username_text (bytes_of text.now) (marked span_of area.now p)) out.new }
+fn put_username(out: &mut Out<'_>, s: Source<'_>, p: usize)
+    requires { p + 6 ≤ length s.area.now }
+    ensures { Puts out.old (username_text (bytes_of s.entry.text.now) (marked span_of s.entry.area.now p)) out.new }
 {
-    if get2(area, p) == 0 {
+    if get2(s.area, p) == 0 {
         return out.byte(b'-');
     }
-    put_name(out, text, area, p + 2);
+    put_name(out, s, p + 2);
 }
 
-fn put_origin_value(out: &mut Out<'_>, text: &[u8], area: &[u8], p: usize)
-    requires { p + 30 ≤ length area.now }
-    ensures { Puts out.old (origin_value (bytes_of text.now) (origin_of area.now p)) out.new }
+fn put_origin_value(out: &mut Out<'_>, s: Source<'_>, p: usize)
+    requires { p + 30 ≤ length s.area.now }
+    ensures { Puts out.old (origin_value (bytes_of s.entry.text.now) (origin_of s.entry.area.now p)) out.new }
 {
-    put_username(out, text, area, p);
-    put_spaced(out, text, area, p + 6);
-    put_spaced_number(out, get8(area, p + 10) as u64);
-    put_spaced(out, text, area, p + 18);
-    put_spaced(out, text, area, p + 22);
-    put_spaced(out, text, area, p + 26);
+    put_username(out, s, p);
+    put_spaced(out, s, p + 6);
+    put_spaced_number(out, get8(s.area, p + 10) as u64);
+    put_spaced(out, s, p + 18);
+    put_spaced(out, s, p + 22);
+    put_spaced(out, s, p + 26);
 }
 
-pub fn put_origin(out: &mut Out<'_>, text: &[u8], area: &[u8])
-    requires { size ≤ length area.now }
-    ensures { Puts out.old (origin_line (bytes_of text.now) (marked origin_of area.now origin_at)) out.new }
+pub fn put_origin(out: &mut Out<'_>, s: Source<'_>)
+    requires { size ≤ length s.area.now }
+    ensures { Puts out.old (origin_line (bytes_of s.entry.text.now) (marked origin_of s.entry.area.now origin_at)) out.new }
 {
-    if get2(area, ORIGIN) == 0 {
+    if get2(s.area, ORIGIN) == 0 {
         return out.all(b"o=- 0 0 IN IP4 0.0.0.0\r\n");
     }
     out.two(b'o', b'=');
-    put_origin_value(out, text, area, ORIGIN + 2);
+    put_origin_value(out, s, ORIGIN + 2);
     out.two(13, 10);
 }
 
-pub fn put_connection(out: &mut Out<'_>, text: &[u8], area: &[u8], p: usize)
-    requires { p + 12 ≤ length area.now }
-    ensures { Puts out.old (connection_line (bytes_of text.now) (connection_of area.now p)) out.new }
+pub fn put_connection(out: &mut Out<'_>, s: Source<'_>, p: usize)
+    requires { p + 12 ≤ length s.area.now }
+    ensures { Puts out.old (connection_line (bytes_of s.entry.text.now) (connection_of s.entry.area.now p)) out.new }
 {
     out.two(b'c', b'=');
-    put_string(out, text, area, p);
-    put_spaced(out, text, area, p + 4);
-    put_spaced(out, text, area, p + 8);
+    put_string(out, s, p);
+    put_spaced(out, s, p + 4);
+    put_spaced(out, s, p + 8);
     out.two(13, 10);
 }
 
-pub fn put_session_connection(out: &mut Out<'_>, text: &[u8], area: &[u8])
-    requires { size ≤ length area.now }
-    ensures { Puts out.old (optional (connection_line (bytes_of text.now)) (marked connection_of area.now connection_at)) out.new }
+pub fn put_session_connection(out: &mut Out<'_>, s: Source<'_>)
+    requires { size ≤ length s.area.now }
+    ensures { Puts out.old (optional (connection_line (bytes_of s.entry.text.now)) (marked connection_of s.entry.area.now connection_at)) out.new }
 {
-    if get2(area, CONNECTION) == 0 {
+    if get2(s.area, CONNECTION) == 0 {
         return;
     }
-    put_connection(out, text, area, CONNECTION + 2);
+    put_connection(out, s, CONNECTION + 2);
 }
 
 pub fn put_time_line(out: &mut Out<'_>, area: &[u8], p: usize)
@@ -173,15 +178,15 @@ fn put_ports(out: &mut Out<'_>, area: &[u8], p: usize)
     out.number(get2(area, p + 2) as u64);
 }
 
-pub fn put_media_line(out: &mut Out<'_>, text: &[u8], area: &[u8], p: usize)
-    requires { p + 18 ≤ length area.now }
-    ensures { Puts out.old (media_line (bytes_of text.now) (media_of area.now p)) out.new }
+pub fn put_media_line(out: &mut Out<'_>, s: Source<'_>, p: usize)
+    requires { p + 18 ≤ length s.area.now }
+    ensures { Puts out.old (media_line (bytes_of s.entry.text.now) (media_of s.entry.area.now p)) out.new }
 {
     out.two(b'm', b'=');
-    put_string(out, text, area, p);
-    put_spaced_number(out, get2(area, p + 4) as u64);
-    put_ports(out, area, p + 6);
-    put_spaced(out, text, area, p + 10);
-    put_spaced(out, text, area, p + 14);
+    put_string(out, s, p);
+    put_spaced_number(out, get2(s.area, p + 4) as u64);
+    put_ports(out, s.area, p + 6);
+    put_spaced(out, s, p + 10);
+    put_spaced(out, s, p + 14);
     out.two(13, 10);
 }

@@ -16,31 +16,31 @@ use sdp_length::length_of;
 use sdp_lines::Answer;
 use sdp_put::Out;
 use sdp_room::room_for;
-use sdp_row::{put_maybe_line, put_origin, put_string_line};
+use sdp_row::{Source, put_maybe_line, put_origin, put_string_line};
 use sdp_tables::{put_closing, put_contact, put_medias};
 use sdp_unfit::unfit;
 
 // v, o, s, i, u.
-fn put_head(out: &mut Out<'_>, text: &[u8], area: &[u8])
-    requires { size ≤ length area.now }
-    ensures { Puts out.old (head_lines (bytes_of text.now) (decode area.now).head) out.new }
+fn put_head(out: &mut Out<'_>, s: Source<'_>)
+    requires { size ≤ length s.area.now }
+    ensures { Puts out.old (head_lines (bytes_of s.entry.text.now) (decode s.entry.area.now).head) out.new }
 {
     out.all(b"v=0\r\n");
-    put_origin(out, text, area);
-    put_string_line(out, b's', text, area, NAME);
-    put_maybe_line(out, b'i', text, area, DESCRIPTION);
-    put_maybe_line(out, b'u', text, area, URI);
+    put_origin(out, s);
+    put_string_line(out, b's', s, NAME);
+    put_maybe_line(out, b'i', s, DESCRIPTION);
+    put_maybe_line(out, b'u', s, URI);
 }
 
-fn put_session(out: &mut Out<'_>, text: &[u8], area: &[u8])
-    requires counted { Counted area.now }
-    requires area_value { owners area.now ≡ true }
-    ensures { Puts out.old (written (bytes_of text.now) (decode area.now)) out.new }
+fn put_session(out: &mut Out<'_>, s: Source<'_>)
+    requires counted { Counted s.area.now }
+    requires area_value { owners s.area.now ≡ true }
+    ensures { Puts out.old (written (bytes_of s.entry.text.now) (decode s.entry.area.now)) out.new }
 {
-    put_head(out, text, area);
-    put_contact(out, text, area);
-    put_closing(out, text, area);
-    put_medias(out, text, area);
+    put_head(out, s);
+    put_contact(out, s);
+    put_closing(out, s);
+    put_medias(out, s);
 }
 
 fn told(number: u64, len: usize) -> Answer
@@ -95,6 +95,6 @@ pub fn fill(text: &[u8], area: &[u8], out: &mut [u8]) -> Answer
         return told(22, n);
     }
     let mut out = Out { bytes: out, at: 0 };
-    put_session(&mut out, text, area);
+    put_session(&mut out, Source { text, area });
     told(0, out.at)
 }
