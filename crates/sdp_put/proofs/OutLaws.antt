@@ -149,19 +149,6 @@ byte_in o at b i = record { puts = λ l h. (refl, omega arith) }
 pub no_room : (o bs : List ℕ) (at n r : ℕ) → length o ≤ at → length bs ≡ n → r ≡ placed (at + n) → Put o at bs o r
 no_room o bs at n r i m e = record { puts = λ l h. (sym (put_out bs o at i), e ∙ ap (λ (k : ℕ). placed (at + k)) (sym m)) }
 
--- several stores, one after the other
-pub four_in : (o : List ℕ) (at a b c d : ℕ) → at + 4 ≤ length o
-    → Put o at (a ∷ b ∷ c ∷ d ∷ []) (set (set (set (set o at a) (at + 1) b) (at + 2) c) (at + 3) d) (at + 4)
-unfolding put
-four_in o at a b c d i = record { puts = λ l h. (rw (add-one, add-two, add-three), omega arith) }
-
-pub eight_in : (o : List ℕ) (at a b c d e f g h : ℕ) → at + 8 ≤ length o
-    → Put o at (a ∷ b ∷ c ∷ d ∷ e ∷ f ∷ g ∷ h ∷ [])
-    (set (set (set (set (set (set (set (set o at a) (at + 1) b) (at + 2) c) (at + 3) d) (at + 4) e) (at + 5) f) (at + 6) g) (at + 7) h) (at + 8)
-unfolding put
-eight_in o at a b c d e f g h i =
-    record { puts = λ l k. (rw (add-one, add-two, add-three, add-four, add_five, add_six, add_seven), omega arith) }
-
 -- ---- what is left to be put: the invariant of a loop
 pub record Same (o₀ : List ℕ) (at₀ : ℕ) (whole : List ℕ) (o : List ℕ) (at : ℕ) (rest : List ℕ) : Type 0 where
   pub puts : length o₀ < 2 ^ 64 → at₀ < 2 ^ 64 → (put o₀ at₀ whole ≡ put o at rest) × (placed (at₀ + length whole) ≡ placed (at + length rest)) × (length o ≡ length o₀) × (at < 2 ^ 64)

@@ -30,11 +30,10 @@ fn put_value(out: &mut Out<'_>, s: Source<'_>, p: usize)
     requires { p + 6 ≤ length s.area.now }
     ensures { Puts out.old (optional (λ x. (0x3a ∷ []) ++ clean (bytes_of s.entry.text.now x)) (marked span_of s.entry.area.now p)) out.new }
 {
-    if get2(s.area, p) == 0 {
-        return;
+    if get2(s.area, p) != 0 {
+        out.byte(b':');
+        put_string(out, s, p + 2);
     }
-    out.byte(b':');
-    put_string(out, s, p + 2);
 }
 
 pub fn put_attribute(out: &mut Out<'_>, s: Source<'_>, p: usize)
