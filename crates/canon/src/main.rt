@@ -8,7 +8,7 @@ ghost use Rattle.sdp_bound.specs.Bound.{room_of_any};
 ghost use Rattle.canon.specs.Canon.{Holds, refused_line, printed};
 
 use sdp_lines::Answer;
-use sdp_put::{put_all, put_byte, put_number};
+use sdp_put::Out;
 use sdp_read::read;
 use sdp_write::{fill, length};
 use std::io;
@@ -63,13 +63,15 @@ fn refusal(out: &mut [u8], a: Answer) -> usize
     requires { 100 ≤ length out.old }
     ensures { Holds (refused_line a) out.new result }
 {
-    let b = put_all(out, 0, b"refused ");
-    let c = put_number(out, b, a.number);
-    let d = put_all(out, c, b" line ");
-    let e = put_number(out, d, a.line);
-    let f = put_all(out, e, b" field ");
-    let g = put_number(out, f, a.field);
-    put_byte(out, g, 10)
+    let mut out = Out { bytes: out, at: 0 };
+    out.all(b"refused ");
+    out.number(a.number);
+    out.all(b" line ");
+    out.number(a.line);
+    out.all(b" field ");
+    out.number(a.field);
+    out.byte(10);
+    out.at
 }
 
 // Puts what is to be printed for a text into out, and answers its length. In an area of full size every text that is read

@@ -81,15 +81,15 @@ use Rattle.sdp_stamp.proofs.stamp.Reads as sdpStampStamp
 use Rattle.sdp_line.proofs.opening_line.Reads as sdpLineOpeningLine
 use Rattle.sdp_turn.proofs.State.counts.Reads as sdpTurnStateCounts
 use Rattle.sdp_read.proofs.read.Reads as sdpReadRead
-use Rattle.sdp_put.proofs.put_byte.Reads as sdpPutPutByte
-use Rattle.sdp_put.proofs.put_two.Reads as sdpPutPutTwo
+use Rattle.sdp_put.proofs.Out.byte.Reads as sdpPutOutByte
+use Rattle.sdp_put.proofs.Out.two.Reads as sdpPutOutTwo
 use Rattle.sdp_put.proofs.dropped.Reads as sdpPutDropped
-use Rattle.sdp_put.proofs.put_all.Reads as sdpPutPutAll
-use Rattle.sdp_put.proofs.put_text.Reads as sdpPutPutText
+use Rattle.sdp_put.proofs.Out.all.Reads as sdpPutOutAll
+use Rattle.sdp_put.proofs.Out.text.Reads as sdpPutOutText
 use Rattle.sdp_put.proofs.text_len.Reads as sdpPutTextLen
-use Rattle.sdp_put.proofs.put_number.Reads as sdpPutPutNumber
-use Rattle.sdp_put.proofs.put_time.Reads as sdpPutPutTime
-use Rattle.sdp_put.proofs.put_offset.Reads as sdpPutPutOffset
+use Rattle.sdp_put.proofs.Out.number.Reads as sdpPutOutNumber
+use Rattle.sdp_put.proofs.Out.time.Reads as sdpPutOutTime
+use Rattle.sdp_put.proofs.Out.offset.Reads as sdpPutOutOffset
 use Rattle.sdp_decode.proofs.num2.Reads as sdpDecodeNum2
 use Rattle.sdp_decode.proofs.num8.Reads as sdpDecodeNum8
 use Rattle.sdp_valid.proofs.judge.Reads as sdpValidJudge
@@ -107,7 +107,10 @@ use Rattle.sdp_row.proofs.put_connection.Reads as sdpRowPutConnection
 use Rattle.sdp_row.proofs.put_session_connection.Reads as sdpRowPutSessionConnection
 use Rattle.sdp_row.proofs.put_time_line.Reads as sdpRowPutTimeLine
 use Rattle.sdp_row.proofs.put_media_line.Reads as sdpRowPutMediaLine
-use Rattle.sdp_table_row.proofs.put_row.Reads as sdpTableRowPutRow
+use Rattle.sdp_table_row.proofs.put_bandwidth.Reads as sdpTableRowPutBandwidth
+use Rattle.sdp_table_row.proofs.put_attribute.Reads as sdpTableRowPutAttribute
+use Rattle.sdp_table_row.proofs.put_offset.Reads as sdpTableRowPutOffset
+use Rattle.sdp_table_row.proofs.put_zone.Reads as sdpTableRowPutZone
 use Rattle.sdp_tables.proofs.put_contact.Reads as sdpTablesPutContact
 use Rattle.sdp_tables.proofs.put_closing.Reads as sdpTablesPutClosing
 use Rattle.sdp_tables.proofs.put_medias.Reads as sdpTablesPutMedias
@@ -383,32 +386,32 @@ pub sdp_read_read : OneState (λ κs e. e.1.0.now) sdpReadRead.Learnt
 sdp_read_read κs a z z' e e' p q = (same p.0 q.0, same p.1 q.1)
 
 -- ---- sdp_put
-pub sdp_put_put_byte : OnePut (λ κs a. a.0.now) (λ κs a. a.1.0) (λ κs e. e.0.now) sdpPutPutByte.Learnt
-sdp_put_put_byte κs a z z' e e' l k p q = same_put l k p q
+pub sdp_put_Out_byte : OnePut (λ κs a. a.0.now) (λ κs e. e.0.now) sdpPutOutByte.Learnt
+sdp_put_Out_byte κs a z z' e e' l k p q = same_put l k p q
 
-pub sdp_put_put_two : OnePut (λ κs a. a.0.now) (λ κs a. a.1.0) (λ κs e. e.0.now) sdpPutPutTwo.Learnt
-sdp_put_put_two κs a z z' e e' l k p q = same_put l k p q
+pub sdp_put_Out_two : OnePut (λ κs a. a.0.now) (λ κs e. e.0.now) sdpPutOutTwo.Learnt
+sdp_put_Out_two κs a z z' e e' l k p q = same_put l k p q
 
 pub sdp_put_dropped : OneAnswer sdpPutDropped.Learnt
 sdp_put_dropped κs a z z' e e' p q = same p q
 
-pub sdp_put_put_all : OnePut (λ κs a. a.0.now) (λ κs a. a.1.0) (λ κs e. e.0.now) sdpPutPutAll.Learnt
-sdp_put_put_all κs a z z' e e' l k p q = same_put l k p q
+pub sdp_put_Out_all : OnePut (λ κs a. a.0.now) (λ κs e. e.0.now) sdpPutOutAll.Learnt
+sdp_put_Out_all κs a z z' e e' l k p q = same_put l k p q
 
-pub sdp_put_put_text : OnePut (λ κs a. a.0.now) (λ κs a. a.1.0) (λ κs e. e.0.now) sdpPutPutText.Learnt
-sdp_put_put_text κs a z z' e e' l k p q = same_put l k p q
+pub sdp_put_Out_text : OnePut (λ κs a. a.0.now) (λ κs e. e.0.now) sdpPutOutText.Learnt
+sdp_put_Out_text κs a z z' e e' l k p q = same_put l k p q
 
 pub sdp_put_text_len : OneAnswer sdpPutTextLen.Learnt
 sdp_put_text_len κs a z z' e e' p q = same p.0 q.0
 
-pub sdp_put_put_number : OnePut (λ κs a. a.0.now) (λ κs a. a.1.0) (λ κs e. e.0.now) sdpPutPutNumber.Learnt
-sdp_put_put_number κs a z z' e e' l k p q = same_put l k p q
+pub sdp_put_Out_number : OnePut (λ κs a. a.0.now) (λ κs e. e.0.now) sdpPutOutNumber.Learnt
+sdp_put_Out_number κs a z z' e e' l k p q = same_put l k p q
 
-pub sdp_put_put_time : OnePut (λ κs a. a.0.now) (λ κs a. a.1.0) (λ κs e. e.0.now) sdpPutPutTime.Learnt
-sdp_put_put_time κs a z z' e e' l k p q = same_put l k p q
+pub sdp_put_Out_time : OnePut (λ κs a. a.0.now) (λ κs e. e.0.now) sdpPutOutTime.Learnt
+sdp_put_Out_time κs a z z' e e' l k p q = same_put l k p q
 
-pub sdp_put_put_offset : OnePut (λ κs a. a.0.now) (λ κs a. a.1.0) (λ κs e. e.0.now) sdpPutPutOffset.Learnt
-sdp_put_put_offset κs a z z' e e' l k p q = same_put l k p q
+pub sdp_put_Out_offset : OnePut (λ κs a. a.0.now) (λ κs e. e.0.now) sdpPutOutOffset.Learnt
+sdp_put_Out_offset κs a z z' e e' l k p q = same_put l k p q
 
 -- ---- sdp_decode
 pub sdp_decode_num2 : OneAnswer sdpDecodeNum2.Learnt
@@ -441,45 +444,54 @@ pub sdp_length_length_of : OneAnswer sdpLengthLengthOf.Learnt
 sdp_length_length_of κs a z z' e e' p q = same p.0 q.0
 
 -- ---- sdp_row
-pub sdp_row_put_string : OnePut (λ κs a. a.0.now) (λ κs a. a.1.0) (λ κs e. e.0.now) sdpRowPutString.Learnt
+pub sdp_row_put_string : OnePut (λ κs a. a.0.now) (λ κs e. e.0.now) sdpRowPutString.Learnt
 sdp_row_put_string κs a z z' e e' l k p q = same_put l k p q
 
-pub sdp_row_put_string_line : OnePut (λ κs a. a.0.now) (λ κs a. a.1.0) (λ κs e. e.0.now) sdpRowPutStringLine.Learnt
+pub sdp_row_put_string_line : OnePut (λ κs a. a.0.now) (λ κs e. e.0.now) sdpRowPutStringLine.Learnt
 sdp_row_put_string_line κs a z z' e e' l k p q = same_put l k p q
 
-pub sdp_row_put_maybe_line : OnePut (λ κs a. a.0.now) (λ κs a. a.1.0) (λ κs e. e.0.now) sdpRowPutMaybeLine.Learnt
+pub sdp_row_put_maybe_line : OnePut (λ κs a. a.0.now) (λ κs e. e.0.now) sdpRowPutMaybeLine.Learnt
 sdp_row_put_maybe_line κs a z z' e e' l k p q = same_put l k p q
 
-pub sdp_row_put_spaced_time : OnePut (λ κs a. a.0.now) (λ κs a. a.1.0) (λ κs e. e.0.now) sdpRowPutSpacedTime.Learnt
+pub sdp_row_put_spaced_time : OnePut (λ κs a. a.0.now) (λ κs e. e.0.now) sdpRowPutSpacedTime.Learnt
 sdp_row_put_spaced_time κs a z z' e e' l k p q = same_put l k p q
 
-pub sdp_row_put_origin : OnePut (λ κs a. a.0.now) (λ κs a. a.1.0) (λ κs e. e.0.now) sdpRowPutOrigin.Learnt
+pub sdp_row_put_origin : OnePut (λ κs a. a.0.now) (λ κs e. e.0.now) sdpRowPutOrigin.Learnt
 sdp_row_put_origin κs a z z' e e' l k p q = same_put l k p q
 
-pub sdp_row_put_connection : OnePut (λ κs a. a.0.now) (λ κs a. a.1.0) (λ κs e. e.0.now) sdpRowPutConnection.Learnt
+pub sdp_row_put_connection : OnePut (λ κs a. a.0.now) (λ κs e. e.0.now) sdpRowPutConnection.Learnt
 sdp_row_put_connection κs a z z' e e' l k p q = same_put l k p q
 
-pub sdp_row_put_session_connection : OnePut (λ κs a. a.0.now) (λ κs a. a.1.0) (λ κs e. e.0.now) sdpRowPutSessionConnection.Learnt
+pub sdp_row_put_session_connection : OnePut (λ κs a. a.0.now) (λ κs e. e.0.now) sdpRowPutSessionConnection.Learnt
 sdp_row_put_session_connection κs a z z' e e' l k p q = same_put l k p q
 
-pub sdp_row_put_time_line : OnePut (λ κs a. a.0.now) (λ κs a. a.1.0) (λ κs e. e.0.now) sdpRowPutTimeLine.Learnt
+pub sdp_row_put_time_line : OnePut (λ κs a. a.0.now) (λ κs e. e.0.now) sdpRowPutTimeLine.Learnt
 sdp_row_put_time_line κs a z z' e e' l k p q = same_put l k p q
 
-pub sdp_row_put_media_line : OnePut (λ κs a. a.0.now) (λ κs a. a.1.0) (λ κs e. e.0.now) sdpRowPutMediaLine.Learnt
+pub sdp_row_put_media_line : OnePut (λ κs a. a.0.now) (λ κs e. e.0.now) sdpRowPutMediaLine.Learnt
 sdp_row_put_media_line κs a z z' e e' l k p q = same_put l k p q
 
 -- ---- sdp_table_row
-pub sdp_table_row_put_row : OnePut (λ κs a. a.0.now) (λ κs a. a.1.0) (λ κs e. e.0.now) sdpTableRowPutRow.Learnt
-sdp_table_row_put_row κs a z z' e e' l k p q = same_put l k p q
+pub sdp_table_row_put_bandwidth : OnePut (λ κs a. a.0.now) (λ κs e. e.0.now) sdpTableRowPutBandwidth.Learnt
+sdp_table_row_put_bandwidth κs a z z' e e' l k p q = same_put l k p q
+
+pub sdp_table_row_put_attribute : OnePut (λ κs a. a.0.now) (λ κs e. e.0.now) sdpTableRowPutAttribute.Learnt
+sdp_table_row_put_attribute κs a z z' e e' l k p q = same_put l k p q
+
+pub sdp_table_row_put_offset : OnePut (λ κs a. a.0.now) (λ κs e. e.0.now) sdpTableRowPutOffset.Learnt
+sdp_table_row_put_offset κs a z z' e e' l k p q = same_put l k p q
+
+pub sdp_table_row_put_zone : OnePut (λ κs a. a.0.now) (λ κs e. e.0.now) sdpTableRowPutZone.Learnt
+sdp_table_row_put_zone κs a z z' e e' l k p q = same_put l k p q
 
 -- ---- sdp_tables
-pub sdp_tables_put_contact : OnePut (λ κs a. a.0.now) (λ κs a. a.1.0) (λ κs e. e.0.now) sdpTablesPutContact.Learnt
+pub sdp_tables_put_contact : OnePut (λ κs a. a.0.now) (λ κs e. e.0.now) sdpTablesPutContact.Learnt
 sdp_tables_put_contact κs a z z' e e' l k p q = same_put l k p q
 
-pub sdp_tables_put_closing : OnePut (λ κs a. a.0.now) (λ κs a. a.1.0) (λ κs e. e.0.now) sdpTablesPutClosing.Learnt
+pub sdp_tables_put_closing : OnePut (λ κs a. a.0.now) (λ κs e. e.0.now) sdpTablesPutClosing.Learnt
 sdp_tables_put_closing κs a z z' e e' l k p q = same_put l k p q
 
-pub sdp_tables_put_medias : OnePut (λ κs a. a.0.now) (λ κs a. a.1.0) (λ κs e. e.0.now) sdpTablesPutMedias.Learnt
+pub sdp_tables_put_medias : OnePut (λ κs a. a.0.now) (λ κs e. e.0.now) sdpTablesPutMedias.Learnt
 sdp_tables_put_medias κs a z z' e e' l k p q = same_put l k p q
 
 -- ---- sdp_write

@@ -1,6 +1,7 @@
 -- Document 01, "What the promises settle": "Prove that no second answer satisfies it". A promise says of the lifetimes, the arguments, the
 -- answer and what stands at the exit whether they agree. Arguments and the rest may be of any type.
 use Rattle.std.specs.Prelude.{◌≡◌, List, ℕ, ◌<◌, ◌^◌, length}
+use Rattle.sdp_put.specs.declared.Out.{Out}
 
 module _ {L : Type 0} {A Z E : L → Type 0} where
   -- two answers that satisfy the promise for the same arguments are the same
@@ -16,11 +17,12 @@ module _ {L : Type 0} {A Z E : L → Type 0} where
   OneState after promise =
       (κs : L) (a : A κs) (z z' : Z κs) (e e' : E κs) → promise κs a z e → promise κs a z' e' → (z ≡ z') × (after κs e ≡ after κs e')
 
-  -- the same of what puts bytes into an output from a place on; a slice's length and a place are always below 2^64
-  abbrev pub OnePut : ((κs : L) → A κs → List ℕ) → ((κs : L) → A κs → ℕ) → ((κs : L) → E κs → List ℕ) → ((κs : L) → A κs → Z κs → E κs → Type 0) → Type 0
-  OnePut before at after promise =
-      (κs : L) (a : A κs) (z z' : Z κs) (e e' : E κs) → length (before κs a) < 2 ^ 64 → at κs a < 2 ^ 64
-      → promise κs a z e → promise κs a z' e' → (z ≡ z') × (after κs e ≡ after κs e')
+  -- the same of what puts bytes into an output: its bytes and its place at the exit are the same; a slice's length and a place are always
+  -- below 2^64
+  abbrev pub OnePut : ((κs : L) → A κs → Out) → ((κs : L) → E κs → Out) → ((κs : L) → A κs → Z κs → E κs → Type 0) → Type 0
+  OnePut before after promise =
+      (κs : L) (a : A κs) (z z' : Z κs) (e e' : E κs) → length (before κs a).bytes.now < 2 ^ 64 → (before κs a).at < 2 ^ 64
+      → promise κs a z e → promise κs a z' e' → ((after κs e).at ≡ (after κs e').at) × ((after κs e).bytes.now ≡ (after κs e').bytes.now)
 
   -- the same for the arguments that satisfy a condition; seen is the part of what stands at the exit that the promise speaks of
   abbrev pub OneWhere : ((κs : L) → A κs → Type 0) → ((κs : L) → Z κs → E κs → List ℕ) → ((κs : L) → A κs → Z κs → E κs → Type 0) → Type 0

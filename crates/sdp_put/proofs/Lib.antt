@@ -1,4 +1,5 @@
 pub mod OutLaws
+pub mod PutsLaws
 pub mod ByteLaws
 pub mod DigitLaws
 pub mod StringLaws

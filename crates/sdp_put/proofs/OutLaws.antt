@@ -2,12 +2,12 @@
 use mathlib.Core.Path.{◌≡◌, refl, sym, ap, ap₂, ◌∙◌}
 use mathlib.Core.Bool.{Bool, true, false}
 use mathlib.Core.List.{List, [], ◌∷◌, ◌++◌, append-nil, append_assoc}
-use Prim.Native.Nat.{ℕ, suc, ◌+◌, ◌-◌, ◌≤◌, ◌<◌, ◌^◌}
+use Prim.Native.Nat.{ℕ, suc, ◌+◌, ◌-◌, ◌≤◌, ◌<◌, ◌^◌, min}
 use native.Mathlib.Nat.{add-suc, suc-add, add-zero}
 use native.Mathlib.Numerals.{add-one, add-two, add-three, add-four, add_five, add_six, add_seven}
 use native.Mathlib.Omega.{arith}
 use lib.ListN.{length, take, drop, set, length-append, length-set, length-drop, take-append-drop}
-use lib.Seq.{sets, sets-eq, length-sets, length-take-le, set_out, take-add, take-take, take-append-le, take-append-add, drop-append-add, drop-drop}
+use lib.Seq.{sets, sets-eq, length-sets, length-take-le, set_out, take-add, take_all, take-take, take-append-le, take-append-add, drop-append-add, drop-drop}
 use lib.Dec.{ltb}
 use borrow.Author.Tests.{ltb-true, ltb-false}
 use Rattle.sdp_put.specs.Out.{put, placed, Put}
@@ -32,6 +32,37 @@ unfolding put
 put_out [] o at h = refl
 put_out (b ∷ bs) o at h =
     put_out bs (set o at b) (suc at) (omega (arith, length-set o at b)) ∙ set_out o at b h
+
+-- as much of s as there is room for, in the place of what stands there
+module _ (o s : List ℕ) (at a n k : ℕ) (e : a ≡ min at (length o)) (f : n ≡ min (length s) (length o - a)) where
+  placed_part : k ≡ n → take a o ++ (take n s ++ drop k (drop a o)) ≡ put o a (take n s)
+  unfolding put
+  placed_part g =
+      let m : length (take n s) ≡ n = length-take-le n s (omega arith) in
+      let d : drop (a + length (take n s)) o ≡ drop k (drop a o) = ap (λ (i : ℕ). drop i o) (let z : a + length (take n s) ≡ a + k = omega arith in z) ∙ sym (drop-drop k a o) in
+      sym (sets-eq (take n s) o a (omega arith) ∙ append_assoc (take a o) (take n s) (drop (a + length (take n s)) o) ∙ ap (λ (x : List ℕ). take a o ++ (take n s ++ x)) d)
+
+  whole_part : put o a (take n s) ≡ put o at s
+  whole_part = go (ltb (length s) (length o - a)) (ltb at (length o)) refl refl
+    where
+      go : (b c : Bool) → ltb (length s) (length o - a) ≡ b → ltb at (length o) ≡ c → put o a (take n s) ≡ put o at s
+      go true c p q =
+          let h = ltb-true (length s) (length o - a) p in
+          ap₂ (λ (i : ℕ) (x : List ℕ). put o i x) (let z : a ≡ at = omega arith in z) (take_all n s (omega arith))
+      go false true p q =
+          let h = ltb-false (length s) (length o - a) p in
+          let l = ltb-true at (length o) q in
+          let m : length (take n s) ≡ n = length-take-le n s (omega arith) in
+          ap (λ (i : ℕ). put o i (take n s)) (let z : a ≡ at = omega arith in z)
+          ∙ sym (put_out (drop n s) (put o at (take n s)) (at + length (take n s)) (omega (arith, length-put o at (take n s))))
+          ∙ put_next o (take n s) (drop n s) at
+          ∙ ap (put o at) (take-append-drop n s)
+      go false false p q =
+          let l = ltb-false at (length o) q in
+          put_out (take n s) o a (omega arith) ∙ sym (put_out s o at l)
+
+  pub put_part : k ≡ n → take a o ++ (take n s ++ drop k (drop a o)) ≡ put o at s
+  put_part g = placed_part g ∙ whole_part
 
 -- with room, the bytes stand where they were put, and nothing else changed
 pub put_room : (bs o : List ℕ) → length bs ≤ length o → put o 0 bs ≡ bs ++ drop (length bs) o
@@ -117,19 +148,6 @@ byte_in o at b i = record { puts = λ l h. (refl, omega arith) }
 
 pub no_room : (o bs : List ℕ) (at n r : ℕ) → length o ≤ at → length bs ≡ n → r ≡ placed (at + n) → Put o at bs o r
 no_room o bs at n r i m e = record { puts = λ l h. (sym (put_out bs o at i), e ∙ ap (λ (k : ℕ). placed (at + k)) (sym m)) }
-
--- several stores, one after the other
-pub four_in : (o : List ℕ) (at a b c d : ℕ) → at + 4 ≤ length o
-    → Put o at (a ∷ b ∷ c ∷ d ∷ []) (set (set (set (set o at a) (at + 1) b) (at + 2) c) (at + 3) d) (at + 4)
-unfolding put
-four_in o at a b c d i = record { puts = λ l h. (rw (add-one, add-two, add-three), omega arith) }
-
-pub eight_in : (o : List ℕ) (at a b c d e f g h : ℕ) → at + 8 ≤ length o
-    → Put o at (a ∷ b ∷ c ∷ d ∷ e ∷ f ∷ g ∷ h ∷ [])
-    (set (set (set (set (set (set (set (set o at a) (at + 1) b) (at + 2) c) (at + 3) d) (at + 4) e) (at + 5) f) (at + 6) g) (at + 7) h) (at + 8)
-unfolding put
-eight_in o at a b c d e f g h i =
-    record { puts = λ l k. (rw (add-one, add-two, add-three, add-four, add_five, add_six, add_seven), omega arith) }
 
 -- ---- what is left to be put: the invariant of a loop
 pub record Same (o₀ : List ℕ) (at₀ : ℕ) (whole : List ℕ) (o : List ℕ) (at : ℕ) (rest : List ℕ) : Type 0 where

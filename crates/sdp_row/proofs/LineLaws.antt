@@ -6,9 +6,10 @@ use native.Mathlib.Omega.{arith}
 use lib.ListN.{length, take, drop, length-take, length-drop}
 use borrow.Author.Tests.{eq-eqb, ne_eqb}
 use Rattle.sdp_cells.specs.Bytes.{num}
-use Rattle.sdp_put.specs.Out.{Put}
+use Rattle.sdp_put.specs.declared.Out.{Out}
+use Rattle.sdp_put.specs.Puts.{Puts}
 use Rattle.sdp_put.specs.Strings.{part, clean}
-use Rattle.sdp_put.proofs.OutLaws.{◌then◌}
+use Rattle.sdp_put.proofs.PutsLaws.{◌then◌}
 use Rattle.sdp_lines.specs.Strings.{bytes_of}
 use Rattle.sdp_decode.specs.Rows.{marked}
 use Rattle.sdp_decode.specs.Decode.{span_of}
@@ -16,7 +17,7 @@ use Rattle.sdp_decode.proofs.CellLaws.{marked_none, marked_some}
 use Rattle.sdp_row.specs.Written.{line, optional, or_dash}
 
 -- a line: its letter, its value, its ending
-pub in_line : {o o₁ o₂ o₃ v : List ℕ} {letter at r₁ r₂ r₃ : ℕ} → Put o at (letter ∷ 0x3d ∷ []) o₁ r₁ → Put o₁ r₁ v o₂ r₂ → Put o₂ r₂ (0x0d ∷ 0x0a ∷ []) o₃ r₃ → Put o at (line letter v) o₃ r₃
+pub in_line : {x y z w : Out} {v : List ℕ} {letter : ℕ} → Puts x (letter ∷ 0x3d ∷ []) y → Puts y v z → Puts z (0x0d ∷ 0x0a ∷ []) w → Puts x (line letter v) w
 unfolding line
 in_line p q e = p then (q then e)
 

@@ -1,11 +1,11 @@
-// The parts of a line and single lines of a session, put into an output, after writer.rs. Each function puts its bytes into out from at on;
-// what finds no room is only counted. p is a place in the area; what is read from there on lies in it.
+// The parts of a line and single lines of a session, put into an output, after writer.rs. p is a place in the area; what is read from there
+// on lies in it.
 #![tactic(auto)]
 
 ghost use Rattle.std.specs.Prelude.{[], ◌∷◌, ◌++◌, ◌+◌, ◌≤◌, length};
 ghost use Rattle.sdp_lines.specs.Strings.{bytes_of};
 ghost use Rattle.sdp_area.specs.Area.{size, origin_at, connection_at};
-ghost use Rattle.sdp_put.specs.Out.{Put};
+ghost use Rattle.sdp_put.specs.Puts.{Puts};
 ghost use Rattle.sdp_put.specs.Digits.{digits, time_text};
 ghost use Rattle.sdp_put.specs.Strings.{clean};
 ghost use Rattle.sdp_decode.specs.Rows.{marked};
@@ -14,176 +14,179 @@ ghost use Rattle.sdp_row.specs.Written.{line, spaced, optional, time_value, stri
 
 use sdp_area::{CONNECTION, ORIGIN};
 use sdp_cells::{get2, get8};
-use sdp_put::{put_all, put_byte, put_number, put_text, put_time, put_two};
+use sdp_put::Out;
+
+// A session: its area, and the text that its strings lie in.
+#[derive(Clone, Copy)]
+pub struct Source<'a> {
+    pub text: &'a [u8],
+    pub area: &'a [u8],
+}
 
 // The string whose place and length stand at p.
-pub fn put_string(out: &mut [u8], at: usize, text: &[u8], area: &[u8], p: usize) -> usize
-    requires { p + 4 ≤ length area.now }
-    ensures { Put out.old at (clean (bytes_of text.now (span_of area.now p))) out.new result }
+pub fn put_string(out: &mut Out<'_>, s: Source<'_>, p: usize)
+    requires { p + 4 ≤ length s.area.now }
+    ensures { Puts out.old (clean (bytes_of s.entry.text.now (span_of s.entry.area.now p))) out.new }
 {
-    let place = get2(area, p);
-    let len = get2(area, p + 2);
-    put_text(out, at, text, place, len)
+    let place = get2(s.area, p);
+    let len = get2(s.area, p + 2);
+    out.text(s.text, place, len);
 }
 
 // A line of one string.
 pub fn put_string_line(
-    out: &mut [u8],
-    at: usize,
+    out: &mut Out<'_>,
     letter: u8,
-    text: &[u8],
-    area: &[u8],
+    s: Source<'_>,
     p: usize,
-) -> usize
-    requires { p + 4 ≤ length area.now }
-    ensures { Put out.old at (string_line (bytes_of text.now) letter (span_of area.now p)) out.new result }
+)
+    requires { p + 4 ≤ length s.area.now }
+    ensures { Puts out.old (string_line (bytes_of s.entry.text.now) letter (span_of s.entry.area.now p)) out.new }
 {
-    let b = put_two(out, at, letter, b'=');
-    let c = put_string(out, b, text, area, p);
-    put_two(out, c, 13, 10)
+    out.two(letter, b'=');
+    put_string(out, s, p);
+    out.two(13, 10);
 }
 
 // A line of one string, where it is present.
 pub fn put_maybe_line(
-    out: &mut [u8],
-    at: usize,
+    out: &mut Out<'_>,
     letter: u8,
-    text: &[u8],
-    area: &[u8],
+    s: Source<'_>,
     p: usize,
-) -> usize
-    requires { p + 6 ≤ length area.now }
-    ensures { Put out.old at (optional (string_line (bytes_of text.now) letter) (marked span_of area.now p)) out.new result }
+)
+    requires { p + 6 ≤ length s.area.now }
+    ensures { Puts out.old (optional (string_line (bytes_of s.entry.text.now) letter) (marked span_of s.entry.area.now p)) out.new }
 {
-    if get2(area, p) == 0 {
-        return at;
+    if get2(s.area, p) == 0 {
+        return;
     }
-    put_string_line(out, at, letter, text, area, p + 2)
+    put_string_line(out, letter, s, p + 2);
 }
 
-fn put_spaced(out: &mut [u8], at: usize, text: &[u8], area: &[u8], p: usize) -> usize
-    requires { p + 4 ≤ length area.now }
-    ensures { Put out.old at (spaced (clean (bytes_of text.now (span_of area.now p)))) out.new result }
+fn put_spaced(out: &mut Out<'_>, s: Source<'_>, p: usize)
+    requires { p + 4 ≤ length s.area.now }
+    ensures { Puts out.old (spaced (clean (bytes_of s.entry.text.now (span_of s.entry.area.now p)))) out.new }
 {
-    let b = put_byte(out, at, b' ');
-    put_string(out, b, text, area, p)
+    out.byte(b' ');
+    put_string(out, s, p);
 }
 
-fn put_spaced_number(out: &mut [u8], at: usize, v: u64) -> usize
-    ensures { Put out.old at (spaced (digits v)) out.new result }
+fn put_spaced_number(out: &mut Out<'_>, v: u64)
+    ensures { Puts out.old (spaced (digits v)) out.new }
 {
-    let b = put_byte(out, at, b' ');
-    put_number(out, b, v)
+    out.byte(b' ');
+    out.number(v);
 }
 
-pub fn put_spaced_time(out: &mut [u8], at: usize, v: u64) -> usize
-    ensures { Put out.old at (spaced (time_text v)) out.new result }
+pub fn put_spaced_time(out: &mut Out<'_>, v: u64)
+    ensures { Puts out.old (spaced (time_text v)) out.new }
 {
-    let b = put_byte(out, at, b' ');
-    put_time(out, b, v)
+    out.byte(b' ');
+    out.time(v);
 }
 
 // A username, or - where it has no bytes: judged before anything is dropped from it.
-fn put_name(out: &mut [u8], at: usize, text: &[u8], area: &[u8], p: usize) -> usize
-    requires { p + 4 ≤ length area.now }
-    ensures { Put out.old at (or_dash (bytes_of text.now (span_of area.now p))) out.new result }
+fn put_name(out: &mut Out<'_>, s: Source<'_>, p: usize)
+    requires { p + 4 ≤ length s.area.now }
+    ensures { Puts out.old (or_dash (bytes_of s.entry.text.now (span_of s.entry.area.now p))) out.new }
 {
-    if get2(area, p + 2) == 0 {
-        return put_byte(out, at, b'-');
+    if get2(s.area, p + 2) == 0 {
+        return out.byte(b'-');
     }
-    if text.len() <= get2(area, p) {
-        return put_byte(out, at, b'-');
+    if s.text.len() <= get2(s.area, p) {
+        return out.byte(b'-');
     }
-    put_string(out, at, text, area, p)
+    put_string(out, s, p);
 }
 
 // A username that is absent is - too.
-fn put_username(out: &mut [u8], at: usize, text: &[u8], area: &[u8], p: usize) -> usize
-    requires { p + 6 ≤ length area.now }
-    ensures { Put out.old at (username_text (bytes_of text.now) (marked span_of area.now p)) out.new result }
+fn put_username(out: &mut Out<'_>, s: Source<'_>, p: usize)
+    requires { p + 6 ≤ length s.area.now }
+    ensures { Puts out.old (username_text (bytes_of s.entry.text.now) (marked span_of s.entry.area.now p)) out.new }
 {
-    if get2(area, p) == 0 {
-        return put_byte(out, at, b'-');
+    if get2(s.area, p) == 0 {
+        return out.byte(b'-');
     }
-    put_name(out, at, text, area, p + 2)
+    put_name(out, s, p + 2);
 }
 
-fn put_origin_value(out: &mut [u8], at: usize, text: &[u8], area: &[u8], p: usize) -> usize
-    requires { p + 30 ≤ length area.now }
-    ensures { Put out.old at (origin_value (bytes_of text.now) (origin_of area.now p)) out.new result }
+fn put_origin_value(out: &mut Out<'_>, s: Source<'_>, p: usize)
+    requires { p + 30 ≤ length s.area.now }
+    ensures { Puts out.old (origin_value (bytes_of s.entry.text.now) (origin_of s.entry.area.now p)) out.new }
 {
-    let b = put_username(out, at, text, area, p);
-    let c = put_spaced(out, b, text, area, p + 6);
-    let d = put_spaced_number(out, c, get8(area, p + 10) as u64);
-    let e = put_spaced(out, d, text, area, p + 18);
-    let f = put_spaced(out, e, text, area, p + 22);
-    put_spaced(out, f, text, area, p + 26)
+    put_username(out, s, p);
+    put_spaced(out, s, p + 6);
+    put_spaced_number(out, get8(s.area, p + 10) as u64);
+    put_spaced(out, s, p + 18);
+    put_spaced(out, s, p + 22);
+    put_spaced(out, s, p + 26);
 }
 
-pub fn put_origin(out: &mut [u8], at: usize, text: &[u8], area: &[u8]) -> usize
-    requires { size ≤ length area.now }
-    ensures { Put out.old at (origin_line (bytes_of text.now) (marked origin_of area.now origin_at)) out.new result }
+pub fn put_origin(out: &mut Out<'_>, s: Source<'_>)
+    requires { size ≤ length s.area.now }
+    ensures { Puts out.old (origin_line (bytes_of s.entry.text.now) (marked origin_of s.entry.area.now origin_at)) out.new }
 {
-    if get2(area, ORIGIN) == 0 {
-        return put_all(out, at, b"o=- 0 0 IN IP4 0.0.0.0\r\n");
+    if get2(s.area, ORIGIN) == 0 {
+        return out.all(b"o=- 0 0 IN IP4 0.0.0.0\r\n");
     }
-    let b = put_two(out, at, b'o', b'=');
-    let c = put_origin_value(out, b, text, area, ORIGIN + 2);
-    put_two(out, c, 13, 10)
+    out.two(b'o', b'=');
+    put_origin_value(out, s, ORIGIN + 2);
+    out.two(13, 10);
 }
 
-pub fn put_connection(out: &mut [u8], at: usize, text: &[u8], area: &[u8], p: usize) -> usize
-    requires { p + 12 ≤ length area.now }
-    ensures { Put out.old at (connection_line (bytes_of text.now) (connection_of area.now p)) out.new result }
+pub fn put_connection(out: &mut Out<'_>, s: Source<'_>, p: usize)
+    requires { p + 12 ≤ length s.area.now }
+    ensures { Puts out.old (connection_line (bytes_of s.entry.text.now) (connection_of s.entry.area.now p)) out.new }
 {
-    let b = put_two(out, at, b'c', b'=');
-    let c = put_string(out, b, text, area, p);
-    let d = put_spaced(out, c, text, area, p + 4);
-    let e = put_spaced(out, d, text, area, p + 8);
-    put_two(out, e, 13, 10)
+    out.two(b'c', b'=');
+    put_string(out, s, p);
+    put_spaced(out, s, p + 4);
+    put_spaced(out, s, p + 8);
+    out.two(13, 10);
 }
 
-pub fn put_session_connection(out: &mut [u8], at: usize, text: &[u8], area: &[u8]) -> usize
-    requires { size ≤ length area.now }
-    ensures { Put out.old at (optional (connection_line (bytes_of text.now)) (marked connection_of area.now connection_at)) out.new result }
+pub fn put_session_connection(out: &mut Out<'_>, s: Source<'_>)
+    requires { size ≤ length s.area.now }
+    ensures { Puts out.old (optional (connection_line (bytes_of s.entry.text.now)) (marked connection_of s.entry.area.now connection_at)) out.new }
 {
-    if get2(area, CONNECTION) == 0 {
-        return at;
+    if get2(s.area, CONNECTION) == 0 {
+        return;
     }
-    put_connection(out, at, text, area, CONNECTION + 2)
+    put_connection(out, s, CONNECTION + 2);
 }
 
-pub fn put_time_line(out: &mut [u8], at: usize, area: &[u8], p: usize) -> usize
+pub fn put_time_line(out: &mut Out<'_>, area: &[u8], p: usize)
     requires { p + 16 ≤ length area.now }
-    ensures { Put out.old at (line 0x74 (time_value (time_of area.now p))) out.new result }
+    ensures { Puts out.old (line 0x74 (time_value (time_of area.now p))) out.new }
 {
-    let b = put_two(out, at, b't', b'=');
-    let c = put_number(out, b, get8(area, p) as u64);
-    let d = put_spaced_number(out, c, get8(area, p + 8) as u64);
-    put_two(out, d, 13, 10)
+    out.two(b't', b'=');
+    out.number(get8(area, p) as u64);
+    put_spaced_number(out, get8(area, p + 8) as u64);
+    out.two(13, 10);
 }
 
 // A slash and the number of ports, where it is present.
-fn put_ports(out: &mut [u8], at: usize, area: &[u8], p: usize) -> usize
+fn put_ports(out: &mut Out<'_>, area: &[u8], p: usize)
     requires { p + 4 ≤ length area.now }
-    ensures { Put out.old at (optional (λ n. (0x2f ∷ []) ++ digits n) (marked num2 area.now p)) out.new result }
+    ensures { Puts out.old (optional (λ n. (0x2f ∷ []) ++ digits n) (marked num2 area.now p)) out.new }
 {
     if get2(area, p) == 0 {
-        return at;
+        return;
     }
-    let b = put_byte(out, at, b'/');
-    put_number(out, b, get2(area, p + 2) as u64)
+    out.byte(b'/');
+    out.number(get2(area, p + 2) as u64);
 }
 
-pub fn put_media_line(out: &mut [u8], at: usize, text: &[u8], area: &[u8], p: usize) -> usize
-    requires { p + 18 ≤ length area.now }
-    ensures { Put out.old at (media_line (bytes_of text.now) (media_of area.now p)) out.new result }
+pub fn put_media_line(out: &mut Out<'_>, s: Source<'_>, p: usize)
+    requires { p + 18 ≤ length s.area.now }
+    ensures { Puts out.old (media_line (bytes_of s.entry.text.now) (media_of s.entry.area.now p)) out.new }
 {
-    let b = put_two(out, at, b'm', b'=');
-    let c = put_string(out, b, text, area, p);
-    let d = put_spaced_number(out, c, get2(area, p + 4) as u64);
-    let e = put_ports(out, d, area, p + 6);
-    let f = put_spaced(out, e, text, area, p + 10);
-    let g = put_spaced(out, f, text, area, p + 14);
-    put_two(out, g, 13, 10)
+    out.two(b'm', b'=');
+    put_string(out, s, p);
+    put_spaced_number(out, get2(s.area, p + 4) as u64);
+    put_ports(out, s.area, p + 6);
+    put_spaced(out, s, p + 10);
+    put_spaced(out, s, p + 14);
+    out.two(13, 10);
 }

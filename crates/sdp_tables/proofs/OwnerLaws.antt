@@ -15,13 +15,11 @@ use Rattle.sdp_valid.specs.Judge as judge
 use Rattle.sdp_valid.specs.Judge.{rising, owned, owners}
 use Rattle.sdp_valid.specs.Counted.{Inside}
 use Rattle.sdp_valid.proofs.CountedLaws.{rest_inside, row_inside}
-use Rattle.sdp_put.specs.Out.{Put}
-use Rattle.sdp_put.proofs.OutLaws.{begin, finish, said, nothing}
+use Rattle.sdp_put.specs.declared.Out.{Out}
+use Rattle.sdp_put.specs.Puts.{Puts}
+use Rattle.sdp_put.proofs.PutsLaws.{begin, finish, said}
 use Rattle.sdp_decode.specs.Rows as rows
 use Rattle.sdp_decode.specs.Rows.{each_at, mine}
-use Rattle.sdp_table_row.specs.declared.Table.{Table}
-use Rattle.sdp_table_row.specs.declared.Table.TheVariants.{Emails, Phones, Connections, Bandwidths, Offsets, Zones, Attributes}
-use Rattle.sdp_table_row.specs.Rows.{width}
 use Rattle.sdp_tables.specs.Tables.{own, NeverFall, Parted}
 use Rattle.sdp_tables.proofs.RowLaws.{Left, left_turn}
 
@@ -87,16 +85,6 @@ module _ (a : List ℕ) (h : owners a ≡ true) where
   attributes-rise = never_fall a attributes_at 12 0 (num 2 a medias_at) (and_right (owned a offsets_at 10 1 repeats_at) _ after-repeats)
 
 -- ---- rows that lie in the area
--- an owner has room in a row of each table
-pub owner_width : (t : Table) → 2 ≤ width t
-owner_width Emails = omega arith
-owner_width Phones = omega arith
-owner_width Connections = omega arith
-owner_width Bandwidths = omega arith
-owner_width Offsets = omega arith
-owner_width Zones = omega arith
-owner_width Attributes = omega arith
-
 -- of a table's n rows, those from the row r on
 pub from_inside : (a : List ℕ) (base w n r : ℕ) → n ≡ num 2 a base → r ≤ n → Inside a base w → base + 2 + r * w + (n - r) * w ≤ length a
 from_inside a base w n r e l h = rest_inside n r (base + 2) w (length a) l (omega (arith, h, ap (λ (k : ℕ). k * w) e))
@@ -163,24 +151,19 @@ unfolding rows.mine
 other n o bs h = rw (ne_eqb o n h)
 
 -- ---- the loop over the rows of the owner n: from the first of them on, until another follows. i is the next, at place p
-module _ (f : ℕ → ℕ → List ℕ) (a : List ℕ) (base w n count : ℕ) (o₀ : List ℕ) (at : ℕ) where
-  pub record Ours (o : List ℕ) (i p q : ℕ) : Type 0 where
-    pub rows : Left (own a n f) a w base count o₀ at o p i q
+module _ (f : ℕ → ℕ → List ℕ) (a : List ℕ) (base w n count : ℕ) (x₀ : Out) where
+  pub record Ours (x : Out) (i p : ℕ) : Type 0 where
+    pub rows : Left (own a n f) a w base count x₀ x p i
     pub place : p ≡ base + 2 + i * w
     pub least : i < count → n ≤ num 2 a (base + 2 + i * w)
 
   module _ (all : count ≡ num 2 a base) where
-    -- a table without rows
-    pub ours_none : count ≡ 0 → Put o₀ at (each_at (own a n f) w (num 2 a base) 1 (base + 2)) o₀ at
-    unfolding each_at
-    ours_none e = said (ap (λ (k : ℕ). each_at (own a n f) w k 1 (base + 2)) (sym e ∙ all)) (nothing o₀ at)
-
-    pub ours_begin : (r : ℕ) → Inside a base w → Parted a base w n 0 count r → Ours o₀ r (base + 2 + r * w) at
+    pub ours_begin : (r : ℕ) → Inside a base w → Parted a base w n 0 count r → Ours x₀ r (base + 2 + r * w)
     ours_begin r h s =
         record {
           rows = record {
             inside = from_inside a base w count r all s.high h;
-            same = begin
+            owed = begin
                 (ap (λ (k : ℕ). each_at (own a n f) w k 1 (base + 2)) (sym all)
                 ∙ skip (own a n f) w r count 1 (base + 2) s.high (λ j l. other n (num 2 a (base + 2 + j * w)) (f (1 + j) (base + 2 + j * w)) (λ e. omega (arith, s.earlier j (omega arith) l)))
                 ∙ at_place (own a n f) w (count - r) (1 + r) (base + 2 + r * w) (count - r) (r + 1) (base + 2 + r * w) refl (omega arith) refl);
@@ -190,21 +173,21 @@ module _ (f : ℕ → ℕ → List ℕ) (a : List ℕ) (base w n count : ℕ) (o
         }
 
     -- the next owner is m
-    module _ {o : List ℕ} (i p q m : ℕ) (s : NeverFall a base w) (l : i < count) (e : m ≡ num 2 a p) (x : Ours o i p q) where
-      pub ours_stop : (m ≡ n → ⊥) → Put o₀ at (each_at (own a n f) w (num 2 a base) 1 (base + 2)) o q
+    module _ {y : Out} (i p m : ℕ) (s : NeverFall a base w) (l : i < count) (e : m ≡ num 2 a p) (x : Ours y i p) where
+      pub ours_stop : (m ≡ n → ⊥) → Puts x₀ (each_at (own a n f) w (num 2 a base) 1 (base + 2)) y
       unfolding each_at
       ours_stop ne =
-          finish x.rows.same
+          finish x.rows.owed
           (skip (own a n f) w (count - i) (count - i) (i + 1) p (omega arith) (λ j k. other n (num 2 a (p + j * w)) (f (i + 1 + j) (p + j * w)) (λ g.
           let z : p + j * w ≡ base + 2 + (i + j) * w = omega (arith, add-mul i j w, x.place) in
           ne (omega (arith, s.rise i (i + j) (omega arith) (omega arith), ap (num 2 a) z, ap (num 2 a) x.place, x.least l))))
           ∙ ap (λ (k : ℕ). each_at (own a n f) w k (i + 1 + (count - i)) (p + (count - i) * w)) (let z : count - i - (count - i) ≡ 0 = omega arith in z))
 
-      pub ours_turn : {o' : List ℕ} (r : ℕ) → m ≡ n → Put o q (f (i + 1) p) o' r → Ours o' (i + 1) (p + w) r
+      pub ours_turn : {z : Out} → m ≡ n → Puts y (f (i + 1) p) z → Ours z (i + 1) (p + w)
       unfolding rows.mine
-      ours_turn r h t =
+      ours_turn h t =
           record {
-            rows = left_turn (own a n f) a w base count o₀ at l x.rows (said (rw (← e, eq-eqb m n h)) t);
+            rows = left_turn (own a n f) a w base count x₀ l x.rows (said (rw (← e, eq-eqb m n h)) t);
             place = omega (arith, x.place, add-mul i 1 w, one-mul w);
             least = λ k. omega (arith, x.least l, s.rise i (i + 1) (omega arith) (omega arith));
           }

@@ -1,5 +1,4 @@
-// Document 01, module 5, and document 02, P7: writing a whole session, after writer.rs, in two calls. Each put function puts its bytes into out
-// from at on; what finds no room is only counted.
+// Document 01, module 5, and document 02, P7: writing a whole session, after writer.rs, in two calls.
 #![tactic(auto)]
 
 ghost use Rattle.std.specs.Prelude.{◌≡◌, true, cond, ◌≤◌, ltb, length};
@@ -7,7 +6,7 @@ ghost use Rattle.sdp_lines.specs.Strings.{bytes_of};
 ghost use Rattle.sdp_area.specs.Area.{size};
 ghost use Rattle.sdp_valid.specs.Judge.{owners};
 ghost use Rattle.sdp_valid.specs.Counted.{Counted};
-ghost use Rattle.sdp_put.specs.Out.{Put};
+ghost use Rattle.sdp_put.specs.Puts.{Puts};
 ghost use Rattle.sdp_decode.specs.Decode.{decode};
 ghost use Rattle.sdp_row.specs.Written.{head_lines, written};
 ghost use Rattle.sdp_write.specs.Write.{answer, text_of, length_text, fill_text};
@@ -15,33 +14,33 @@ ghost use Rattle.sdp_write.specs.Write.{answer, text_of, length_text, fill_text}
 use sdp_area::{DESCRIPTION, NAME, URI};
 use sdp_length::length_of;
 use sdp_lines::Answer;
-use sdp_put::put_all;
+use sdp_put::Out;
 use sdp_room::room_for;
-use sdp_row::{put_maybe_line, put_origin, put_string_line};
+use sdp_row::{Source, put_maybe_line, put_origin, put_string_line};
 use sdp_tables::{put_closing, put_contact, put_medias};
 use sdp_unfit::unfit;
 
 // v, o, s, i, u.
-fn put_head(out: &mut [u8], at: usize, text: &[u8], area: &[u8]) -> usize
-    requires { size ≤ length area.now }
-    ensures { Put out.old at (head_lines (bytes_of text.now) (decode area.now).head) out.new result }
+fn put_head(out: &mut Out<'_>, s: Source<'_>)
+    requires { size ≤ length s.area.now }
+    ensures { Puts out.old (head_lines (bytes_of s.entry.text.now) (decode s.entry.area.now).head) out.new }
 {
-    let b = put_all(out, at, b"v=0\r\n");
-    let c = put_origin(out, b, text, area);
-    let d = put_string_line(out, c, b's', text, area, NAME);
-    let e = put_maybe_line(out, d, b'i', text, area, DESCRIPTION);
-    put_maybe_line(out, e, b'u', text, area, URI)
+    out.all(b"v=0\r\n");
+    put_origin(out, s);
+    put_string_line(out, b's', s, NAME);
+    put_maybe_line(out, b'i', s, DESCRIPTION);
+    put_maybe_line(out, b'u', s, URI);
 }
 
-fn put_session(out: &mut [u8], at: usize, text: &[u8], area: &[u8]) -> usize
-    requires counted { Counted area.now }
-    requires area_value { owners area.now ≡ true }
-    ensures { Put out.old at (written (bytes_of text.now) (decode area.now)) out.new result }
+fn put_session(out: &mut Out<'_>, s: Source<'_>)
+    requires counted { Counted s.area.now }
+    requires area_value { owners s.area.now ≡ true }
+    ensures { Puts out.old (written (bytes_of s.entry.text.now) (decode s.entry.area.now)) out.new }
 {
-    let b = put_head(out, at, text, area);
-    let c = put_contact(out, b, text, area);
-    let d = put_closing(out, c, text, area);
-    put_medias(out, d, text, area)
+    put_head(out, s);
+    put_contact(out, s);
+    put_closing(out, s);
+    put_medias(out, s);
 }
 
 fn told(number: u64, len: usize) -> Answer
@@ -95,6 +94,7 @@ pub fn fill(text: &[u8], area: &[u8], out: &mut [u8]) -> Answer
     if n != 0 {
         return told(22, n);
     }
-    let len = put_session(out, 0, text, area);
-    told(0, len)
+    let mut out = Out { bytes: out, at: 0 };
+    put_session(&mut out, Source { text, area });
+    told(0, out.at)
 }

@@ -1,6 +1,6 @@
 -- `sdp_row::put_maybe_line` meets its contract. Assumes nothing.
 use Rattle.sdp_row.proofs.LineLaws.{absent, present}
-use Rattle.sdp_put.proofs.OutLaws.{said, nothing}
+use Rattle.sdp_put.proofs.PutsLaws.{said, nothing}
 use Rattle.sdp_lines.specs.Strings.{bytes_of}
 use Rattle.sdp_row.specs.Written.{string_line}
 use Rattle.sdp_decode.specs.Decode.{span_of}
@@ -8,8 +8,8 @@ use Rattle.sdp_row.proofs.put_maybe_line.Goals as goal
 
 pub returns-then-get2-eq0 : goal.returns-then-get2-eq0
 returns-then-get2-eq0 c =
-    said (absent (string_line (bytes_of c.args.text.now) c.args.letter) span_of _ _ _ c.get2.ensures.0 c.if-get2-eq0.true) (nothing _ _)
+    said (absent (string_line (bytes_of c.args.s.text.now) c.args.letter) span_of _ _ _ c.get2.ensures.0 c.if-get2-eq0.true) (nothing _)
 
 pub returns : goal.returns
 returns c =
-    said (present (string_line (bytes_of c.args.text.now) c.args.letter) span_of _ _ _ c.get2.ensures.0 c.if-get2-eq0.false) c.put_string_line.ensures
+    said (present (string_line (bytes_of c.args.s.text.now) c.args.letter) span_of _ _ _ c.get2.ensures.0 c.if-get2-eq0.false) c.put_string_line.ensures

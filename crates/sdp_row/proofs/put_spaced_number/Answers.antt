@@ -1,6 +1,6 @@
 -- `sdp_row::put_spaced_number` meets its contract. Assumes nothing.
-use Rattle.sdp_put.proofs.OutLaws.{◌then◌}
+use Rattle.sdp_put.proofs.PutsLaws.{◌then◌}
 use Rattle.sdp_row.proofs.put_spaced_number.Goals as goal
 
 pub returns : goal.returns
-returns c = c.put_byte-b.ensures then c.put_number.ensures
+returns c = c.byte.ensures then c.number.ensures

@@ -1,65 +1,20 @@
 -- `sdp_tables::put_mine_of` meets its contract. Assumes nothing.
-use Rattle.sdp_tables.proofs.OwnerLaws.{ours_none, ours_begin, ours_turn, ours_stop, owner_width, from_inside}
-use Rattle.sdp_tables.proofs.RowLaws.{left_here, left_finish}
-use Rattle.sdp_table_row.specs.Rows.{row_text}
-use mathlib.Core.Path.{refl}
-use Prim.Native.Nat.{◌-◌}
-use native.Mathlib.Omega.{arith}
+use Rattle.sdp_tables.proofs.OwnerLaws.{ours_begin, ours_turn, ours_stop}
+use Rattle.sdp_tables.proofs.RowLaws.{left_finish}
 use Rattle.sdp_tables.proofs.put_mine_of.Goals as goal
 
--- an empty table
-pub returns-then-count-eq0 : goal.returns-then-count-eq0
-returns-then-count-eq0 c =
-    ours_none (row_text c.args.text.now c.args.area.now c.args.table) c.args.area.now c.args.base c.args.w c.args.n _ _ _ c.get2-count.ensures.0 c.if-count-eq0.true
-
-pub first_of-i-requires : goal.first_of-i-requires
-first_of-i-requires c =
-    record { le_w = (omega (arith, c.requires.w_value.0, owner_width c.args.table), c.requires.w_value.1, omega arith, omega (arith, c.get2-count.ensures.0)); never_fall = c.requires.never_fall }
-
 pub loop-i-init : goal.loop-i-init
-loop-i-init c =
-    (refl, ours_begin (row_text c.args.text.now c.args.area.now c.args.table) c.args.area.now c.args.base c.args.w c.args.n _ _ _ c.get2-count.ensures.0 _ c.requires.w_value.1 c.first_of-i.ensures)
+loop-i-init g c =
+    ours_begin g.text c.args.area.now c.args.base c.args.w c.args.n _ _ c.get2-count.ensures.0 _ c.requires.1.0.1 c.first_of-first.ensures
 
 -- another owner follows
 pub returns-then-get2-n : goal.returns-then-get2-n
-returns-then-get2-n c =
-    ours_stop (row_text c.args.text.now c.args.area.now c.args.table) c.args.area.now c.args.base c.args.w c.args.n _ _ _ c.get2-count.ensures.0 _ _ _ _ c.requires.never_fall c.loop-i-test.true c.get2.ensures.0 c.loop-i.invariant.1 c.if-get2-n.true
-
-pub get2-requires : goal.get2-requires
-get2-requires c =
-    let h = left_here _ _ _ _ _ _ _ c.loop-i-test.true c.loop-i.invariant.1.rows in
-    omega (arith, h, c.requires.w_value.0, owner_width c.args.table)
-
-pub put_row-q-requires : goal.put_row-q-requires
-put_row-q-requires c =
-    let h = left_here _ _ _ _ _ _ _ c.loop-i-test.true c.loop-i.invariant.1.rows in
-    omega (arith, h, c.requires.w_value.0)
-
-pub overflow_add-p-in-loop-i : goal.overflow_add-p-in-loop-i
-overflow_add-p-in-loop-i c =
-    let h = left_here _ _ _ _ _ _ _ c.loop-i-test.true c.loop-i.invariant.1.rows in
-    omega (arith, h, c.well_formed)
+returns-then-get2-n g c =
+    ours_stop g.text c.args.area.now c.args.base c.args.w c.args.n _ _ c.get2-count.ensures.0 _ _ _ c.requires.1.1.0 c.loop-i-test.true c.get2.ensures.0 c.loop-i.invariant c.if-get2-n.true
 
 pub loop-i-preserved : goal.loop-i-preserved
-loop-i-preserved c =
-    (omega arith, ours_turn (row_text c.args.text.now c.args.area.now c.args.table) c.args.area.now c.args.base c.args.w c.args.n _ _ _ c.get2-count.ensures.0 _ _ _ _ c.requires.never_fall c.loop-i-test.true c.get2.ensures.0 c.loop-i.invariant.1 _ c.if-get2-n.false c.put_row-q.ensures)
+loop-i-preserved g c =
+    ours_turn g.text c.args.area.now c.args.base c.args.w c.args.n _ _ c.get2-count.ensures.0 _ _ _ c.requires.1.1.0 c.loop-i-test.true c.get2.ensures.0 c.loop-i.invariant c.if-get2-n.false (c.requires.1.1.1.1 _ _ _ _ _ c.put_row.ensures)
 
 pub returns : goal.returns
-returns c = left_finish _ _ _ _ _ _ _ c.loop-i-test.false c.loop-i.invariant.1.rows
-
-pub overflow_add-p : goal.overflow_add-p
-overflow_add-p c = omega (arith, c.well_formed, c.requires.w_value)
-
-pub overflow_mul-p : goal.overflow_mul-p
-overflow_mul-p c =
-    let h = from_inside _ _ _ _ _ c.get2-count.ensures.0 c.first_of-i.ensures.high c.requires.w_value.1 in omega (arith, c.well_formed, h)
-
-pub overflow_add-p-2 : goal.overflow_add-p-2
-overflow_add-p-2 c =
-    let h = from_inside _ _ _ _ _ c.get2-count.ensures.0 c.first_of-i.ensures.high c.requires.w_value.1 in omega (arith, c.well_formed, h)
-
-pub shape_of-out-then-get2-n : goal.shape_of-out-then-get2-n
-shape_of-out-then-get2-n c = c.loop-i.invariant.0
-
-pub shape_of-out : goal.shape_of-out
-shape_of-out c = c.loop-i.invariant.0
+returns g c = left_finish _ _ _ _ _ _ c.loop-i-test.false c.loop-i.invariant.rows

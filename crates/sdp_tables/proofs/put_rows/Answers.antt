@@ -1,34 +1,17 @@
 -- `sdp_tables::put_rows` meets its contract. Assumes nothing.
 use Rattle.sdp_tables.proofs.RowLaws.{left_begin, left_here, left_turn, left_finish}
-use Rattle.sdp_table_row.specs.Rows.{row_text}
-use mathlib.Core.Path.{refl}
-use Prim.Native.Nat.{◌-◌}
-use native.Mathlib.Omega.{arith}
+use Rattle.std.proofs.Common.{rules}
 use Rattle.sdp_tables.proofs.put_rows.Goals as goal
 
 pub loop-i-init : goal.loop-i-init
-loop-i-init c =
-    (refl, left_begin (row_text c.args.text.now c.args.area.now c.args.table) c.args.area.now c.args.w c.args.base _ _ _ c.get2-count.ensures.0 c.requires.1)
-
-pub put_row-q-requires : goal.put_row-q-requires
-put_row-q-requires c =
-    let h = left_here _ _ _ _ _ _ _ c.loop-i-test.true c.loop-i.invariant.1 in
-    omega (arith, h, c.requires.0)
-
-pub overflow_add-p-in-loop-i : goal.overflow_add-p-in-loop-i
-overflow_add-p-in-loop-i c =
-    let h = left_here _ _ _ _ _ _ _ c.loop-i-test.true c.loop-i.invariant.1 in
-    omega (arith, h, c.well_formed)
+loop-i-init g c = left_begin g.text c.args.area.now c.args.w c.args.base _ _ c.get2-i-end.ensures.0 c.requires.1.0
 
 pub loop-i-preserved : goal.loop-i-preserved
-loop-i-preserved c =
-    (omega arith, left_turn _ _ _ _ _ _ _ c.loop-i-test.true c.loop-i.invariant.1 c.put_row-q.ensures)
+loop-i-preserved g c =
+    left_turn _ _ _ _ _ _ c.loop-i-test.true c.loop-i.invariant (c.requires.1.1.1 _ _ _ _ _ c.put_row.ensures)
 
 pub returns : goal.returns
-returns c = left_finish _ _ _ _ _ _ _ c.loop-i-test.false c.loop-i.invariant.1
+returns g c = left_finish _ _ _ _ _ _ c.loop-i-test.false c.loop-i.invariant
 
-pub overflow_add-p : goal.overflow_add-p
-overflow_add-p c = omega (arith, c.well_formed, c.requires)
-
-pub shape_of-out : goal.shape_of-out
-shape_of-out c = c.loop-i.invariant.0
+pub put_row-requires : goal.put_row-requires
+put_row-requires g c = let h = left_here _ _ _ _ _ _ c.loop-i-test.true c.loop-i.invariant in search rules

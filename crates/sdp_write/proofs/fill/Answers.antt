@@ -4,6 +4,7 @@ use Rattle.sdp_write.specs.Write.{text_of}
 use Rattle.sdp_unfit.proofs.UnfitLaws.{numbered, fit-counted, fit-owned}
 use mathlib.Core.Path.{refl, sym, ◌∙◌}
 use native.Mathlib.Omega.{arith}
+use Rattle.std.proofs.Common.{rules}
 use lib.ListN.{length}
 use Rattle.sdp_write.proofs.fill.Goals as goal
 
@@ -22,8 +23,8 @@ returns-then-n-ne0 c =
     let s = settled _ _ _ _ (out_short _ _ _ (sym c.in_default.ensures) _ n.0 (omega (arith, n.0, n.1))) c.told-then-n-ne0.ensures refl in
     record { value = s.0; out_after = s.1 }
 
-pub put_session-len-requires : goal.put_session-len-requires
-put_session-len-requires c =
+pub put_session-requires : goal.put_session-requires
+put_session-requires c =
     let f = sym c.in_default.ensures in record { counted = fit-counted _ _ f; area_value = fit-owned _ _ f }
 
 pub returns : goal.returns
@@ -32,6 +33,6 @@ returns c =
     let a = c.args.area.now in
     let o = c.args.out.now in
     let room = above_none (length o) (length (text_of t a)) _ c.above-n.ensures c.if-n-ne0.false in
-    let f = fits o _ (text_of t a) c.put_session-len.result room (omega arith) c.put_session-len.ensures in
-    let s = settled _ _ _ _ (all_written t a o (sym c.in_default.ensures) c.put_session-len.result f.0 (omega (arith, f.0, room))) c.told-2.ensures f.1 in
-    record { value = s.0; out_after = s.1 }
+    let f = fits o _ (text_of t a) c.put_session.new.out.at room (omega arith) c.put_session.ensures.put in
+    let s = settled _ _ _ _ (all_written t a o (sym c.in_default.ensures) c.put_session.new.out.at f.0 (omega (arith, f.0, room))) c.told-2.ensures f.1 in
+    record { value = s.0; out_after = let e = s.1 in let n = c.put_session.ensures.same in search rules }

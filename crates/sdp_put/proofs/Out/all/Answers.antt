@@ -1,0 +1,16 @@
+-- `sdp_put::Out::all` meets its contract. Assumes nothing.
+use Rattle.sdp_put.proofs.OutLaws.{put_part}
+use mathlib.Core.List.{◌++◌}
+use lib.ListN.{length, take, drop}
+use mathlib.Core.Path.{refl, ap, ◌∙◌}
+use native.Mathlib.Omega.{arith}
+use Rattle.sdp_put.proofs.Out.all.Goals as goal
+
+pub returns : goal.returns
+returns c =
+    record {
+      same = refl;
+      put = record {
+        puts = λ l h. (rw c.copy_from_slice.ensures.after (put_part _ _ _ _ _ _ c.min-at.ensures c.min-n.ensures (omega arith)), c.saturating_add-self.ensures);
+      };
+    }
