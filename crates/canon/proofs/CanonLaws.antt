@@ -43,6 +43,10 @@ told o o' bs r short long small p =
     let f = p.puts small (omega arith) in
     begins bs (drop (length bs) o) o' r (omega (arith, f.1)) (f.0 ∙ put_room bs o (omega arith))
 
+-- the output that was lent is o'
+pub told_in : (o o' o'' bs : List ℕ) (r : ℕ) → length bs ≤ 100 → 100 ≤ length o → length o < 2 ^ 64 → Put o 0 bs o' r → o'' ≡ o' → Holds bs o'' r
+told_in o o' o'' bs r short long small p e = rw e (told o o' bs r short long small p)
+
 -- ---- the two ways to print
 number_of_lem : {x y : Answer} → x ≡ y → y.number ≡ x.number
 number_of_lem e = sym (ap (λ (z : Answer). z.number) e)

@@ -81,12 +81,7 @@ impl Out<'_> {
     fn four_digits(&mut self, v: u64)
         ensures { Puts self.old (four_digits v) self.new }
     {
-        self.all(&[
-            digit(v / 1000),
-            digit(v / 100),
-            digit(v / 10),
-            digit(v),
-        ]);
+        self.all(&[digit(v / 1000), digit(v / 100), digit(v / 10), digit(v)]);
     }
 
     // A number of at most four digits.

@@ -34,12 +34,7 @@ pub fn put_string(out: &mut Out<'_>, s: Source<'_>, p: usize)
 }
 
 // A line of one string.
-pub fn put_string_line(
-    out: &mut Out<'_>,
-    letter: u8,
-    s: Source<'_>,
-    p: usize,
-)
+pub fn put_string_line(out: &mut Out<'_>, letter: u8, s: Source<'_>, p: usize)
     requires { p + 4 ≤ length s.area.now }
     ensures { Puts out.old (string_line (bytes_of s.entry.text.now) letter (span_of s.entry.area.now p)) out.new }
 {
@@ -49,12 +44,7 @@ pub fn put_string_line(
 }
 
 // A line of one string, where it is present.
-pub fn put_maybe_line(
-    out: &mut Out<'_>,
-    letter: u8,
-    s: Source<'_>,
-    p: usize,
-)
+pub fn put_maybe_line(out: &mut Out<'_>, letter: u8, s: Source<'_>, p: usize)
     requires { p + 6 ≤ length s.area.now }
     ensures { Puts out.old (optional (string_line (bytes_of s.entry.text.now) letter) (marked span_of s.entry.area.now p)) out.new }
 {

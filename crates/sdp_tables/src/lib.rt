@@ -18,7 +18,8 @@ use sdp_area::{
 use sdp_cells::{get2, get8};
 use sdp_put::Out;
 use sdp_row::{
-    Source, put_connection, put_maybe_line, put_media_line, put_session_connection, put_spaced_time, put_string_line, put_time_line,
+    Source, put_connection, put_maybe_line, put_media_line, put_session_connection,
+    put_spaced_time, put_string_line, put_time_line,
 };
 use sdp_table_row::{put_attribute, put_bandwidth, put_offset, put_zone};
 
@@ -97,7 +98,14 @@ fn put_repeat(out: &mut Out<'_>, s: Source<'_>, k: usize, p: usize)
     out.two(b'r', b'=');
     out.time(get8(s.area, p + 2) as u64);
     put_spaced_time(out, get8(s.area, p + 10) as u64);
-    put_mine_of(out, s.area, OFFSETS, 10, k, |out, _, p| put_offset(out, s, p));
+    put_mine_of(
+        out,
+        s.area,
+        OFFSETS,
+        10,
+        k,
+        |out, _, p| put_offset(out, s, p),
+    );
     out.two(13, 10);
 }
 
@@ -122,7 +130,13 @@ fn put_times(out: &mut Out<'_>, s: Source<'_>)
     if get2(s.area, TIMES) == 0 {
         return out.all(b"t=0 0\r\n");
     }
-    put_rows(out, s.area, TIMES, 16, |out, k, p| put_time_lines(out, s, k, p));
+    put_rows(
+        out,
+        s.area,
+        TIMES,
+        16,
+        |out, k, p| put_time_lines(out, s, k, p),
+    );
 }
 
 // e, p, c, b, each t with its r lines.
@@ -131,8 +145,20 @@ pub fn put_contact(out: &mut Out<'_>, s: Source<'_>)
     requires area_value { owners s.area.now ≡ true }
     ensures { Puts out.old (contact_lines (bytes_of s.entry.text.now) (decode s.entry.area.now)) out.new }
 {
-    put_rows(out, s.area, EMAILS, 4, |out, _, p| put_string_line(out, b'e', s, p));
-    put_rows(out, s.area, PHONES, 4, |out, _, p| put_string_line(out, b'p', s, p));
+    put_rows(
+        out,
+        s.area,
+        EMAILS,
+        4,
+        |out, _, p| put_string_line(out, b'e', s, p),
+    );
+    put_rows(
+        out,
+        s.area,
+        PHONES,
+        4,
+        |out, _, p| put_string_line(out, b'p', s, p),
+    );
     put_session_connection(out, s);
     put_bandwidths(out, s, 0);
     put_times(out, s);
@@ -156,7 +182,14 @@ fn put_bandwidths(out: &mut Out<'_>, s: Source<'_>, n: usize)
     requires area_value { owners s.area.now ≡ true }
     ensures { Puts out.old (bandwidths_of (bytes_of s.entry.text.now) (decode s.entry.area.now).tables.bandwidths n) out.new }
 {
-    put_mine_of(out, s.area, BANDWIDTHS, 14, n, |out, _, p| put_bandwidth(out, s, p));
+    put_mine_of(
+        out,
+        s.area,
+        BANDWIDTHS,
+        14,
+        n,
+        |out, _, p| put_bandwidth(out, s, p),
+    );
 }
 
 // The a lines of the owner n.
@@ -165,7 +198,14 @@ fn put_attributes(out: &mut Out<'_>, s: Source<'_>, n: usize)
     requires area_value { owners s.area.now ≡ true }
     ensures { Puts out.old (attributes_of (bytes_of s.entry.text.now) (decode s.entry.area.now).tables.attributes n) out.new }
 {
-    put_mine_of(out, s.area, ATTRIBUTES, 12, n, |out, _, p| put_attribute(out, s, p));
+    put_mine_of(
+        out,
+        s.area,
+        ATTRIBUTES,
+        12,
+        n,
+        |out, _, p| put_attribute(out, s, p),
+    );
 }
 
 // z, a.
