@@ -2,7 +2,7 @@
 use mathlib.Core.Path.{◌≡◌, refl, ap, ap₂, ◌∙◌}
 use mathlib.Core.Bool.{Bool, true, false, ◌&&◌}
 use mathlib.Core.List.{List}
-use Prim.Native.Nat.{ℕ, zero, suc, ◌+◌, ◌-◌, ◌≤◌, ◌<◌}
+use Prim.Native.Nat.{ℕ, zero, suc, ◌+◌, ◌*◌, ◌-◌, ◌≤◌, ◌<◌}
 use native.Mathlib.Omega.{arith}
 use lib.Dec.{eqb}
 use borrow.Author.Tests.{le-leb}
@@ -28,22 +28,26 @@ module _ (a : List ℕ) (m p : ℕ) where
   unfolding fine_field
   field_absent e = rw e
 
--- ---- a field of each media: n - i of them are left, their marks from m on and their lines from p on
-pub marks_all : (a : List ℕ) (n k m p : ℕ) → n ≡ k → fine_marks a k m p ≡ fine_marks a (n - 0) m p
-marks_all a n k m p e = ap (λ (j : ℕ). fine_marks a j m p) (let z : k ≡ n - 0 = omega arith in z)
+-- ---- a field of each media: n - i of them are left, that of the media i has its mark at m + i * 36 and its line at p + i * 2
+pub marks_all : (a : List ℕ) (n k m p : ℕ) → n ≡ k → fine_marks a k m p ≡ fine_marks a (n - 0) (m + 0 * 36) (p + 0 * 2)
+marks_all a n k m p e =
+    ap (λ (j : ℕ). fine_marks a j m p) (let z : k ≡ n - 0 = omega arith in z)
+    ∙ ap₂ (fine_marks a (n - 0)) (let z : m ≡ m + 0 * 36 = omega arith in z) (let z : p ≡ p + 0 * 2 = omega arith in z)
 
 module _ (a : List ℕ) (n i m p : ℕ) where
-  pub marks_more : i < n → fine_field a m p ≡ true → fine_marks a (n - i) m p ≡ fine_marks a (n - (i + 1)) (m + 36) (p + 2)
+  pub marks_more : i < n → fine_field a (m + i * 36) (p + i * 2) ≡ true → fine_marks a (n - i) (m + i * 36) (p + i * 2) ≡ fine_marks a (n - (i + 1)) (m + (i + 1) * 36) (p + (i + 1) * 2)
   unfolding fine_marks
-  marks_more h e = ap (λ (j : ℕ). fine_marks a j m p) (left_one n i h) ∙ rw e
+  marks_more h e =
+      ap (λ (j : ℕ). fine_marks a j (m + i * 36) (p + i * 2)) (left_one n i h)
+      ∙ rw e (ap₂ (fine_marks a (n - (i + 1))) (let z : m + i * 36 + 36 ≡ m + (i + 1) * 36 = omega arith in z) (let z : p + i * 2 + 2 ≡ p + (i + 1) * 2 = omega arith in z))
 
-  pub marks_not : i < n → fine_field a m p ≡ false → fine_marks a (n - i) m p ≡ false
+  pub marks_not : i < n → fine_field a (m + i * 36) (p + i * 2) ≡ false → fine_marks a (n - i) (m + i * 36) (p + i * 2) ≡ false
   unfolding fine_marks
-  marks_not h e = ap (λ (j : ℕ). fine_marks a j m p) (left_one n i h) ∙ rw e
+  marks_not h e = ap (λ (j : ℕ). fine_marks a j (m + i * 36) (p + i * 2)) (left_one n i h) ∙ rw e
 
-  pub marks_none : n ≤ i → fine_marks a (n - i) m p ≡ true
+  pub marks_none : n ≤ i → fine_marks a (n - i) (m + i * 36) (p + i * 2) ≡ true
   unfolding fine_marks
-  marks_none h = ap (λ (j : ℕ). fine_marks a j m p) (left_none n i h)
+  marks_none h = ap (λ (j : ℕ). fine_marks a j (m + i * 36) (p + i * 2)) (left_none n i h)
 
 -- ---- no cell of the area has a line above the limit
 cell_next : (i : ℕ) → cell_at i + 2 ≡ cell_at (i + 1)

@@ -16,8 +16,10 @@ use sdp_area::{
     URI_LINE, ZONE_LINES, ZONES,
 };
 use sdp_cells::{get2, marked};
+use sdp_valid::every_at;
 
 // The line in a cell.
+#[tactic(auto, unfolding(crate::specs::Fine::fine_line))]
 fn fine_line(area: &[u8], p: usize) -> bool
     requires { p + 2 ≤ length area.now }
     ensures { result ≡ fine_line area.now p }
@@ -26,14 +28,12 @@ fn fine_line(area: &[u8], p: usize) -> bool
 }
 
 // The line of a field, by its mark. What is absent is not judged.
+#[tactic(auto, unfolding(crate::specs::Fine::fine_field))]
 fn fine_field(area: &[u8], mark: usize, p: usize) -> bool
     requires { (mark + 2 ≤ length area.now) × (p + 2 ≤ length area.now) }
     ensures { result ≡ fine_field area.now mark p }
 {
-    if marked(area, mark) {
-        return fine_line(area, p);
-    }
-    true
+    !marked(area, mark) || fine_line(area, p)
 }
 
 // The lines of the table at base, whose column begins at a place.
@@ -41,17 +41,7 @@ fn fine_column(area: &[u8], base: usize, at: usize) -> bool
     requires { (base + 2 ≤ length area.now) × (at + num 2 area.now base * 2 ≤ length area.now) }
     ensures { result ≡ fine_column area.now base at }
 {
-    let n = get2(area, base);
-    let mut p = at;
-    let mut i: usize = 0;
-    while i < n {
-        if !fine_line(area, p) {
-            return false;
-        }
-        p += 2;
-        i += 1;
-    }
-    true
+    every_at(get2(area, base), 2, at, |p| fine_line(area, p))
 }
 
 // The lines of a field of each media; the mark of the first one stands at a place, and so does its line.
@@ -60,60 +50,58 @@ fn fine_marks(area: &[u8], mark: usize, at: usize) -> bool
     ensures { result ≡ fine_marks area.now (num 2 area.now medias_at) mark at }
 {
     let n = get2(area, MEDIAS);
-    let mut m = mark;
-    let mut p = at;
-    let mut i: usize = 0;
-    while i < n {
-        if !fine_field(area, m, p) {
+    for i in 0..n {
+        if !fine_field(area, mark + i * 36, at + i * 2) {
             return false;
         }
-        m += 36;
-        p += 2;
-        i += 1;
     }
     true
 }
 
+#[tactic(auto, unfolding(crate::specs::Fine::fine_fields))]
 fn fine_fields(area: &[u8]) -> bool
     requires { area_size ≤ length area.now }
     ensures { result ≡ fine_fields area.now }
 {
     fine_field(area, ORIGIN, ORIGIN_LINE)
-        & (fine_line(area, NAME_LINE)
-            & (fine_field(area, DESCRIPTION, DESCRIPTION_LINE)
-                & (fine_field(area, URI, URI_LINE)
-                    & (fine_field(area, CONNECTION, CONNECTION_LINE)
-                        & fine_field(area, KEY, KEY_LINE)))))
+        && fine_line(area, NAME_LINE)
+        && fine_field(area, DESCRIPTION, DESCRIPTION_LINE)
+        && fine_field(area, URI, URI_LINE)
+        && fine_field(area, CONNECTION, CONNECTION_LINE)
+        && fine_field(area, KEY, KEY_LINE)
 }
 
+#[tactic(auto, unfolding(crate::specs::Fine::fine_columns))]
 fn fine_columns(area: &[u8]) -> bool
     requires { Counted area.now × (area_size ≤ length area.now) }
     ensures { result ≡ fine_columns area.now }
 {
     fine_column(area, EMAILS, EMAIL_LINES)
-        & (fine_column(area, PHONES, PHONE_LINES)
-            & (fine_column(area, CONNECTIONS, CONNECTION_LINES)
-                & (fine_column(area, BANDWIDTHS, BANDWIDTH_LINES)
-                    & (fine_column(area, TIMES, TIME_LINES)
-                        & (fine_column(area, REPEATS, REPEAT_LINES)
-                            & (fine_column(area, OFFSETS, OFFSET_LINES)
-                                & (fine_column(area, ZONES, ZONE_LINES)
-                                    & (fine_column(area, ATTRIBUTES, ATTRIBUTE_LINES)
-                                        & fine_column(area, MEDIAS, MEDIA_LINES)))))))))
+        && fine_column(area, PHONES, PHONE_LINES)
+        && fine_column(area, CONNECTIONS, CONNECTION_LINES)
+        && fine_column(area, BANDWIDTHS, BANDWIDTH_LINES)
+        && fine_column(area, TIMES, TIME_LINES)
+        && fine_column(area, REPEATS, REPEAT_LINES)
+        && fine_column(area, OFFSETS, OFFSET_LINES)
+        && fine_column(area, ZONES, ZONE_LINES)
+        && fine_column(area, ATTRIBUTES, ATTRIBUTE_LINES)
+        && fine_column(area, MEDIAS, MEDIA_LINES)
 }
 
 // Titles and keys: their marks stand at 18 and at 24 of a media's row.
+#[tactic(auto, unfolding(crate::specs::Fine::media_columns))]
 fn media_columns(area: &[u8]) -> bool
     requires { Counted area.now × (area_size ≤ length area.now) }
     ensures { result ≡ media_columns area.now }
 {
-    fine_marks(area, MEDIAS + 20, TITLE_LINES) & fine_marks(area, MEDIAS + 26, KEY_LINES)
+    fine_marks(area, MEDIAS + 20, TITLE_LINES) && fine_marks(area, MEDIAS + 26, KEY_LINES)
 }
 
 // Whether every line of a counted row and of a present field is at most the limit.
+#[tactic(auto, unfolding(crate::specs::Fine::fine_lines))]
 pub fn lines_fine(area: &[u8]) -> bool
     requires { Counted area.now × (area_size ≤ length area.now) }
     ensures { result ≡ fine_lines area.now }
 {
-    fine_fields(area) & (fine_columns(area) & media_columns(area))
+    fine_fields(area) && fine_columns(area) && media_columns(area)
 }

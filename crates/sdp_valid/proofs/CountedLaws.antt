@@ -71,10 +71,6 @@ module _ (a : List ℕ) (c : Counted a) where
   pub medias_inside : Inside a medias_at 36
   medias_inside = omega (arith, c.whole, large_within.4)
 
--- ---- a row whose kind is known lies in the area; the kinds of rows have their widths
-pub kind_inside : {K : Type 0} (width : K → ℕ) (k k' : K) (p end : ℕ) → k ≡ k' → p + width k ≤ end → p + width k' ≤ end
-kind_inside width k k' p end e h = rw (← e) h
-
 -- ---- the rows that are left: n - i of them, from p on, before the end
 -- all rows at first
 pub all_inside : (a : List ℕ) (base w n : ℕ) → n ≡ num 2 a base → Inside a base w → base + 2 + (n - 0) * w ≤ length a

@@ -11,10 +11,8 @@ use Rattle.sdp_cells.specs.Bytes as bytes
 use Rattle.sdp_cells.specs.Bytes.{num}
 use Rattle.sdp_area.specs.Area.{size, origin_at, name_at, description_at, uri_at, connection_at, key_at}
 use Rattle.sdp_area.specs.Area.{emails_at, phones_at, connections_at, bandwidths_at, times_at, repeats_at, offsets_at, zones_at, attributes_at, medias_at}
-use Rattle.sdp_valid.specs.Judge.{every_at, judged, fine_if, rising, owned, rows, small_counts, large_counts, owners, fine_string, fine_origin, fine_connection, fine_pair, fine_media, fine_row, fine_head, fine_tables, well_formed}
-use Rattle.sdp_valid.specs.Counted.{Counted, Inside, width_of}
-use Rattle.sdp_valid.specs.declared.Row.{Row}
-use Rattle.sdp_valid.specs.declared.Row.TheVariants.{Plain, Connection, Bandwidth, Attribute, Media}
+use Rattle.sdp_valid.specs.Judge.{every_at, judged, fine_if, rising, owned, rows, small_counts, large_counts, owners, fine_string, fine_origin, fine_connection, fine_pair, fine_media, fine_head, fine_tables, well_formed}
+use Rattle.sdp_valid.specs.Counted.{Counted, Inside}
 use Rattle.sdp_valid.proofs.JudgeLaws.{small_no, large_no, counts_known}
 use Rattle.sdp_valid.proofs.CountedLaws.{emails_inside, phones_inside, connections_inside, bandwidths_inside, repeats_inside, offsets_inside, attributes_inside, medias_inside}
 
@@ -75,15 +73,9 @@ module _ (a b : List ℕ) (same : (p : ℕ) → p + 2 ≤ length a → num 2 b p
         (ap₂ ◌&&◌ (string_same (p + 14) (omega arith))
         (ap₂ ◌&&◌ (maybe_same (p + 18) (omega arith)) (if_same (fine_pair b t) (fine_pair a t) 10 pair_same (p + 24) (omega arith))))))
 
-    row_same : (r : Row) (p : ℕ) → p + width_of r ≤ length a → fine_row b t r p ≡ fine_row a t r p
-    row_same Plain p h = string_same p h
-    row_same Connection p h = connection_same (p + 2) (omega arith)
-    row_same Bandwidth p h = string_same (p + 2) (omega arith)
-    row_same Attribute p h = pair_same (p + 2) (omega arith)
-    row_same Media p h = media_same p h
-
-    rows_same : (r : Row) (base : ℕ) → Inside a base (width_of r) → rows b (fine_row b t r) base (width_of r) ≡ rows a (fine_row a t r) base (width_of r)
-    rows_same r base h = rw (same base (omega arith)) (every_same (fine_row b t r) (fine_row a t r) (width_of r) (length a) (row_same r) (num 2 a base) (base + 2) h)
+  -- ---- the rows of a table
+  rows_same : (f g : ℕ → Bool) (base w : ℕ) → ((p : ℕ) → p + w ≤ length a → f p ≡ g p) → Inside a base w → rows b f base w ≡ rows a g base w
+  rows_same f g base w e h = rw (same base (omega arith)) (every_same f g w (length a) e (num 2 a base) (base + 2) h)
 
   -- ---- the parts of a session
   module _ (whole : size ≤ length a) where
@@ -121,11 +113,12 @@ module _ (a b : List ℕ) (same : (p : ℕ) → p + 2 ≤ length a → num 2 b p
     tables_same : (t : List ℕ) → fine_tables b t ≡ fine_tables a t
     unfolding fine_tables
     tables_same t =
-        ap₂ ◌&&◌ (rows_same t Plain emails_at (emails_inside a c))
-        (ap₂ ◌&&◌ (rows_same t Plain phones_at (phones_inside a c))
-        (ap₂ ◌&&◌ (rows_same t Connection connections_at (connections_inside a c))
-        (ap₂ ◌&&◌ (rows_same t Bandwidth bandwidths_at (bandwidths_inside a c))
-        (ap₂ ◌&&◌ (rows_same t Attribute attributes_at (attributes_inside a c)) (rows_same t Media medias_at (medias_inside a c))))))
+        ap₂ ◌&&◌ (rows_same (fine_string b t) (fine_string a t) emails_at 4 (string_same t) (emails_inside a c))
+        (ap₂ ◌&&◌ (rows_same (fine_string b t) (fine_string a t) phones_at 4 (string_same t) (phones_inside a c))
+        (ap₂ ◌&&◌ (rows_same _ _ connections_at 14 (λ p h. connection_same t (p + 2) (omega arith)) (connections_inside a c))
+        (ap₂ ◌&&◌ (rows_same _ _ bandwidths_at 14 (λ p h. string_same t (p + 2) (omega arith)) (bandwidths_inside a c))
+        (ap₂ ◌&&◌ (rows_same _ _ attributes_at 12 (λ p h. pair_same t (p + 2) (omega arith)) (attributes_inside a c))
+        (rows_same (fine_media b t) (fine_media a t) medias_at 36 (media_same t) (medias_inside a c))))))
 
   -- ---- the whole, by what the counts are: rows of a table with too high a count are not looked at
   formed_same : (t : List ℕ) → size ≤ length a → well_formed b t ≡ well_formed a t

@@ -1,8 +1,9 @@
 -- Strings, rows and owners, judged one after the other. Assumes nothing.
-use mathlib.Core.Path.{◌≡◌, ap, ◌∙◌}
-use mathlib.Core.Bool.{Bool, true, false, ◌&&◌, ◌||◌, and-true, and-false}
+use mathlib.Core.Path.{◌≡◌, ap, ap₂, ◌∙◌}
+use mathlib.Core.Bool.{Bool, true, false, ◌&&◌, ◌||◌, and-false}
 use mathlib.Core.List.{List}
-use Prim.Native.Nat.{ℕ, suc, ◌+◌, ◌-◌, ◌≤◌, ◌<◌}
+use Prim.Native.Nat.{ℕ, suc, ◌+◌, ◌*◌, ◌-◌, ◌≤◌, ◌<◌}
+use native.Mathlib.Nat.{add-mul}
 use native.Mathlib.Omega.{arith}
 use lib.ListN.{length, take, drop}
 use lib.Dec.{eqb}
@@ -27,18 +28,17 @@ module _ (a t : List ℕ) (p place len : ℕ) (e : place ≡ num 2 a p) (l : len
 
 -- ---- what is marked: the mark is m, and the rest of it is judged by b
 module _ (m k : ℕ) (b : Bool) (e : k ≡ m) where
-  pub if_absent : k ≡ 0 → true ≡ judged m b
+  pub if_absent : k ≡ 0 → eqb k 0 ≡ judged m b
   unfolding judged
   if_absent z = rw (← e, z)
 
-  pub if_present : (k ≡ 0 → ⊥) → (r : Bool) → r ≡ b → (eqb k 1 && r) ≡ judged m b
+  pub if_present : k ≡ 1 → (r : Bool) → r ≡ b → r ≡ judged m b
   unfolding judged
-  if_present z r q = rw (← e, ← q, ne_eqb k 0 z)
+  if_present z r q = rw (← e, z) q
 
--- a mark and nothing more
-pub mark_only : (m k : ℕ) → k ≡ m → (eqb k 0 || eqb k 1) ≡ judged m true
-unfolding judged
-mark_only m k e = rw (← e, and-true)
+  pub if_neither : (k ≡ 0 → ⊥) → (k ≡ 1 → ⊥) → eqb k 1 ≡ judged m b
+  unfolding judged
+  if_neither z o = rw (← e, ne_eqb k 0 z, ne_eqb k 1 o)
 
 -- ---- the rows that are left: n - i of them, from p on
 pub left_one : (n i : ℕ) → i < n → n - i ≡ suc (n - (i + 1))
@@ -47,46 +47,54 @@ left_one n i h = omega arith
 pub left_none : (n i : ℕ) → n ≤ i → n - i ≡ 0
 left_none n i h = omega arith
 
-pub every_all : (f : ℕ → Bool) (w n m p : ℕ) → n ≡ m → every_at f w m p ≡ every_at f w (n - 0) p
-every_all f w n m p e = ap (λ (k : ℕ). every_at f w k p) (let z : m ≡ n - 0 = omega arith in z)
+-- the place of the row i
+pub row_none : (p w : ℕ) → p ≡ p + 0 * w
+row_none p w = omega arith
+
+pub row_next : (p i w : ℕ) → p + i * w + w ≡ p + (i + 1) * w
+row_next p i w = omega (arith, add-mul i 1 w)
+
+pub every_all : (f : ℕ → Bool) (w n p : ℕ) → every_at f w n p ≡ every_at f w (n - 0) (p + 0 * w)
+every_all f w n p = ap₂ (every_at f w) (let z : n ≡ n - 0 = omega arith in z) (row_none p w)
 
 module _ (f : ℕ → Bool) (w n i p : ℕ) where
-  pub every_more : i < n → f p ≡ true → every_at f w (n - i) p ≡ every_at f w (n - (i + 1)) (p + w)
+  pub every_more : i < n → f (p + i * w) ≡ true → every_at f w (n - i) (p + i * w) ≡ every_at f w (n - (i + 1)) (p + (i + 1) * w)
   unfolding every_at
-  every_more h e = ap (λ (k : ℕ). every_at f w k p) (left_one n i h) ∙ rw e
+  every_more h e =
+      ap (λ (k : ℕ). every_at f w k (p + i * w)) (left_one n i h)
+      ∙ (rw e (ap (every_at f w (n - (i + 1))) (row_next p i w)))
 
-  pub every_not : i < n → f p ≡ false → every_at f w (n - i) p ≡ false
+  pub every_not : i < n → f (p + i * w) ≡ false → every_at f w (n - i) (p + i * w) ≡ false
   unfolding every_at
-  every_not h e = ap (λ (k : ℕ). every_at f w k p) (left_one n i h) ∙ rw e
+  every_not h e = ap (λ (k : ℕ). every_at f w k (p + i * w)) (left_one n i h) ∙ rw e
 
-  pub every_none : n ≤ i → every_at f w (n - i) p ≡ true
+  pub every_none : n ≤ i → every_at f w (n - i) (p + i * w) ≡ true
   unfolding every_at
-  every_none h = ap (λ (k : ℕ). every_at f w k p) (left_none n i h)
+  every_none h = ap (λ (k : ℕ). every_at f w k (p + i * w)) (left_none n i h)
 
 -- ---- owners
-pub rising_all : (a : List ℕ) (w most n m lo p : ℕ) → n ≡ m → rising a w most m lo p ≡ rising a w most (n - 0) lo p
-rising_all a w most n m lo p e = ap (λ (k : ℕ). rising a w most k lo p) (let z : m ≡ n - 0 = omega arith in z)
-
-pub rising_most : (a : List ℕ) (w n lo p most m : ℕ) (r : Bool) → r ≡ rising a w most n lo p → most ≡ m → r ≡ rising a w m n lo p
-rising_most a w n lo p most m r e h = rw (← h) e
+pub rising_all : (a : List ℕ) (w most n m lo p : ℕ) → n ≡ m → rising a w most m lo p ≡ rising a w most (n - 0) lo (p + 0 * w)
+rising_all a w most n m lo p e = ap₂ (λ (k q : ℕ). rising a w most k lo q) (let z : m ≡ n - 0 = omega arith in z) (row_none p w)
 
 module _ (a : List ℕ) (w most n i lo p : ℕ) where
-  module _ (o : ℕ) (h : i < n) (e : o ≡ num 2 a p) where
-    pub rising_more : lo ≤ o → o ≤ most → rising a w most (n - i) lo p ≡ rising a w most (n - (i + 1)) o (p + w)
+  module _ (o : ℕ) (h : i < n) (e : o ≡ num 2 a (p + i * w)) where
+    pub rising_more : lo ≤ o → o ≤ most → rising a w most (n - i) lo (p + i * w) ≡ rising a w most (n - (i + 1)) o (p + (i + 1) * w)
     unfolding rising
-    rising_more l m = ap (λ (k : ℕ). rising a w most k lo p) (left_one n i h) ∙ rw (← e, le-leb lo o l, le-leb o most m)
+    rising_more l m =
+        ap (λ (k : ℕ). rising a w most k lo (p + i * w)) (left_one n i h)
+        ∙ rw (← e, le-leb lo o l, le-leb o most m) (ap (rising a w most (n - (i + 1)) o) (row_next p i w))
 
-    pub rising_falls : o < lo → rising a w most (n - i) lo p ≡ false
+    pub rising_falls : o < lo → rising a w most (n - i) lo (p + i * w) ≡ false
     unfolding rising
-    rising_falls l = ap (λ (k : ℕ). rising a w most k lo p) (left_one n i h) ∙ rw (← e, lt-leb lo o l)
+    rising_falls l = ap (λ (k : ℕ). rising a w most k lo (p + i * w)) (left_one n i h) ∙ rw (← e, lt-leb lo o l)
 
-    pub rising-past : most < o → rising a w most (n - i) lo p ≡ false
+    pub rising-past : most < o → rising a w most (n - i) lo (p + i * w) ≡ false
     unfolding rising
-    rising-past m = ap (λ (k : ℕ). rising a w most k lo p) (left_one n i h) ∙ rw (← e, lt-leb o most m, and-false)
+    rising-past m = ap (λ (k : ℕ). rising a w most k lo (p + i * w)) (left_one n i h) ∙ rw (← e, lt-leb o most m, and-false)
 
-  pub rising_none : n ≤ i → rising a w most (n - i) lo p ≡ true
+  pub rising_none : n ≤ i → rising a w most (n - i) lo (p + i * w) ≡ true
   unfolding rising
-  rising_none h = ap (λ (k : ℕ). rising a w most k lo p) (left_none n i h)
+  rising_none h = ap (λ (k : ℕ). rising a w most k lo (p + i * w)) (left_none n i h)
 
 -- ---- the whole
 module _ (a t : List ℕ) where
@@ -97,10 +105,6 @@ module _ (a t : List ℕ) where
   pub large_no : large_counts a ≡ false → well_formed a t ≡ false
   unfolding well_formed
   large_no e = rw (e, and-false)
-
-  pub counts_yes : Counted a → well_formed a t ≡ (owners a && (fine_head a t && fine_tables a t))
-  unfolding well_formed
-  counts_yes c = rw (c.small, c.large)
 
 pub counts_known : (a : List ℕ) → size ≤ length a → small_counts a ≡ true → large_counts a ≡ true → Counted a
 counts_known a h e f = record { whole = h; small = e; large = f }

@@ -3,8 +3,6 @@ use Rattle.std.specs.Prelude.{◌≡◌, true, List, ℕ, ◌+◌, ◌*◌, ◌�
 use Rattle.sdp_cells.specs.Bytes.{num}
 use Rattle.sdp_area.specs.Area.{size}
 use Rattle.sdp_valid.specs.Judge.{small_counts, large_counts}
-use Rattle.sdp_valid.specs.declared.Row.{Row}
-use Rattle.sdp_valid.specs.declared.Row.TheVariants.{Plain, Connection, Bandwidth, Attribute, Media}
 
 -- the area is long enough, and no count is above its table
 pub record Counted (a : List ℕ) : Type 0 where
@@ -15,11 +13,3 @@ pub record Counted (a : List ℕ) : Type 0 where
 -- the rows of the table at base, of w bytes each, lie in the area
 abbrev pub Inside : List ℕ → ℕ → ℕ → Type 0
 Inside a base w = base + 2 + num 2 a base * w ≤ length a
-
--- the bytes of a row of each kind
-abbrev pub width_of : Row → ℕ
-width_of Plain = 4
-width_of Connection = 14
-width_of Bandwidth = 14
-width_of Attribute = 12
-width_of Media = 36

@@ -6,8 +6,6 @@ use Rattle.sdp_utf8.specs.Utf8.{is_utf8}
 use Rattle.sdp_cells.specs.Bytes.{num}
 use Rattle.sdp_area.specs.Area.{origin_at, name_at, description_at, uri_at, connection_at, key_at}
 use Rattle.sdp_area.specs.Area.{emails_at, phones_at, connections_at, bandwidths_at, times_at, repeats_at, offsets_at, zones_at, attributes_at, medias_at}
-use Rattle.sdp_valid.specs.declared.Row.{Row}
-use Rattle.sdp_valid.specs.declared.Row.TheVariants.{Plain, Connection, Bandwidth, Attribute, Media}
 
 -- f holds at the places of n rows of w bytes each, from p on: "Cells past a count .. aren't judged."
 unfoldable pub every_at : (ℕ → Bool) → ℕ → ℕ → ℕ → Bool
@@ -89,14 +87,6 @@ module _ (a : List ℕ) where
         && (fine_string (p + 10)
         && (fine_string (p + 14) && (fine_if fine_string (p + 18) && fine_if fine_pair (p + 24)))))
 
-    -- a row of each kind; the owner of a c, b or a line stands in its first two bytes
-    abbrev pub fine_row : Row → ℕ → Bool
-    fine_row Plain p = fine_string p
-    fine_row Connection p = fine_connection (p + 2)
-    fine_row Bandwidth p = fine_string (p + 2)
-    fine_row Attribute p = fine_pair (p + 2)
-    fine_row Media p = fine_media p
-
     -- what a session has at most once
     unfoldable pub fine_head : Bool
     fine_head =
@@ -105,14 +95,14 @@ module _ (a : List ℕ) where
         && (fine_if fine_string description_at
         && (fine_if fine_string uri_at && (fine_if fine_connection connection_at && fine_if fine_pair key_at))))
 
-    -- the tables with strings
+    -- the tables with strings; the owner of a c, b or a line stands in the first two bytes of its row
     unfoldable pub fine_tables : Bool
     fine_tables =
-        rows (fine_row Plain) emails_at 4
-        && (rows (fine_row Plain) phones_at 4
-        && (rows (fine_row Connection) connections_at 14
-        && (rows (fine_row Bandwidth) bandwidths_at 14
-        && (rows (fine_row Attribute) attributes_at 12 && rows (fine_row Media) medias_at 36))))
+        rows fine_string emails_at 4
+        && (rows fine_string phones_at 4
+        && (rows (λ p. fine_connection (p + 2)) connections_at 14
+        && (rows (λ p. fine_string (p + 2)) bandwidths_at 14
+        && (rows (λ p. fine_pair (p + 2)) attributes_at 12 && rows fine_media medias_at 36))))
 
     -- all is well: else 23. "a number is out of its Rust type" can't occur, every cell of 2 or 8 bytes is a u16 or u64 or i64
     unfoldable pub well_formed : Bool
