@@ -6,21 +6,7 @@ use Rattle.sdp_lines.specs.Strings.{bytes_of}
 use Rattle.sdp_put.specs.Digits.{time_text}
 use Rattle.sdp_decode.specs.Decode.{span_of, connection_of, bandwidth_of, time_of, repeat_of, offset_of, zone_of, attribute_of, media_of, times_in, zones_in, decode}
 use Rattle.sdp_row.specs.Written.{line, spaced, optional, time_value, repeat_line, times_lines, zone_text, zones_line, string_line, connection_line, bandwidth_line, attribute_line, media_line, head_lines}
-use Rattle.sdp_room.specs.Room.{sum_at}
-use Rattle.sdp_length.specs.declared.Kind.{Kind}
-use Rattle.sdp_length.specs.declared.Kind.TheVariants.{Plain, Connection, Bandwidth, Attribute, Media, Time, Repeat, Offset, Zone}
-
--- the bytes of a row of each kind in the area
-abbrev pub width_of : Kind → ℕ
-width_of Plain = 4
-width_of Connection = 14
-width_of Bandwidth = 14
-width_of Attribute = 12
-width_of Media = 36
-width_of Time = 16
-width_of Repeat = 18
-width_of Offset = 10
-width_of Zone = 16
+use Rattle.sdp_room.specs.Room.{sum_rows}
 
 module _ (a : List ℕ) where
   -- a t line
@@ -44,21 +30,21 @@ module _ (t a : List ℕ) where
   abbrev pub media_length : ℕ → ℕ
   media_length p = length (media_line (bytes_of t) (media_of a p)) + length (optional (string_line (bytes_of t) 0x69) (media_of a p).media_title)
 
-  -- a row of each kind; a p line is as long as an e line
-  abbrev pub row_length : Kind → ℕ → ℕ
-  row_length Plain p = length (string_line (bytes_of t) 0x65 (span_of a p))
-  row_length Connection p = length (connection_line (bytes_of t) (connection_of a (p + 2)))
-  row_length Bandwidth p = length (bandwidth_line (bytes_of t) (bandwidth_of a p))
-  row_length Attribute p = length (attribute_line (bytes_of t) (attribute_of a p))
-  row_length Media p = media_length p
-  row_length Time p = time_length a p
-  row_length Repeat p = repeat_length a p
-  row_length Offset p = offset_length a p
-  row_length Zone p = zone_length a p
+  -- an e line; a p line is as long
+  abbrev pub contact_length : ℕ → ℕ
+  contact_length p = length (string_line (bytes_of t) 0x65 (span_of a p))
 
-  -- the rows of the table at base
-  abbrev pub rows_length : Kind → ℕ → ℕ → ℕ
-  rows_length kind base w = sum_at (row_length kind) w (num 2 a base) (base + 2)
+  -- a c line of a media; the owner stands in the first two bytes of its row
+  abbrev pub media_connection_length : ℕ → ℕ
+  media_connection_length p = length (connection_line (bytes_of t) (connection_of a (p + 2)))
+
+  -- a b line
+  abbrev pub bandwidth_length : ℕ → ℕ
+  bandwidth_length p = length (bandwidth_line (bytes_of t) (bandwidth_of a p))
+
+  -- an a line
+  abbrev pub attribute_length : ℕ → ℕ
+  attribute_length p = length (attribute_line (bytes_of t) (attribute_of a p))
 
   -- v, o, s, i, u, c
   unfoldable pub head_length : ℕ
@@ -68,14 +54,14 @@ module _ (t a : List ℕ) where
   -- t, r with its offsets, z: numbers only
   unfoldable pub when_length : ℕ
   when_length =
-      length (times_lines [] [] (times_in a)) + rows_length Repeat repeats_at 18 + rows_length Offset offsets_at 10 + length (zones_line (zones_in a))
+      length (times_lines [] [] (times_in a)) + sum_rows a (repeat_length a) repeats_at 18 + sum_rows a (offset_length a) offsets_at 10 + length (zones_line (zones_in a))
 
   -- the tables with strings
   unfoldable pub tables_length : ℕ
   tables_length =
-      rows_length Plain emails_at 4
-      + rows_length Plain phones_at 4
-      + rows_length Connection connections_at 14
-      + rows_length Bandwidth bandwidths_at 14
-      + rows_length Attribute attributes_at 12
-      + rows_length Media medias_at 36
+      sum_rows a contact_length emails_at 4
+      + sum_rows a contact_length phones_at 4
+      + sum_rows a media_connection_length connections_at 14
+      + sum_rows a bandwidth_length bandwidths_at 14
+      + sum_rows a attribute_length attributes_at 12
+      + sum_rows a media_length medias_at 36

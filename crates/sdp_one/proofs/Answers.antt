@@ -94,6 +94,7 @@ use Rattle.sdp_decode.proofs.num8.Reads as sdpDecodeNum8
 use Rattle.sdp_valid.proofs.judge.Reads as sdpValidJudge
 use Rattle.sdp_stamp_valid.proofs.lines_fine.Reads as sdpStampValidLinesFine
 use Rattle.sdp_unfit.proofs.unfit.Reads as sdpUnfitUnfit
+use Rattle.sdp_unfit.proofs.u64FromMisfit.from.Reads as sdpUnfitNumberOf
 use Rattle.sdp_room.proofs.room_for.Reads as sdpRoomRoomFor
 use Rattle.sdp_length.proofs.length_of.Reads as sdpLengthLengthOf
 use Rattle.sdp_row.proofs.put_string.Reads as sdpRowPutString
@@ -423,6 +424,9 @@ sdp_stamp_valid_lines_fine κs a z z' e e' p q = same p q
 -- ---- sdp_unfit
 pub sdp_unfit_unfit : OneAnswer sdpUnfitUnfit.Learnt
 sdp_unfit_unfit κs a z z' e e' p q = refusal_tells z z' (same p q)
+
+pub sdp_unfit_number_of : OneAnswer sdpUnfitNumberOf.Learnt
+sdp_unfit_number_of κs a z z' e e' p q = same p q
 
 -- ---- sdp_room
 pub sdp_room_room_for : OneAnswer sdpRoomRoomFor.Learnt

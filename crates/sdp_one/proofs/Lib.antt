@@ -2,3 +2,4 @@ pub mod OneLaws
 pub mod Answers
 pub mod TakeLine
 pub mod Forms
+pub mod Rules

@@ -21,8 +21,7 @@ use Rattle.sdp_decode.specs.Decode
 use Rattle.sdp_decode.specs.Decode.{num2, span_of, origin_of, connection_of, media_connection_of, bandwidth_of, time_of, repeat_of, offset_of, zone_of, attribute_of, media_of, times_in, zones_in, decode}
 use Rattle.sdp_row.specs.Written
 use Rattle.sdp_row.specs.Written.{optional, signed_text, zone_text, zones_line, username_text, origin_value, origin_line, connection_line, bandwidth_line, attribute_line, string_line, media_line, written}
-use Rattle.sdp_valid.specs.declared.Row.TheVariants.{Plain, Connection, Bandwidth, Attribute, Media}
-use Rattle.sdp_room.specs.Room.{sum_at, connection_room, media_room, row_room, origin_room, head_room, times_room, tables_room, room_for}
+use Rattle.sdp_room.specs.Room.{sum_at, connection_room, media_room, contact_room, bandwidth_room, attribute_room, origin_room, head_room, times_room, tables_room, room_for}
 use Rattle.sdp_room.proofs.SumLaws.{sum, rows_short}
 use Rattle.sdp_put.proofs.StringLaws.{length-clean}
 use Rattle.sdp_room.proofs.LengthLaws.{digits_20, time_21, signed_22, length-line}
@@ -188,12 +187,12 @@ module _ (t a : List ℕ) (byte : (i : ℕ) → get_or a i 0 < 256) where
         rows_most offset_cost offset_of a 10 22 offset-text (num 2 a offsets_at) (offsets_at + 2),
         zones_most (zones_in a),
         rows_most zone_cost zone_of a 16 44 zone-text (num 2 a zones_at) (zones_at + 2),
-        rows_room_lem (λ x. length (string_line (bytes_of t) 0x65 x)) span_of a 4 (row_room a Plain) (string_line_lem 0x65) (num 2 a emails_at) (emails_at + 2),
-        rows_room_lem (λ x. length (string_line (bytes_of t) 0x70 x)) span_of a 4 (row_room a Plain) (string_line_lem 0x70) (num 2 a phones_at) (phones_at + 2),
-        rows_room_lem (connection_cost (bytes_of t)) media_connection_of a 14 (row_room a Connection) (λ p. connection_line_lem (p + 2)) (num 2 a connections_at) (connections_at + 2),
-        rows_room_lem (bandwidth_cost (bytes_of t)) bandwidth_of a 14 (row_room a Bandwidth) bandwidth-line (num 2 a bandwidths_at) (bandwidths_at + 2),
-        rows_room_lem (attribute_cost (bytes_of t)) attribute_of a 12 (row_room a Attribute) attribute-line (num 2 a attributes_at) (attributes_at + 2),
-        rows_room_lem (media_cost (bytes_of t)) media_of a 36 (row_room a Media) media-lines (num 2 a medias_at) (medias_at + 2),
+        rows_room_lem (λ x. length (string_line (bytes_of t) 0x65 x)) span_of a 4 (contact_room a) (string_line_lem 0x65) (num 2 a emails_at) (emails_at + 2),
+        rows_room_lem (λ x. length (string_line (bytes_of t) 0x70 x)) span_of a 4 (contact_room a) (string_line_lem 0x70) (num 2 a phones_at) (phones_at + 2),
+        rows_room_lem (connection_cost (bytes_of t)) media_connection_of a 14 (λ p. connection_room a (p + 2)) (λ p. connection_line_lem (p + 2)) (num 2 a connections_at) (connections_at + 2),
+        rows_room_lem (bandwidth_cost (bytes_of t)) bandwidth_of a 14 (bandwidth_room a) bandwidth-line (num 2 a bandwidths_at) (bandwidths_at + 2),
+        rows_room_lem (attribute_cost (bytes_of t)) attribute_of a 12 (attribute_room a) attribute-line (num 2 a attributes_at) (attributes_at + 2),
+        rows_room_lem (media_cost (bytes_of t)) media_of a 36 (media_room a) media-lines (num 2 a medias_at) (medias_at + 2),
       )
 
   pub written_room : length (written (bytes_of t) (decode a)) ≤ room_for a

@@ -4,8 +4,6 @@ use Rattle.std.specs.Prelude.{ℕ, zero, suc, ◌+◌, ◌*◌, List}
 use Rattle.sdp_cells.specs.Bytes.{num}
 use Rattle.sdp_area.specs.Area.{origin_at, name_at, description_at, uri_at, connection_at}
 use Rattle.sdp_area.specs.Area.{emails_at, phones_at, connections_at, bandwidths_at, times_at, repeats_at, offsets_at, zones_at, attributes_at, medias_at}
-use Rattle.sdp_valid.specs.declared.Row.{Row}
-use Rattle.sdp_valid.specs.declared.Row.TheVariants.{Plain, Connection, Bandwidth, Attribute, Media}
 
 -- f at the places of n rows of w bytes each, from p on, added
 unfoldable pub sum_at : (ℕ → ℕ) → ℕ → ℕ → ℕ → ℕ
@@ -21,17 +19,21 @@ module _ (a : List ℕ) where
   unfoldable pub media_room : ℕ → ℕ
   media_room p = 52 + (num 2 a (p + 2) + num 2 a (p + 12) + num 2 a (p + 16) + num 2 a (p + 22))
 
-  -- a row of each kind; a b line has a colon and a number, an a line a name, a colon and a value
-  abbrev pub row_room : Row → ℕ → ℕ
-  row_room Plain p = 4 + num 2 a (p + 2)
-  row_room Connection p = connection_room (p + 2)
-  row_room Bandwidth p = 25 + num 2 a (p + 4)
-  row_room Attribute p = 5 + (num 2 a (p + 4) + num 2 a (p + 10))
-  row_room Media p = media_room p
+  -- an e or a p line
+  abbrev pub contact_room : ℕ → ℕ
+  contact_room p = 4 + num 2 a (p + 2)
 
-  -- the rows of the table at base
-  abbrev pub rows_room : Row → ℕ → ℕ → ℕ
-  rows_room row base w = sum_at (row_room row) w (num 2 a base) (base + 2)
+  -- a b line, with a colon and a number; its owner stands in the first two bytes of its row, as that of a c or an a line does
+  abbrev pub bandwidth_room : ℕ → ℕ
+  bandwidth_room p = 25 + num 2 a (p + 4)
+
+  -- an a line: a name, a colon and a value
+  abbrev pub attribute_room : ℕ → ℕ
+  attribute_room p = 5 + (num 2 a (p + 4) + num 2 a (p + 10))
+
+  -- f at the rows of the table at base, added
+  abbrev pub sum_rows : (ℕ → ℕ) → ℕ → ℕ → ℕ
+  sum_rows f base w = sum_at f w (num 2 a base) (base + 2)
 
   -- the o line: 5 spaces, a number, 5 strings, of which the username may be a -
   unfoldable pub origin_room : ℕ → ℕ
@@ -52,12 +54,12 @@ module _ (a : List ℕ) where
   -- the tables with strings
   unfoldable pub tables_room : ℕ
   tables_room =
-      rows_room Plain emails_at 4
-      + rows_room Plain phones_at 4
-      + rows_room Connection connections_at 14
-      + rows_room Bandwidth bandwidths_at 14
-      + rows_room Attribute attributes_at 12
-      + rows_room Media medias_at 36
+      sum_rows contact_room emails_at 4
+      + sum_rows contact_room phones_at 4
+      + sum_rows (λ p. connection_room (p + 2)) connections_at 14
+      + sum_rows bandwidth_room bandwidths_at 14
+      + sum_rows attribute_room attributes_at 12
+      + sum_rows media_room medias_at 36
 
   -- the whole
   unfoldable pub room_for : ℕ

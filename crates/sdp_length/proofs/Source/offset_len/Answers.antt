@@ -1,0 +1,11 @@
+-- `sdp_length::Source::offset_len` meets its contract. Assumes nothing.
+use Rattle.sdp_put.specs.Digits.{time_text}
+use lib.ListN.{length}
+use mathlib.Core.Path.{ap, ◌∙◌}
+use Prim.Native.Nat.{ℕ}
+use native.Mathlib.Omega.{arith}
+use Rattle.sdp_length.proofs.Source.offset_len.Goals as goal
+
+pub returns : goal.returns
+returns c =
+    (omega (arith, c.time_len.ensures.0 ∙ ap (λ (v : ℕ). length (time_text v)) c.get8.ensures), omega arith)

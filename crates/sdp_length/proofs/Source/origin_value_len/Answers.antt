@@ -1,0 +1,12 @@
+-- `sdp_length::Source::origin_value_len` meets its contract. Assumes nothing.
+use Rattle.sdp_length.proofs.LineLaws.{origin_value_lem}
+use Rattle.sdp_put.specs.Digits.{digits}
+use lib.ListN.{length}
+use mathlib.Core.Path.{ap, ◌∙◌}
+use Prim.Native.Nat.{ℕ}
+use native.Mathlib.Omega.{arith}
+use Rattle.sdp_length.proofs.Source.origin_value_len.Goals as goal
+
+pub returns : goal.returns
+returns c =
+    (omega (arith, origin_value_lem c.args.self.now.text.now c.args.self.now.area.now c.args.p, c.digits_len.ensures.0 ∙ ap (λ (v : ℕ). length (digits v)) c.get8.ensures), omega arith)

@@ -1,7 +1,0 @@
--- `sdp_length::attribute_len` meets its contract. Assumes nothing.
-use Rattle.sdp_length.proofs.LineLaws.{attribute-line}
-use native.Mathlib.Omega.{arith}
-use Rattle.sdp_length.proofs.attribute_len.Goals as goal
-
-pub returns : goal.returns
-returns c = (omega (arith, attribute-line c.args.text.now c.args.area.now c.args.p), omega arith)

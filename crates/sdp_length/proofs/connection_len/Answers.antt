@@ -1,7 +1,0 @@
--- `sdp_length::connection_len` meets its contract. Assumes nothing.
-use Rattle.sdp_length.proofs.LineLaws.{connection_line_lem}
-use native.Mathlib.Omega.{arith}
-use Rattle.sdp_length.proofs.connection_len.Goals as goal
-
-pub returns : goal.returns
-returns c = (omega (arith, connection_line_lem c.args.text.now c.args.area.now c.args.p), omega arith)

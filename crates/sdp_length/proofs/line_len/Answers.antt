@@ -1,8 +1,0 @@
--- `sdp_length::line_len` meets its contract. Assumes nothing.
-use Rattle.sdp_length.proofs.LineLaws.{string_line_lem}
-use native.Mathlib.Omega.{arith}
-use Rattle.sdp_length.proofs.line_len.Goals as goal
-
-pub returns : goal.returns
-returns c =
-    (λ l. omega (arith, string_line_lem c.args.text.now c.args.area.now l c.args.p), omega arith)
