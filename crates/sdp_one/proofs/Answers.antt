@@ -94,7 +94,7 @@ use Rattle.sdp_decode.proofs.num8.Reads as sdpDecodeNum8
 use Rattle.sdp_valid.proofs.judge.Reads as sdpValidJudge
 use Rattle.sdp_stamp_valid.proofs.lines_fine.Reads as sdpStampValidLinesFine
 use Rattle.sdp_unfit.proofs.unfit.Reads as sdpUnfitUnfit
-use Rattle.sdp_unfit.proofs.u64FromMisfit.from.Reads as sdpUnfitNumberOf
+use Rattle.sdp_unfit.proofs.U64FromMisfit.from.Reads as sdpUnfitNumberOf
 use Rattle.sdp_room.proofs.room_for.Reads as sdpRoomRoomFor
 use Rattle.sdp_length.proofs.length_of.Reads as sdpLengthLengthOf
 use Rattle.sdp_row.proofs.put_string.Reads as sdpRowPutString
