@@ -18,8 +18,7 @@ use Rattle.sdp_area.specs.Session.{Session}
 use Rattle.sdp_area.specs.Area as area
 use Rattle.sdp_area.specs.Area.{span, opt, origin_bytes, name_bytes, connection_bytes, key_bytes, attribute_row, media_row, encode, origin_at, name_at, description_at, uri_at, connection_at, key_at, times_at, repeats_at, medias_at}
 use Rattle.sdp_valid.specs.Judge as judge
-use Rattle.sdp_valid.specs.declared.Row.TheVariants.{Connection, Bandwidth, Attribute}
-use Rattle.sdp_valid.specs.Judge.{every_at, fine_if, rising, owned, rows, small_counts, large_counts, owners, fine_string, fine_origin, fine_connection, fine_pair, fine_media, fine_row, fine_head, fine_tables, well_formed}
+use Rattle.sdp_valid.specs.Judge.{every_at, fine_if, rising, owned, rows, small_counts, large_counts, owners, fine_string, fine_origin, fine_connection, fine_pair, fine_media, fine_head, fine_tables, well_formed}
 use Rattle.sdp_same.specs.Fits.{FitsSpan, IfGiven, Each, FitOrigin, FitConnection, FitKey, FitAttribute, FitMedia, Fits, name_of}
 use Rattle.sdp_same.specs.Sound.{FineIn, Rising, Sound}
 use Rattle.sdp_same.proofs.StandsLaws.{Stands, num_back, absent-mark, present_mark, first_row, segment}
@@ -106,7 +105,7 @@ module _ (a : List ℕ) where
     name_passes n None h w = string_passes n (name_of None) (record { inside = omega arith; utf8 = refl }) w
     name_passes n (Some x) h w = string_passes n x h w
 
-    attribute_passes : Passes (FitAttribute (FineIn t)) attribute_row (fine_row a t Attribute)
+    attribute_passes : Passes (FitAttribute (FineIn t)) attribute_row (λ p. fine_pair a t (p + 2))
     unfolding judge.fine_pair
     attribute_passes n x h w =
         let q = attribute-parts x w in
@@ -174,9 +173,9 @@ module _ (t : List ℕ) (short : length t ≤ 32768) (s : Session Span) (h : Sou
   tables_fine =
       both (table_passes a (emails_here P s F x) (fine_string a t) (string_passes a t short))
       (both (table_passes a (phones_here P s F x) (fine_string a t) (string_passes a t short))
-      (both (table_passes a (connections_here P s F x) (fine_row a t Connection) (λ n c f w. connection_passes a t short (n + 2) c.connection f.connection (media_connection_parts c w).1))
-      (both (table_passes a (bandwidths_here P s F x) (fine_row a t Bandwidth) (λ n b f w. string_passes a t short (n + 2) b.bwtype f.bwtype (bandwidth-parts b w).1))
-      (both (table_passes a (attributes_here P s F x) (fine_row a t Attribute) (attribute_passes a t short)) (table_passes a (medias_here P s F x) (fine_media a t) (media_passes a t short))))))
+      (both (table_passes a (connections_here P s F x) (λ p. fine_connection a t (p + 2)) (λ n c f w. connection_passes a t short (n + 2) c.connection f.connection (media_connection_parts c w).1))
+      (both (table_passes a (bandwidths_here P s F x) (λ p. fine_string a t (p + 2)) (λ n b f w. string_passes a t short (n + 2) b.bwtype f.bwtype (bandwidth-parts b w).1))
+      (both (table_passes a (attributes_here P s F x) (λ p. fine_pair a t (p + 2)) (attribute_passes a t short)) (table_passes a (medias_here P s F x) (fine_media a t) (media_passes a t short))))))
 
   pub well_formed_lem : well_formed (encode s ++ x) t ≡ true
   unfolding judge.well_formed
