@@ -1,6 +1,6 @@
 -- Of each public function: its promise has one answer only, and leaves one state of what was lent. `Learnt` is what a caller learns by the
 -- function's contract, as the toolchain reads it from the source. docs/ONE-ANSWER.md lists them. Assumes nothing.
-use mathlib.Core.Path.{refl}
+use mathlib.Core.Path.{refl, ap₂}
 use Rattle.sdp_one.specs.One.{OneAnswer, OneSeen, OneState, OnePut}
 use Rattle.sdp_one.proofs.OneLaws.{same, same_put}
 use Rattle.sdp_unfit.proofs.UnfitLaws.{refusal_tells}
@@ -506,8 +506,8 @@ pub sdp_window_run_in_part : OneAnswer sdpWindowRunInPart.Learnt
 sdp_window_run_in_part κs a z z' e e' p q = same p q
 
 -- ---- sdp_listing
-pub sdp_listing_listing_put_run : OneState (λ κs e. (held e.0, e.0.len)) sdpListingListingPutRun.Learnt
-sdp_listing_listing_put_run κs a z z' e e' p q = (refl, ap₂ (λ c n. (c, n)) (same p.columns q.columns) (same p.len q.len))
+pub sdp_listing_Listing_put_run : OneState (λ κs e. (held e.0, e.0.len)) sdpListingListingPutRun.Learnt
+sdp_listing_Listing_put_run κs a z z' e e' p q = (refl, ap₂ (λ c n. (c, n)) (same p.columns q.columns) (same p.len q.len))
 
 -- ---- sdp_starts
 pub sdp_starts_starts_in : OneAnswer sdpStartsStartsIn.Learnt
