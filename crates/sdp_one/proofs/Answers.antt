@@ -1,10 +1,11 @@
 -- Of each public function: its promise has one answer only, and leaves one state of what was lent. `Learnt` is what a caller learns by the
 -- function's contract, as the toolchain reads it from the source. docs/ONE-ANSWER.md lists them. Assumes nothing.
-use mathlib.Core.Path.{refl}
+use mathlib.Core.Path.{refl, ap₂}
 use Rattle.sdp_one.specs.One.{OneAnswer, OneSeen, OneState, OnePut}
 use Rattle.sdp_one.proofs.OneLaws.{same, same_put}
 use Rattle.sdp_unfit.proofs.UnfitLaws.{refusal_tells}
-use Rattle.sdp_listing.specs.Columns.{held}
+use Prim.Native.Nat.{ℕ}
+use Rattle.sdp_listing.specs.Columns.{Columns, held}
 use Rattle.sdp_bytes.proofs.runs.eight.Reads as sdpBytesRunsEight
 use Rattle.sdp_bytes.proofs.runs.run_len.Reads as sdpBytesRunsRunLen
 use Rattle.sdp_bytes.proofs.search.index_of.Reads as sdpBytesSearchIndexOf
@@ -506,8 +507,12 @@ pub sdp_window_run_in_part : OneAnswer sdpWindowRunInPart.Learnt
 sdp_window_run_in_part κs a z z' e e' p q = same p q
 
 -- ---- sdp_listing
-pub sdp_listing_listing_put_run : OneState (λ κs e. (held e.0, e.0.len)) sdpListingListingPutRun.Learnt
-sdp_listing_listing_put_run κs a z z' e e' p q = (refl, ap₂ (λ c n. (c, n)) (same p.columns q.columns) (same p.len q.len))
+-- the state of a list that is lent: its three arrays, and how many starts it has
+abbrev pub listed : Columns → ℕ → Columns × ℕ
+listed c n = (c, n)
+
+pub sdp_listing_Listing_put_run : OneState (λ κs e. listed (held e.0.now) e.0.now.len) sdpListingListingPutRun.Learnt
+sdp_listing_Listing_put_run κs a z z' e e' p q = (refl, ap₂ listed (same p.0 q.0) (same p.1 q.1))
 
 -- ---- sdp_starts
 pub sdp_starts_starts_in : OneAnswer sdpStartsStartsIn.Learnt

@@ -7,7 +7,7 @@ ghost use Rattle.sdp_hours.specs.Hours.{east, west};
 ghost use Rattle.sdp_window.specs.Run.{gap, counted, run_of, sum_of, run_in, once_in, lowest, highest, end_of, part_run};
 
 // The largest number of 64 bits.
-pub const LAST: u64 = 18446744073709551615;
+const LAST: u64 = 18446744073709551615;
 // The bits of the least signed number: from it on, the 64 bits of a zone offset are those of a negative one.
 const LEAST: u64 = 9223372036854775808;
 
@@ -53,20 +53,20 @@ pub enum Sum {
 fn plus(a: u64, b: u64) -> Sum
     ensures { result ≡ sum_of (a + b) 0 }
 {
-    if LAST - a < b {
-        return Sum::Above;
+    match a.checked_add(b) {
+        Some(v) => Sum::At(v),
+        None => Sum::Above,
     }
-    Sum::At(a + b)
 }
 
 // a + b + e
 fn plus_east(a: u64, b: u64, e: u64) -> Sum
     ensures { result ≡ sum_of (a + b + e) 0 }
 {
-    if LAST - a < b {
-        return Sum::Above;
+    match a.checked_add(b) {
+        Some(v) => plus(v, e),
+        None => Sum::Above,
     }
-    plus(a + b, e)
 }
 
 // a + b - w
@@ -125,10 +125,10 @@ fn run_after(d: u64, lo: u64, hi: u64, r: u64) -> Run
     if r == 0 {
         return run_from(d, hi, lo);
     }
-    if LAST - lo < d - r {
-        return Run { first: 0, count: 0 };
+    match lo.checked_add(d - r) {
+        Some(first) => run_from(d, hi, first),
+        None => Run { first: 0, count: 0 },
     }
-    run_from(d, hi, lo + (d - r))
 }
 
 // The progression from a on, in the window.
@@ -179,33 +179,25 @@ fn once_in(sum: Sum, lo: u64, hi: u64) -> Run
 }
 
 // The greater of a number and a sum, as far as 64 bits.
+#[tactic(auto, using(std::proofs::lemmas::Bool::Decides::nat_tests), unfolding(crate::specs::Run::lowest))]
 fn lowest_of(from: u64, sum: Sum) -> u64
     ensures { result ≡ lowest from sum }
 {
     match sum {
         Sum::Below(_) => from,
-        Sum::At(v) => {
-            if from <= v {
-                return v;
-            }
-            from
-        }
+        Sum::At(v) => from.max(v),
         Sum::Above => LAST,
     }
 }
 
 // The lesser of a number and a sum, not below 0.
+#[tactic(auto, using(std::proofs::lemmas::Bool::Decides::nat_tests), unfolding(crate::specs::Run::highest))]
 fn highest_of(to: u64, sum: Sum) -> u64
     ensures { result ≡ highest to sum }
 {
     match sum {
         Sum::Below(_) => 0,
-        Sum::At(v) => {
-            if v <= to {
-                return v;
-            }
-            to
-        }
+        Sum::At(v) => to.min(v),
         Sum::Above => to,
     }
 }

@@ -3,5 +3,5 @@ use native.Mathlib.Omega.{arith}
 use Rattle.sdp_window.proofs.SumLaws.{sum_above}
 use Rattle.sdp_window.proofs.plus_east.Goals as goal
 
-pub returns-then-a-b : goal.returns-then-a-b
-returns-then-a-b c = sum_above _ _ (omega arith)
+pub returns-in-None : goal.returns-in-None
+returns-in-None c = sum_above _ _ (omega (arith, c.in-None.ensures))
