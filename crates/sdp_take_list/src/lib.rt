@@ -94,19 +94,9 @@ fn take_offsets(
 {
     let mut room = first;
     let mut i = from;
-    loop {
-        match repeat_offset(v, i) {
-            Ok(None) => {
-                break;
-            }
-            Err(w) => {
-                return Err(w);
-            }
-            Ok(Some((value, next))) => {
-                room = add_offset(area, room, owner, value);
-                i = next;
-            }
-        }
+    while let Some((value, next)) = repeat_offset(v, i)? {
+        room = add_offset(area, room, owner, value);
+        i = next;
     }
     offsets_told(room, marks)
 }
@@ -123,14 +113,10 @@ pub fn take_repeat(area: &mut [u8], v: &[u8], at: usize, marks: Marks) -> Result
             at: 0,
         });
     };
-    match RepeatHead::parse(v) {
-        Err(w) => Err(w),
-        Ok(h) => {
-            let owner = repeats(area) + 1;
-            let p = push_repeat(area, time, h.repeat_interval, h.active_duration);
-            take_offsets(area, v, h.next, owner, repeat_room(p), marks)
-        }
-    }
+    let h = RepeatHead::parse(v)?;
+    let owner = repeats(area) + 1;
+    let p = push_repeat(area, time, h.repeat_interval, h.active_duration);
+    take_offsets(area, v, h.next, owner, repeat_room(p), marks)
 }
 
 // The z line: pairs until a missing adjustment time ends the list with the pairs so far.

@@ -28,31 +28,22 @@ fn take_origin(area: &mut [u8], v: &[u8], at: usize, marks: Marks) -> Result<Mar
             at: 0,
         });
     }
-    match Origin::parse(v) {
-        Err(w) => Err(w),
-        Ok(o) => {
-            let username = o.username;
-            let username = maybe_of(at, username);
-            let sess_id = o.sess_id;
-            let sess_id = span_of(at, sess_id);
-            let nettype = o.nettype;
-            let nettype = span_of(at, nettype);
-            let addrtype = o.addrtype;
-            let addrtype = span_of(at, addrtype);
-            let address = o.unicast_address;
-            let address = span_of(at, address);
-            let origin = sdp_builders::Origin {
-                username,
-                sess_id,
-                sess_version: o.sess_version,
-                nettype,
-                addrtype,
-                unicast_address: address,
-            };
-            set_origin(area, origin);
-            Ok(marks)
-        }
-    }
+    let o = Origin::parse(v)?;
+    let username = maybe_of(at, o.username);
+    let sess_id = span_of(at, o.sess_id);
+    let nettype = span_of(at, o.nettype);
+    let addrtype = span_of(at, o.addrtype);
+    let address = span_of(at, o.unicast_address);
+    let origin = sdp_builders::Origin {
+        username,
+        sess_id,
+        sess_version: o.sess_version,
+        nettype,
+        addrtype,
+        unicast_address: address,
+    };
+    set_origin(area, origin);
+    Ok(marks)
 }
 
 // An s line.
@@ -67,17 +58,13 @@ fn take_name(area: &mut [u8], v: &[u8], at: usize, marks: Marks) -> Result<Marks
             at: 0,
         });
     }
-    match whole(v, 34) {
-        Err(w) => Err(w),
-        Ok(p) => {
-            let x = span_of(at, p);
-            set_name(area, x);
-            Ok(Marks {
-                named: true,
-                zoned: marks.zoned,
-            })
-        }
-    }
+    let p = whole(v, 34)?;
+    let x = span_of(at, p);
+    set_name(area, x);
+    Ok(Marks {
+        named: true,
+        zoned: marks.zoned,
+    })
 }
 
 // The refusal number of a second text.
@@ -120,14 +107,10 @@ fn take_text(
             at: 0,
         });
     }
-    match whole(v, text_field(which)) {
-        Err(w) => Err(w),
-        Ok(p) => {
-            let x = span_of(at, p);
-            set_text(area, which, x);
-            Ok(marks)
-        }
-    }
+    let p = whole(v, text_field(which))?;
+    let x = span_of(at, p);
+    set_text(area, which, x);
+    Ok(marks)
 }
 
 // A c line before the first m.
@@ -142,24 +125,17 @@ fn take_connection(area: &mut [u8], v: &[u8], at: usize, marks: Marks) -> Result
             at: 0,
         });
     }
-    match Connection::parse(v) {
-        Err(w) => Err(w),
-        Ok(c) => {
-            let nettype = c.nettype;
-            let nettype = span_of(at, nettype);
-            let addrtype = c.addrtype;
-            let addrtype = span_of(at, addrtype);
-            let address = c.connection_address;
-            let address = span_of(at, address);
-            let connection = sdp_area::Connection {
-                nettype,
-                addrtype,
-                connection_address: address,
-            };
-            set_connection(area, connection);
-            Ok(marks)
-        }
-    }
+    let c = Connection::parse(v)?;
+    let nettype = span_of(at, c.nettype);
+    let addrtype = span_of(at, c.addrtype);
+    let address = span_of(at, c.connection_address);
+    let connection = sdp_area::Connection {
+        nettype,
+        addrtype,
+        connection_address: address,
+    };
+    set_connection(area, connection);
+    Ok(marks)
 }
 
 // What a session or a media has at most once.

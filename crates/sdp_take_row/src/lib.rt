@@ -49,14 +49,10 @@ fn take_contact(
     requires { (size ≤ length area.old) × (at + length v.now ≤ longest_text) }
     ensures { Reads (contact_role which) at v.now marks result area.old area.new }
 {
-    match whole(v, contact_field(which)) {
-        Err(w) => Err(w),
-        Ok(p) => {
-            let x = span_of(at, p);
-            let p = push_contact(area, which, x);
-            stored(p, contact_table(which), marks)
-        }
-    }
+    let p = whole(v, contact_field(which))?;
+    let x = span_of(at, p);
+    let p = push_contact(area, which, x);
+    stored(p, contact_table(which), marks)
 }
 
 // A c line of a media.
@@ -64,25 +60,18 @@ fn take_media_connection(area: &mut [u8], v: &[u8], at: usize, marks: Marks) -> 
     requires { (size ≤ length area.old) × (at + length v.now ≤ longest_text) }
     ensures { Reads Role.MediaConnection at v.now marks result area.old area.new }
 {
-    match Connection::parse(v) {
-        Err(w) => Err(w),
-        Ok(c) => {
-            let nettype = c.nettype;
-            let nettype = span_of(at, nettype);
-            let addrtype = c.addrtype;
-            let addrtype = span_of(at, addrtype);
-            let address = c.connection_address;
-            let address = span_of(at, address);
-            let owner = medias(area);
-            let connection = sdp_area::Connection {
-                nettype,
-                addrtype,
-                connection_address: address,
-            };
-            let p = push_connection(area, owner, connection);
-            stored(p, 3, marks)
-        }
-    }
+    let c = Connection::parse(v)?;
+    let nettype = span_of(at, c.nettype);
+    let addrtype = span_of(at, c.addrtype);
+    let address = span_of(at, c.connection_address);
+    let owner = medias(area);
+    let connection = sdp_area::Connection {
+        nettype,
+        addrtype,
+        connection_address: address,
+    };
+    let p = push_connection(area, owner, connection);
+    stored(p, 3, marks)
 }
 
 // A b line.
@@ -90,16 +79,11 @@ fn take_bandwidth(area: &mut [u8], v: &[u8], at: usize, marks: Marks) -> Result<
     requires { (size ≤ length area.old) × (at + length v.now ≤ longest_text) }
     ensures { Reads Role.Bandwidth at v.now marks result area.old area.new }
 {
-    match Bandwidth::parse(v) {
-        Err(w) => Err(w),
-        Ok(b) => {
-            let bwtype = b.bwtype;
-            let bwtype = span_of(at, bwtype);
-            let owner = medias(area);
-            let p = push_bandwidth(area, owner, bwtype, b.bandwidth);
-            stored(p, 4, marks)
-        }
-    }
+    let b = Bandwidth::parse(v)?;
+    let bwtype = span_of(at, b.bwtype);
+    let owner = medias(area);
+    let p = push_bandwidth(area, owner, bwtype, b.bandwidth);
+    stored(p, 4, marks)
 }
 
 // A t line.
@@ -107,13 +91,9 @@ fn take_time(area: &mut [u8], v: &[u8], at: usize, marks: Marks) -> Result<Marks
     requires { (size ≤ length area.old) × (at + length v.now ≤ longest_text) }
     ensures { Reads Role.Time at v.now marks result area.old area.new }
 {
-    match Time::parse(v) {
-        Err(w) => Err(w),
-        Ok(t) => {
-            let p = push_time(area, t.start_time, t.stop_time);
-            stored(p, 5, marks)
-        }
-    }
+    let t = Time::parse(v)?;
+    let p = push_time(area, t.start_time, t.stop_time);
+    stored(p, 5, marks)
 }
 
 // An a line.
@@ -121,18 +101,12 @@ fn take_attribute(area: &mut [u8], v: &[u8], at: usize, marks: Marks) -> Result<
     requires { (size ≤ length area.old) × (at + length v.now ≤ longest_text) }
     ensures { Reads Role.Attribute at v.now marks result area.old area.new }
 {
-    match Attribute::parse(v) {
-        Err(w) => Err(w),
-        Ok(k) => {
-            let name = k.attribute;
-            let name = span_of(at, name);
-            let value = k.value;
-            let value = maybe_of(at, value);
-            let owner = medias(area);
-            let p = push_attribute(area, owner, name, value);
-            stored(p, 9, marks)
-        }
-    }
+    let k = Attribute::parse(v)?;
+    let name = span_of(at, k.attribute);
+    let value = maybe_of(at, k.value);
+    let owner = medias(area);
+    let p = push_attribute(area, owner, name, value);
+    stored(p, 9, marks)
 }
 
 // An m line.
@@ -140,28 +114,20 @@ fn take_media(area: &mut [u8], v: &[u8], at: usize, marks: Marks) -> Result<Mark
     requires { (size ≤ length area.old) × (at + length v.now ≤ longest_text) }
     ensures { Reads Role.Media at v.now marks result area.old area.new }
 {
-    match Media::parse_m_line(v) {
-        Err(w) => Err(w),
-        Ok(m) => {
-            let media = m.media;
-            let media = span_of(at, media);
-            let ports = m.num_ports;
-            let ports = ports_of(ports);
-            let proto = m.proto;
-            let proto = span_of(at, proto);
-            let fmt = m.fmt;
-            let fmt = span_of(at, fmt);
-            let row = sdp_builders::Media {
-                media,
-                port: m.port as usize,
-                num_ports: ports,
-                proto,
-                fmt,
-            };
-            let p = push_media(area, row);
-            stored(p, 10, marks)
-        }
-    }
+    let m = Media::parse_m_line(v)?;
+    let media = span_of(at, m.media);
+    let ports = ports_of(m.num_ports);
+    let proto = span_of(at, m.proto);
+    let fmt = span_of(at, m.fmt);
+    let row = sdp_builders::Media {
+        media,
+        port: m.port as usize,
+        num_ports: ports,
+        proto,
+        fmt,
+    };
+    let p = push_media(area, row);
+    stored(p, 10, marks)
 }
 
 // The number of ports of an m line, as the area keeps it.

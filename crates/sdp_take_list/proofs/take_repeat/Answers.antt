@@ -1,4 +1,5 @@
 -- `sdp_take_list::take_repeat` meets its contract. Assumes nothing.
+use Rattle.std.proofs.lemmas.Result.{err_from_is_err_and}
 use Rattle.sdp_cells.specs.Bytes.{num}
 use Rattle.sdp_area.specs.Area.{times_at}
 use Prim.Native.Nat.{ℕ, ◌+◌}
@@ -20,23 +21,24 @@ returns-in_default c ρ t h =
     rw (rw (times_count ρ.session t h.within c.args.area.now h.bytes) at e) (refl, tail_of h)
 
 pub take_offsets-requires : goal.take_offsets-requires
-take_offsets-requires c = (omega arith, head_next _ _ (sym c.parse.ensures ∙ c.in-Ok.is))
+take_offsets-requires c = (omega arith, head_next _ _ (sym c.parse.ensures ∙ c.in_ok-h.was))
 
-pub returns-in-Err : goal.returns-in-Err
+pub returns-in_err-h : goal.returns-in_err-h
 unfolding step_role
-returns-in-Err c ρ t h =
+returns-in_err-h c ρ t h =
     let e = (some_latest (num 2 c.args.area.now times_at) _ (sym c.latest_time.ensures ∙ c.in-Some.is)).0 in
-    let f = (sym c.parse.ensures ∙ c.in-Err.is) in
-    rw (rw (times_count ρ.session t h.within c.args.area.now h.bytes) at e, head_wrong (span_at c.args.at []) ρ c.args.v.now c.in-Err.w f) (refl, tail_of h)
+    let f = (sym c.parse.ensures ∙ c.in_err-h.was) in
+    let u = err_from_is_err_and c.from_residual.result c.from_residual.ensures.1 in
+    rw (u.1, u.2) (rw (rw (times_count ρ.session t h.within c.args.area.now h.bytes) at e, head_wrong (span_at c.args.at []) ρ c.args.v.now _ f) (refl, tail_of h))
 
-pub returns-in-Ok : goal.returns-in-Ok
+pub returns : goal.returns
 unfolding step_role
-returns-in-Ok c ρ t h =
+returns c ρ t h =
     let s = some_latest (num 2 c.args.area.now times_at) _ (sym c.latest_time.ensures ∙ c.in-Some.is) in
-    let f = (sym c.parse.ensures ∙ c.in-Ok.is) in
+    let f = (sym c.parse.ensures ∙ c.in_ok-h.was) in
     let k = s.1 ∙ times_count ρ.session t h.within c.args.area.now h.bytes in
     let o = ap (λ (i : ℕ). i + 1) (c.repeats-owner.ensures.0 ∙ repeats_count ρ.session t h.within _ h.bytes) in
     let g = repeats-grown ρ.session t h.within _ h.bytes _ in
     let u = c.push_repeat-p.ensures in
     let r = room_begin ρ.session h.within _ _ _ t (u.value ∙ g.0) (u.area_after ∙ g.1) in
-    rw (rw (times_count ρ.session t h.within c.args.area.now h.bytes) at s.0, head_got (span_at c.args.at []) ρ c.args.v.now c.in-Ok.h f, ← k) (c.take_offsets.ensures ρ _ _ t h o (rw (← c.repeat_room.ensures) at r))
+    rw (rw (times_count ρ.session t h.within c.args.area.now h.bytes) at s.0, head_got (span_at c.args.at []) ρ c.args.v.now c.in_ok-h.h f, ← k) (c.take_offsets.ensures ρ _ _ t h o (rw (← c.repeat_room.ensures) at r))

@@ -1,4 +1,5 @@
 -- `sdp_take_once::take_name` meets its contract. Assumes nothing.
+use Rattle.std.proofs.lemmas.Result.{err_from_is_err_and}
 use mathlib.Core.Path.{refl, sym, ap, ◌∙◌}
 use native.Mathlib.Omega.{arith}
 use Rattle.sdp_judge.proofs.EveryLaws.{whole-within}
@@ -18,17 +19,18 @@ returns-then-marks c ρ t h =
 
 pub span_of-x-requires : goal.span_of-x-requires
 span_of-x-requires c =
-    omega (arith, whole-within _ _ _ (sym c.whole.ensures ∙ c.in-Ok.is), c.requires.1)
+    omega (arith, whole-within _ _ _ (sym c.whole.ensures ∙ c.in_ok-p.was), c.requires.1)
 
 pub set_name-requires : goal.set_name-requires
 set_name-requires c = omega (arith, c.requires.0)
 
-pub returns-in-Err : goal.returns-in-Err
+pub returns-in_err-p : goal.returns-in_err-p
 unfolding step_role
-returns-in-Err c ρ t h =
-    (once_wrong 13 _ _ _ (held h) t (sym (ap (λ (m : Marks). m.named) h.marks) ∙ c.if-marks.false) _ (sym c.whole.ensures ∙ c.in-Err.is) (tail_of h))
+returns-in_err-p c ρ t h =
+    let u = err_from_is_err_and c.from_residual.result c.from_residual.ensures.1 in
+    rw (u.1, u.2) ((once_wrong 13 _ _ _ (held h) t (sym (ap (λ (m : Marks). m.named) h.marks) ∙ c.if-marks.false) _ (sym c.whole.ensures ∙ c.in_err-p.was) (tail_of h)))
 
-pub returns-in-Ok : goal.returns-in-Ok
+pub returns : goal.returns
 unfolding step_role
-returns-in-Ok c ρ t h =
-    once-kept 13 _ _ _ _ _ (sym (ap (λ (m : Marks). m.named) h.marks) ∙ c.if-marks.false) _ _ _ (sym c.whole.ensures ∙ c.in-Ok.is) refl (head_kept ρ _ _ _ _ t _ h (ap (λ (m : Marks). record { named = true; zoned = m.zoned }) h.marks) (c.set_name.ensures ∙ rw c.span_of-x.ensures (name_set ρ.session t h.within _ h.bytes _)))
+returns c ρ t h =
+    once-kept 13 _ _ _ _ _ (sym (ap (λ (m : Marks). m.named) h.marks) ∙ c.if-marks.false) _ _ _ (sym c.whole.ensures ∙ c.in_ok-p.was) refl (head_kept ρ _ _ _ _ t _ h (ap (λ (m : Marks). record { named = true; zoned = m.zoned }) h.marks) (c.set_name.ensures ∙ rw c.span_of-x.ensures (name_set ρ.session t h.within _ h.bytes _)))
