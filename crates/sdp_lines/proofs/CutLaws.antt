@@ -13,7 +13,6 @@ use Rattle.sdp_lines.specs.declared.Cursor.{Cursor}
 use Rattle.sdp_lines.specs.declared.Fault.{Fault}
 use Rattle.sdp_lines.specs.declared.Fault.TheVariants.{NulOrCr}
 use Rattle.std.specs.Prelude.{Some, None, Result, Ok, Err}
-use Rattle.sdp_lines.specs.declared.Cut.{Cut}
 use Rattle.sdp_lines.specs.declared.Cut.TheVariants.{Line, Empty, Refused, End}
 use Rattle.sdp_lines.proofs.LineLaws.{content-le, width-le, split_at_place, content-front, good_long}
 

@@ -1,10 +1,7 @@
 -- Document 01, "Lines": the lines of a text, and their form.
 use Rattle.std.specs.Prelude.{ℕ, ◌+◌, ◌-◌, List, [], ◌∷◌, Bool, true, false, ◌||◌, cond, length, get_or, take, drop, ltb, eqb, Option, Some, None, Result, Ok, Err}
 use Rattle.sdp_bytes.specs.Runs.{index_of}
-use Rattle.sdp_lines.specs.declared.Place.{Place}
-use Rattle.sdp_lines.specs.declared.LineNumber.{LineNumber}
 use Rattle.sdp_lines.specs.declared.Cursor.{Cursor}
-use Rattle.sdp_lines.specs.declared.Span.{Span}
 use Rattle.sdp_lines.specs.declared.Fault.{Fault}
 use Rattle.sdp_lines.specs.declared.Fault.TheVariants.{NulOrCr, NoEquals, NotSecond}
 use Rattle.sdp_lines.specs.declared.Cut.{Cut}

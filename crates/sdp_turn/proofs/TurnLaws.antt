@@ -34,7 +34,7 @@ use Rattle.sdp_stamp.proofs.StampLaws.{step_stamps}
 use Rattle.sdp_counts.specs.declared.Counts.{Counts}
 use Rattle.sdp_line.specs.Version.{answer, no_version, opening_of}
 use Rattle.sdp_turn.specs.Turn.{wrong_at, one_empty, one_ignored, one_kept, one_of, searching, reading, Lined, opened_to, stepped, line_of}
-use Rattle.sdp_turn.specs.Turn.{marks_in, counts_in, lines_in, empty_more, ignored_more, kept_more, Turn, failure_of, end_turn, opened_turn_to, opened_turn, Carries, Turned, Turns, Counted, Stays, GoodTurns, Passes}
+use Rattle.sdp_turn.specs.Turn.{marks_in, counts_in, lines_in, empty_more, ignored_more, kept_more, Turn, failure_of, end_turn, opened_turn_to, opened_turn, Carries, Turned, Turns, Counted, GoodTurns, Passes}
 use Rattle.sdp_turn.specs.declared.State.{State}
 use Rattle.sdp_turn.specs.declared.Failure.TheVariants.{Stopped, Unread}
 use Rattle.std.specs.Prelude.{Some, None, Result, Ok, Err}

@@ -1,7 +1,5 @@
 -- `sdp_lines::stop_index` meets its contract. The invariant: the whole list's stop is i and the stop of the rest from i.
 -- Assumes nothing.
-use Prim.Native.Nat.{◌-◌}
-use lib.ListN.{length}
 use Rattle.sdp_lines.specs.Quick.{stop_index}
 use Rattle.sdp_bytes.proofs.ScanLaws.{Reached}
 use Rattle.sdp_lines.proofs.stop_index.Given as goal
