@@ -14,7 +14,7 @@ ghost use Rattle.sdp_hours.specs.Starts.{starts_text};
 ghost use Rattle.sdp_starts.specs.Returned.{returned};
 ghost use Rattle.sdp_answers.specs.Boundary.{numeral_of, cursor_at, piece_of};
 
-use sdp_answers::{Numeral, Piece, numeral_of, piece_of};
+use sdp_answers::{Numeral, Piece, piece_of};
 use sdp_lines::{Answer, Cursor, LineNumber, Place};
 use sdp_order::Verdict;
 use sdp_read::Told;
@@ -41,7 +41,7 @@ pub extern "C" fn sdp_is_token(s: &[u8]) -> bool
 pub extern "C" fn sdp_number16(s: &[u8]) -> Numeral
     ensures { result ≡ numeral_of (whole_number 16 s.now) }
 {
-    numeral_of(sdp_number::number16(s))
+    Numeral::from(sdp_number::number16(s))
 }
 
 // A whole number of 64 bits.
@@ -49,7 +49,7 @@ pub extern "C" fn sdp_number16(s: &[u8]) -> Numeral
 pub extern "C" fn sdp_number64(s: &[u8]) -> Numeral
     ensures { result ≡ numeral_of (whole_number 64 s.now) }
 {
-    numeral_of(sdp_number::number64(s))
+    Numeral::from(sdp_number::number64(s))
 }
 
 // A typed time in seconds.
@@ -57,7 +57,7 @@ pub extern "C" fn sdp_number64(s: &[u8]) -> Numeral
 pub extern "C" fn sdp_typed_time(s: &[u8]) -> Numeral
     ensures { result ≡ numeral_of (typed_time s.now) }
 {
-    numeral_of(sdp_number::typed_time(s))
+    Numeral::from(sdp_number::typed_time(s))
 }
 
 // What stands at a place of the text, where the line of that number is due.

@@ -9,7 +9,7 @@ use sdp_number::NumberError;
 
 // A number that was read: refusal number 0 and the value, or 8 or 9 and 0.
 #[repr(C)]
-#[derive(Drop)]
+#[derive(Clone, Copy, Debug, PartialEq, Eq)]
 pub struct Numeral {
     pub number: u64,
     pub value: u64,
@@ -17,7 +17,7 @@ pub struct Numeral {
 
 // One step of the line cutter. kind: 0 the end, 1 an empty line, 2 a line of good form, 3 a refused line. What a kind does not have is 0.
 #[repr(C)]
-#[derive(Drop)]
+#[derive(Clone, Copy, Debug, PartialEq, Eq)]
 pub struct Piece {
     pub kind: u64,
     pub number: u64,
@@ -29,28 +29,26 @@ pub struct Piece {
     pub next_line: u64,
 }
 
-pub fn numeral_of(n: Result<u64, NumberError>) -> Numeral
-    ensures { result ≡ numeral_of n }
-{
-    match n {
-        Ok(value) => Numeral { number: 0, value },
-        Err(NumberError::Encoding) => Numeral {
-            number: 8,
-            value: 0,
-        },
-        Err(NumberError::Format) => Numeral {
-            number: 9,
-            value: 0,
-        },
+// The answer in the numbers of document 01.
+impl From<Result<u64, NumberError>> for Numeral {
+    ghost from_gives = { λ n numeral. numeral ≡ numeral_of n };
+
+    fn from(n: Result<u64, NumberError>) -> Numeral {
+        match n {
+            Ok(value) => Numeral { number: 0, value },
+            Err(NumberError::Encoding) => Numeral {
+                number: 8,
+                value: 0,
+            },
+            Err(NumberError::Format) => Numeral {
+                number: 9,
+                value: 0,
+            },
+        }
     }
 }
 
-fn wide(b: u8) -> u64
-    ensures { result ≡ b }
-{
-    b as u64
-}
-
+// What was cut where the line of that number was due: of two values, so no `From`.
 pub fn piece_of(line: usize, c: Cut) -> Piece
     ensures { result ≡ piece_of line c }
 {
@@ -83,7 +81,7 @@ pub fn piece_of(line: usize, c: Cut) -> Piece
             kind: 2,
             number: 0,
             line: line as u64,
-            letter: wide(letter),
+            letter: u64::from(letter),
             place: value.at.0 as u64,
             len: value.len as u64,
             next_place: next.at.0 as u64,

@@ -17,12 +17,6 @@ pub enum NumberError {
     Format,
 }
 
-fn wide(x: u8) -> u64
-    ensures { result ≡ x }
-{
-    x as u64
-}
-
 // The number that s says, one or more digits, where it is at most max.
 fn digits_to(s: &[u8], max: u64) -> Result<u64, NumberError>
     ensures { result ≡ digits_below (max + 1) s.now }
@@ -31,16 +25,14 @@ fn digits_to(s: &[u8], max: u64) -> Result<u64, NumberError>
         return Err(NumberError::Format);
     }
     let mut v: u64 = 0;
-    let mut i = 0;
-    while i < s.len() {
-        let b = s[i];
+    for &b in s {
         if b < 0x30 {
             return Err(NumberError::Format);
         }
         if 0x39 < b {
             return Err(NumberError::Format);
         }
-        let d = wide(b - 0x30);
+        let d = u64::from(b - 0x30);
         if max / 10 < v {
             return Err(NumberError::Format);
         }
@@ -48,7 +40,6 @@ fn digits_to(s: &[u8], max: u64) -> Result<u64, NumberError>
             return Err(NumberError::Format);
         }
         v = v * 10 + d;
-        i += 1;
     }
     Ok(v)
 }
@@ -77,7 +68,8 @@ fn number_to(s: &[u8], max: u64) -> Result<u64, NumberError>
     }
 }
 
-// A whole number of 64 bits.
+// A whole number of 64 bits. The rule is number_to's, for every bound; this and the next name the two of the paper, one line each: a
+// generic function over a trait of widths says the same in more.
 pub fn number64(s: &[u8]) -> Result<u64, NumberError>
     ensures { result ≡ whole_number 64 s.now }
 {

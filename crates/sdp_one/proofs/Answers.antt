@@ -124,7 +124,7 @@ use Rattle.sdp_order.proofs.letter_order.Reads as sdpOrderLetterOrder
 use Rattle.sdp_order.proofs.VerdictFromResultBoolRefusal.from.Reads as sdpOrderVerdictOf
 use Rattle.sdp_builders.proofs.Origin.username.Reads as sdpBuildersOriginUsername
 use Rattle.sdp_builders.proofs.Media.num_ports.Reads as sdpBuildersMediaNumPorts
-use Rattle.sdp_answers.proofs.numeral_of.Reads as sdpAnswersNumeralOf
+use Rattle.sdp_answers.proofs.NumeralFromResultU64NumberError.from.Reads as sdpAnswersNumeralOf
 use Rattle.sdp_answers.proofs.piece_of.Reads as sdpAnswersPieceOf
 use Rattle.sdp.proofs.sdp_utf8_end.Reads as sdpSdpUtf8End
 use Rattle.sdp.proofs.sdp_is_token.Reads as sdpSdpIsToken

@@ -31,14 +31,12 @@ fn spaces_at(v: &[u8], i: usize) -> usize
     requires { i ≤ length v.now }
     ensures { result ≡ spaces (drop i v.now) }
 {
-    let mut j = i;
-    while j < v.len() {
+    for j in i..v.len() {
         if v[j] != b' ' {
             return j - i;
         }
-        j += 1;
     }
-    j - i
+    v.len() - i
 }
 
 // The field that starts at i and ends before the next separator.

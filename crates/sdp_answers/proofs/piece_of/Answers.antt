@@ -10,7 +10,7 @@ pub returns-in-Empty : goal.returns-in-Empty
 returns-in-Empty c = sym (ap (piece_of c.args.line) c.in-Empty.is)
 
 pub returns-in-Line : goal.returns-in-Line
-returns-in-Line c = rw c.wide.ensures (sym (ap (piece_of c.args.line) c.in-Line.is))
+returns-in-Line c = rw c.from.ensures (sym (ap (piece_of c.args.line) c.in-Line.is))
 
 pub returns-in-Refused : goal.returns-in-Refused
 returns-in-Refused c = rw c.number.ensures (sym (ap (piece_of c.args.line) c.in-Refused.is))

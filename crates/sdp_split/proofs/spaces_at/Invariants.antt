@@ -1,14 +1,10 @@
 -- `sdp_split::spaces_at` meets its contract. The invariant: the run from i is the bytes passed and the run from j.
 -- Assumes nothing.
-use Prim.Native.Nat.{◌+◌, ◌≤◌, ◌-◌}
+use Prim.Native.Nat.{◌+◌}
 use mathlib.Core.Path.{◌≡◌}
-use lib.ListN.{length, drop}
+use lib.ListN.{drop}
 use Rattle.sdp_split.specs.Split.{spaces}
 use Rattle.sdp_split.proofs.spaces_at.Given as goal
 
 abbrev pub invariant-loop-j : goal.invariant-loop-j
-invariant-loop-j l =
-    (l.i ≤ l.j) × (l.j ≤ length l.v) × (l.i + spaces (drop l.i l.v) ≡ l.j + spaces (drop l.j l.v))
-
-abbrev pub decreases-loop-j : goal.decreases-loop-j
-decreases-loop-j l = length l.v - l.j
+invariant-loop-j l = l.i + spaces (drop l.i l.v) ≡ l.j + spaces (drop l.j l.v)
