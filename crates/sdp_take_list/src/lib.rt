@@ -133,6 +133,7 @@ pub fn take_zone(area: &mut [u8], v: &[u8], at: usize, marks: Marks) -> Result<M
     }
     let mut i: usize = 0;
     let mut n: usize = 0;
+    // no `while let`: the loop yields the count by break, the form that docs/FORMS.md asks for
     let pairs = loop {
         match Zone::parse(v, i) {
             Ok(None) => break n,
