@@ -190,6 +190,7 @@ fn contacts_at(which: Contact) -> usize
     }
 }
 
+// Each table has a push of its own, and not one generic one: each is its promise and one row, and a trait of rows would say both again.
 // An e or a p line.
 pub fn push_contact(area: &mut [u8], which: Contact, x: Span) -> Result<(), Full>
     requires { size ≤ length area.old }

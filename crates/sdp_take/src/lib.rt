@@ -23,6 +23,7 @@ enum Shape {
     Row(Row),
     Repeat,
     Zone,
+    // no Option around the others: each of sixteen arms would say Some, as in Role
     Nothing,
 }
 

@@ -133,17 +133,15 @@ pub fn take_zone(area: &mut [u8], v: &[u8], at: usize, marks: Marks) -> Result<M
     }
     let mut i: usize = 0;
     let mut n: usize = 0;
+    // no `while let`: the loop yields the count by break, the form that docs/FORMS.md asks for
     let pairs = loop {
-        match Zone::parse(v, i) {
-            Ok(None) => break n,
-            Err(w) => return Err(w),
-            Ok(Some((zone, next))) => {
-                // a pair past the table's end is judged and not stored
-                let _ = push_zone(area, zone.adjustment_time, zone.offset);
-                n += 1;
-                i = next;
-            }
-        }
+        let Some((zone, next)) = Zone::parse(v, i)? else {
+            break n;
+        };
+        // a pair past the table's end is judged and not stored
+        let _ = push_zone(area, zone.adjustment_time, zone.offset);
+        n += 1;
+        i = next;
     };
     if 64 < pairs {
         return Err(Wrong {
