@@ -24,7 +24,7 @@ pub struct Whose {
     pub repeat: u64,
 }
 
-// The list: the first len numbers of each of the three arrays.
+// The list: the first len numbers of each of the three arrays, which are C's columns.
 #[derive(Drop)]
 pub struct Listing<'a> {
     pub at: &'a mut [u64],

@@ -44,7 +44,8 @@ fn put_rows<F: Fn(&mut Out<'_>, usize, usize)>(
     }
 }
 
-// Of the rows lo to hi of the table at base, the first whose owner is n or a later one, by halves.
+// Of the rows lo to hi of the table at base, the first whose owner is n or a later one, by halves: at most ten calls deep. By hand, since
+// std's `partition_point` is for slices, and the rows are no slice of anything.
 fn first_of(area: &[u8], base: usize, w: usize, n: usize, lo: usize, hi: usize) -> usize
     requires le_w { (2 ≤ w) × Inside area.now base w × (lo ≤ hi) × (hi ≤ num 2 area.now base) }
     requires never_fall { NeverFall area.now base w }

@@ -43,6 +43,7 @@ fn put_session(out: &mut Out<'_>, s: Source<'_>)
     put_medias(out, s);
 }
 
+// By number, as C has it.
 fn told(number: u64, len: usize) -> Answer
     ensures { result ≡ answer number len }
 {
