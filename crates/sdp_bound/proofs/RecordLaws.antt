@@ -36,8 +36,8 @@ use Rattle.sdp_media_line.proofs.BoundLaws.{every_number, every_port}
 use Rattle.sdp_step.specs.Step.{maybe_in, origin_in, connection_in, attribute_in, bandwidth_in, media_in, time_in, zone_in}
 use Rattle.sdp_put.specs.Digits.{digits, time_text}
 use Rattle.sdp_put.specs.Strings.{clean}
-use Rattle.sdp_despecs.Rows as rows
-use Rattle.sdp_despecs.Rows.{each}
+use Rattle.sdp_decode.specs.Rows as rows
+use Rattle.sdp_decode.specs.Rows.{each}
 use Rattle.sdp_row.specs.Written
 use Rattle.sdp_row.specs.Written.{line, optional, string_line, username_text, origin_line, connection_line, bandwidth_line, attribute_line, media_line, time_value, signed_text, zone_text, zones_line}
 use Rattle.sdp_put.proofs.StringLaws.{length-clean}
