@@ -1,7 +1,7 @@
 // Document 02, P3, "When will it start?": the starts of a session in a window. The list is made in three lent arrays of 256 numbers each.
 #![tactic(auto)]
 
-ghost use Rattle.std.specs.Prelude.{◌≡◌, true, [], ◌+◌, ◌<◌};
+ghost use Rattle.std.specs.Prelude.{◌≡◌, true, [], ◌+◌, ◌<◌, length};
 ghost use Rattle.sdp_cells.specs.Bytes.{num};
 ghost use Rattle.sdp_decode.specs.Rows.{each, mine};
 ghost use Rattle.sdp_decode.specs.Decode.{time_of, repeat_of, offset_of, repeats_in, offsets_in, zones_in};
@@ -334,6 +334,16 @@ fn refused(number: u64) -> Starts
     }
 }
 
+// A column of the list, as the answer has it.
+fn column(xs: &[u64]) -> [u64; 256]
+    requires { length xs.now ≡ 256 }
+    ensures { result ≡ xs.now }
+{
+    let mut column = [0; 256];
+    column.copy_from_slice(xs);
+    column
+}
+
 // The starts of the session of an area, whose strings stand in the text, in a window: from included, to excluded.
 pub fn starts_in(text: &[u8], area: &[u8], from: u64, to: u64) -> Starts
     ensures { result ≡ returned (starts_text text.now area.now from to) }
@@ -363,15 +373,11 @@ pub fn starts_in(text: &[u8], area: &[u8], from: u64, to: u64) -> Starts
     if MOST < list.len {
         return refused(29);
     }
-    let mut starts = Starts {
+    Starts {
         number: 0,
         count: list.len as u64,
-        at: [0; 256],
-        time: [0; 256],
-        repeat: [0; 256],
-    };
-    starts.at.copy_from_slice(list.at);
-    starts.time.copy_from_slice(list.time);
-    starts.repeat.copy_from_slice(list.repeat);
-    starts
+        at: column(list.at),
+        time: column(list.time),
+        repeat: column(list.repeat),
+    }
 }

@@ -30,5 +30,5 @@ returns-then-list-gt-MOST c =
 
 pub returns : goal.returns
 returns c =
-    rw (c.copy_from_slice.ensures.after, c.copy_from_slice-2.ensures.after, c.copy_from_slice-3.ensures.after)
+    rw (c.column.ensures, c.column-2.ensures, c.column-3.ensures)
     (told_list _ _ _ _ _ c.in_default.ensures refl (sym c.zones_rise.ensures ∙ c.if-not-zones_rise.false) _ _ (c.in_default-put_times.ensures.holds [] none_held) c.if-list-gt-MOST.false)
