@@ -335,13 +335,11 @@ fn refused(number: u64) -> Starts
 }
 
 // A column of the list, as the answer has it.
-fn column(xs: &[u64]) -> [u64; 256]
+fn column(xs: &[u64]) -> &[u64; 256]
     requires { length xs.now ≡ 256 }
-    ensures { result ≡ xs.now }
+    ensures { result.now ≡ xs.now }
 {
-    let mut column = [0; 256];
-    column.copy_from_slice(xs);
-    column
+    xs.try_into().unwrap()
 }
 
 // The starts of the session of an area, whose strings stand in the text, in a window: from included, to excluded.
@@ -376,8 +374,8 @@ pub fn starts_in(text: &[u8], area: &[u8], from: u64, to: u64) -> Starts
     Starts {
         number: 0,
         count: list.len as u64,
-        at: column(list.at),
-        time: column(list.time),
-        repeat: column(list.repeat),
+        at: *column(list.at),
+        time: *column(list.time),
+        repeat: *column(list.repeat),
     }
 }

@@ -58,23 +58,33 @@ fn exported() -> Vec<Function> {
 }
 
 /// `ffi::fill_spare` lends memory that was not set. So in the crates that are lent an output a byte of it stands only where
-/// it is stored, and nothing else is asked of it than its length.
+/// it is stored, and nothing else is asked of it than its length. The output is the field `bytes` of `Out`: `sdp_put` alone names
+/// it, but where `fill` makes an `Out` of what it is lent, and asks for its length before.
 #[test]
 fn no_output_is_read() {
-    let mut stores = 0;
+    let (mut stores, mut made) = (0, 0);
     for name in ["sdp_put", "sdp_row", "sdp_table_row", "sdp_tables", "sdp_write"] {
         for line in file(&format!("crates/{name}/src/lib.rt")).lines().map(str::trim) {
-            if ["//", "ghost ", "ensures ", "requires "].iter().any(|start| line.starts_with(start)) {
+            if ["//", "ghost ", "ensures ", "requires ", "use "].iter().any(|start| line.starts_with(start)) {
                 continue;
             }
-            let stored = line.starts_with("out[") && line.contains("] = ");
-            let others = line.matches("out[").count() - usize::from(stored);
-            let asked = line.matches("out.").count() - line.matches("out.len()").count();
-            assert_eq!((others, asked, line.contains("&out")), (0, 0, false), "{name}: {line}");
-            stores += usize::from(stored);
+            let one = line.starts_with("self.bytes[") && line.contains("] = ");
+            let many = line.starts_with("self.bytes[") && line.contains("].copy_from_slice(");
+            let stored = usize::from(one || many);
+            let field = usize::from(line == "pub bytes: &'a mut [u8],");
+            let lent = usize::from(line == "let mut out = Out { bytes: out, at: 0 };");
+            let lengths = line.matches("self.bytes.len()").count();
+            let others = line.matches("bytes").count() - stored - field - lent - lengths;
+            let methods = ["byte", "two", "all", "text", "number", "time", "offset"];
+            let calls: usize = methods.iter().map(|method| line.matches(&format!("out.{method}(")).count()).sum();
+            let asked = line.matches("out.").count() - calls - line.matches("out.at").count() - line.matches("out.len()").count();
+            assert_eq!((others, asked, line.matches("out[").count()), (0, 0, 0), "{name}: {line}");
+            assert!(!line.contains("&out") && (name == "sdp_put" || stored + field == 0), "{name}: {line}");
+            stores += stored;
+            made += lent;
         }
     }
-    assert_eq!(stores, 1 + 4 + 8, "one byte, four digits, eight bytes");
+    assert_eq!((stores, made), (2, 1), "one byte, and a slice; in fill");
 }
 
 /// The fields of a struct that crosses to C, by the source: u64, arrays of it, or another such struct.
