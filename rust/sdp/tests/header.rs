@@ -58,8 +58,8 @@ fn exported() -> Vec<Function> {
 }
 
 /// `ffi::fill_spare` lends memory that was not set. So in the crates that are lent an output a byte of it stands only where
-/// it is stored, and nothing else is asked of it than its length. The output is the field `bytes` of `Out`: `sdp_put` alone names
-/// it, but where `fill` makes an `Out` of what it is lent, and asks for its length before.
+/// it is stored, and nothing else is asked of it than its length. The output is the field `bytes` of `Out`: `sdp_put` alone
+/// names it, but where `fill` makes an `Out` of what it is lent, and asks for its length before.
 #[test]
 fn no_output_is_read() {
     let (mut stores, mut made) = (0, 0);
@@ -77,7 +77,8 @@ fn no_output_is_read() {
             let others = line.matches("bytes").count() - stored - field - lent - lengths;
             let methods = ["byte", "two", "all", "text", "number", "time", "offset"];
             let calls: usize = methods.iter().map(|method| line.matches(&format!("out.{method}(")).count()).sum();
-            let asked = line.matches("out.").count() - calls - line.matches("out.at").count() - line.matches("out.len()").count();
+            let read = ["out.at", "out.len()"].iter().map(|asked| line.matches(asked).count()).sum::<usize>();
+            let asked = line.matches("out.").count() - calls - read;
             assert_eq!((others, asked, line.matches("out[").count()), (0, 0, 0), "{name}: {line}");
             assert!(!line.contains("&out") && (name == "sdp_put" || stored + field == 0), "{name}: {line}");
             stores += stored;
