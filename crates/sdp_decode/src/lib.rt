@@ -33,7 +33,7 @@ fn num8_by_two(a: &[u8], at: usize) -> u64
     p + 65536 * (q + 65536 * (r + 65536 * s))
 }
 
-// A number of eight bytes.
+// A number of eight bytes. No one function of the width with num2: each is one load of its own, and so is what it does past the end.
 pub fn num8(a: &[u8], at: usize) -> u64
     ensures { result ≡ num 8 a.now at }
 {

@@ -58,7 +58,7 @@ fn told(r: Result<Marks, Wrong>) -> Result<Option<Marks>, Wrong>
     r.map(Some)
 }
 
-// A line by its role.
+// A line by its role. The match is the paper's list, one arm each, and made once for a line: no loop goes over it.
 fn take_role(
     area: &mut [u8],
     v: &[u8],

@@ -199,6 +199,7 @@ fn owners_fine(area: &[u8]) -> bool
         && owned(area, ATTRIBUTES, 12, 0, MEDIAS)
 }
 
+// Two halves, as in the definition: every test has a table and a limit of its own, so nothing is left to share.
 #[tactic(auto, unfolding(crate::specs::Judge::small_counts))]
 fn small_counts(area: &[u8]) -> bool
     requires { size ≤ length area.now }

@@ -11,7 +11,8 @@ const LAST: u64 = 18446744073709551615;
 // The bits of the least signed number: from it on, the 64 bits of a zone offset are those of a negative one.
 const LEAST: u64 = 9223372036854775808;
 
-// count numbers: first, first + interval, and so on. Where there is none, both are 0.
+// count numbers: first, first + interval, and so on. Where there is none, both are 0. No Option: its definition is an equation on both
+// numbers, and what lists a run goes on by its count alone.
 #[derive(Drop)]
 pub struct Run {
     pub first: u64,
@@ -41,7 +42,7 @@ pub struct Window {
     pub to: u64,
 }
 
-// A sum that may be below 0, by so much, or past 64 bits.
+// A sum that may be below 0, by so much, or past 64 bits. No Result: of three answers two have a number, and a sum below 0 is no failure.
 #[derive(Drop)]
 pub enum Sum {
     Below(u64),

@@ -251,6 +251,7 @@ fn num_ports_out(rt: &impl Print, s: &[u8]) -> io::Result<()> {
     line_out(rt)
 }
 
+// By the letter of a stored input: one arm for each function that is asked.
 fn answer(rt: &impl Print, kind: u8, s: &[u8]) -> io::Result<()> {
     match kind {
         b'c' => cuts_out(rt, s),
