@@ -1,5 +1,5 @@
 -- Starts in three columns of numbers, whatever these hold.
-use Rattle.std.specs.Prelude.{ℕ, zero, suc, ◌+◌, ◌-◌, cond, List, [], ◌∷◌, get_or}
+use Rattle.std.specs.Prelude.{ℕ, zero, suc, ◌+◌, ◌-◌, ◌≡◌, cond, List, [], ◌∷◌, get_or}
 use Rattle.sdp_hours.specs.Listing.{Start, before}
 use Rattle.sdp_listing.specs.declared.Entry.{Entry}
 use Rattle.sdp_listing.specs.declared.Listing.{Listing}
@@ -12,6 +12,11 @@ pub record Columns : Type 0 where
 -- three lent arrays
 abbrev pub columns : List ℕ → List ℕ → List ℕ → Columns
 columns a t r = record { ats = a; times = t; repeats = r }
+
+-- the same three arrays are lent before and after
+abbrev pub SameArrays : Listing → Listing → Type 0
+SameArrays x y =
+    (y.at.ghost_name ≡ x.at.ghost_name) × (y.time.ghost_name ≡ x.time.ghost_name) × (y.repeat.ghost_name ≡ x.repeat.ghost_name)
 
 -- the start of row i
 abbrev pub row_at : Columns → ℕ → Start

@@ -5,7 +5,7 @@ ghost use Rattle.std.specs.Prelude.{◌≡◌, ◌+◌, ◌-◌, ◌*◌, ◌^�
 ghost use Rattle.sdp_hours.specs.Listing.{before};
 ghost use Rattle.sdp_hours.specs.Starts.{numbered};
 ghost use Rattle.sdp_window.specs.Run.{of_run};
-ghost use Rattle.sdp_listing.specs.Columns.{columns, row_at, rows_from, place_of, shift_in, put_in, put_all, start_of};
+ghost use Rattle.sdp_listing.specs.Columns.{columns, row_at, rows_from, place_of, shift_in, put_in, put_all, start_of, SameArrays};
 
 use sdp_window::Run;
 
@@ -33,11 +33,18 @@ pub struct Listing<'a> {
     pub len: usize,
 }
 
-// x may stand before y.
+// x may stand before y. Written out: the derived order compares each pair of fields to an Ordering first, which takes a third more time where many
+// starts are equal.
 fn comes_first(x: Entry, y: Entry) -> bool
     ensures { result ≡ before (start_of x) (start_of y) }
 {
-    x <= y
+    if x.at != y.at {
+        return x.at < y.at;
+    }
+    if x.time != y.time {
+        return x.time < y.time;
+    }
+    x.repeat <= y.repeat
 }
 
 // v at place p; what stands from there on, up to place n, moves up by one.
@@ -85,6 +92,7 @@ impl Listing<'_> {
         requires { (self.old.len < length self.old.at.now) × (self.old.len < length self.old.time.now) × (self.old.len < length self.old.repeat.now) }
         ensures columns { columns self.new.at.now self.new.time.now self.new.repeat.now ≡ put_in (columns self.old.at.now self.old.time.now self.old.repeat.now) self.old.len (start_of x) }
         ensures len { self.new.len ≡ self.old.len + 1 }
+        ensures same { SameArrays self.old self.new }
     {
         let n = self.len;
         let p = self.place_of(x);
@@ -99,6 +107,7 @@ impl Listing<'_> {
         requires { (self.old.len + run.count ≤ length self.old.at.now) × (self.old.len + run.count ≤ length self.old.time.now) × (self.old.len + run.count ≤ length self.old.repeat.now) × (0 < run.count → run.first + (run.count - 1) * d < 2 ^ 64) }
         ensures columns { columns self.new.at.now self.new.time.now self.new.repeat.now ≡ put_all (columns self.old.at.now self.old.time.now self.old.repeat.now) self.old.len (numbered whose.time whose.repeat (of_run d run)) }
         ensures len { self.new.len ≡ self.old.len + run.count }
+        ensures same { SameArrays self.old self.new }
     {
         let mut x = run.first;
         for k in 0..run.count {

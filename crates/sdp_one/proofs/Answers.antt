@@ -507,12 +507,13 @@ pub sdp_window_run_in_part : OneAnswer sdpWindowRunInPart.Learnt
 sdp_window_run_in_part κs a z z' e e' p q = same p q
 
 -- ---- sdp_listing
--- the state of a list that is lent: its three arrays, and how many starts it has
-abbrev pub listed : Columns → ℕ → Columns × ℕ
-listed c n = (c, n)
+-- the state of a list that is lent: what its three arrays hold, how many starts it has, and which arrays they are, by their ghost names
+abbrev pub listed : {N : Type 0} → Columns → ℕ → N → N → N → Columns × ℕ × N × N × N
+listed c n a t r = (c, n, a, t, r)
 
-pub sdp_listing_Listing_put_run : OneState (λ κs e. listed (held e.0.now) e.0.now.len) sdpListingListingPutRun.Learnt
-sdp_listing_Listing_put_run κs a z z' e e' p q = (refl, ap₂ listed (same p.0 q.0) (same p.1 q.1))
+pub sdp_listing_Listing_put_run : OneState (λ κs e. let l = e.0.now in listed (held l) l.len l.at.ghost_name l.time.ghost_name l.repeat.ghost_name) sdpListingListingPutRun.Learnt
+sdp_listing_Listing_put_run κs a z z' e e' p q =
+    (refl, ap₂ (λ f r. f r) (ap₂ (λ f t. f t) (ap₂ (λ f x. f x) (ap₂ listed (same p.0 q.0) (same p.1.0 q.1.0)) (same p.1.1.0 q.1.1.0)) (same p.1.1.1 q.1.1.1)) (same p.1.1.2 q.1.1.2))
 
 -- ---- sdp_starts
 pub sdp_starts_starts_in : OneAnswer sdpStartsStartsIn.Learnt

@@ -17,12 +17,14 @@ module _ {L : Type 0} {A Z E : L → Type 0} where
   OneState after promise =
       (κs : L) (a : A κs) (z z' : Z κs) (e e' : E κs) → promise κs a z e → promise κs a z' e' → (z ≡ z') × (after κs e ≡ after κs e')
 
-  -- the same of what puts bytes into an output: its bytes and its place at the exit are the same; a slice's length and a place are always
-  -- below 2^64
+  -- the same of what puts bytes into an output: its bytes and its place at the exit are the same, and it is one and the same slice, by its
+  -- ghost name; a slice's length and a place are always below 2^64
   abbrev pub OnePut : ((κs : L) → A κs → Out) → ((κs : L) → E κs → Out) → ((κs : L) → A κs → Z κs → E κs → Type 0) → Type 0
   OnePut before after promise =
       (κs : L) (a : A κs) (z z' : Z κs) (e e' : E κs) → length (before κs a).bytes.now < 2 ^ 64 → (before κs a).at < 2 ^ 64
-      → promise κs a z e → promise κs a z' e' → ((after κs e).at ≡ (after κs e').at) × ((after κs e).bytes.now ≡ (after κs e').bytes.now)
+      → promise κs a z e → promise κs a z' e'
+      → ((after κs e).at ≡ (after κs e').at) × ((after κs e).bytes.now ≡ (after κs e').bytes.now)
+      × ((after κs e).bytes.ghost_name ≡ (after κs e').bytes.ghost_name)
 
   -- the same for the arguments that satisfy a condition; seen is the part of what stands at the exit that the promise speaks of
   abbrev pub OneWhere : ((κs : L) → A κs → Type 0) → ((κs : L) → Z κs → E κs → List ℕ) → ((κs : L) → A κs → Z κs → E κs → Type 0) → Type 0
