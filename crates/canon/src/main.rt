@@ -2,7 +2,7 @@
 #![tactic(auto)]
 
 ghost use Rattle.std.specs.Prelude.{◌≤◌, length};
-ghost use Rattle.std.specs.Io.{ReadsAtMost};
+ghost use Rattle.std.specs.Io.{ReadsAtMost, WritesAtMost};
 ghost use Rattle.sdp_area.specs.Columns.{area_size};
 ghost use Rattle.sdp_bound.specs.Bound.{room_of_any};
 ghost use Rattle.canon.specs.Canon.{Holds, refused_line, printed};
@@ -12,7 +12,7 @@ use sdp_put::Out;
 use sdp_read::read;
 use sdp_write::{fill, length};
 use std::io;
-use std::io::{ErrorKind, Read, Stdin, Write};
+use std::io::{ErrorKind, Read, Stdin, Stdout, Write};
 
 // A call is made again while signals interrupt it, at most so many times.
 const TRIES: u64 = 1000000;
@@ -33,6 +33,19 @@ fn read_some(stdin: &mut Stdin, into: &mut [u8]) -> io::Result<usize>
     stdin.read(into)
 }
 
+// One write, made again while signals interrupt it.
+fn write_some(stdout: &mut Stdout, from: &[u8]) -> io::Result<usize>
+    ensures { WritesAtMost result from.now }
+{
+    for _ in 0..TRIES {
+        match stdout.write(from) {
+            Err(e) if e.kind() == ErrorKind::Interrupted => {}
+            got => return got,
+        }
+    }
+    stdout.write(from)
+}
+
 // Reads, in as many pieces as it takes, until the input ends or text is full, and answers how many bytes came in.
 fn read_text(stdin: &mut Stdin, text: &mut [u8]) -> io::Result<usize>
     ensures { ReadsAtMost result text.new }
@@ -46,6 +59,20 @@ fn read_text(stdin: &mut Stdin, text: &mut [u8]) -> io::Result<usize>
         }
     }
     Ok(n)
+}
+
+// Writes all of text, in as many pieces as it takes. By hand: std's `write_all` gives up after so many calls as text has bytes, and 64,
+// interrupted ones among them.
+fn write_text(stdout: &mut Stdout, text: &[u8]) -> io::Result<()> {
+    let mut n: usize = 0;
+    while n < text.len() {
+        let k = write_some(stdout, &text[n..])?;
+        if k == 0 {
+            return Err(io::Error::from(ErrorKind::WriteZero));
+        }
+        n += k;
+    }
+    Ok(())
 }
 
 // Takes what is left of the input, so that a program that pipes in a long text is not stopped.
@@ -102,7 +129,7 @@ fn main(rt: HostRuntime) -> io::Result<()> {
     let mut area = [0u8; 16938];
     let mut out = [0u8; 49152];
     let m = canon(&text[..n], &mut area, &mut out);
-    if let Err(e) = rt.stdout().write_all(&out[..m]) {
+    if let Err(e) = write_text(&mut rt.stdout(), &out[..m]) {
         return eprintln!(rt; "canon: standard output: {e}");
     }
     if n == 32769 {
