@@ -6,7 +6,7 @@ use Prim.Native.Nat.{ℕ, suc, ◌+◌, ◌-◌, ◌≤◌, ◌<◌, ◌^◌, mi
 use native.Mathlib.Nat.{add-suc, suc-add, add-zero}
 use native.Mathlib.Numerals.{add-one, add-two, add-three, add-four, add_five, add_six, add_seven}
 use native.Mathlib.Omega.{arith}
-use lib.ListN.{length, take, drop, set, length-append, length-set, length-drop, take-append-drop}
+use lib.ListN.{length, take, drop, set, length-append, length-set, length-drop, drop_of_length-le, take-append-drop}
 use lib.Seq.{sets, sets-eq, length-sets, length-take-le, set_out, take-add, take_all, take-take, take-append-le, take-append-add, drop-append-add, drop-drop}
 use lib.Dec.{ltb}
 use borrow.Author.Tests.{ltb-true, ltb-false}
@@ -70,6 +70,13 @@ unfolding put
 put_room bs o h =
     sets-eq bs o 0 (omega arith)
     ∙ ap (λ (k : ℕ). bs ++ drop k o) (let e : 0 + length bs ≡ length bs = omega arith in e)
+
+-- all of an output
+pub put_whole : (bs o : List ℕ) → length o ≡ length bs → put o 0 bs ≡ bs
+put_whole bs o e =
+    put_room bs o (omega arith)
+    ∙ ap (λ (s : List ℕ). bs ++ s) (drop_of_length-le o (let h : length o ≤ length bs = omega arith in h))
+    ∙ append-nil bs
 
 -- the bytes of s are put one part after the other
 module _ (o s : List ℕ) (at : ℕ) where
@@ -148,6 +155,19 @@ byte_in o at b i = record { puts = λ l h. (refl, omega arith) }
 
 pub no_room : (o bs : List ℕ) (at n r : ℕ) → length o ≤ at → length bs ≡ n → r ≡ placed (at + n) → Put o at bs o r
 no_room o bs at n r i m e = record { puts = λ l h. (sym (put_out bs o at i), e ∙ ap (λ (k : ℕ). placed (at + k)) (sym m)) }
+
+-- several stores, one after the other
+pub four_in : (o : List ℕ) (at a b c d : ℕ) → at + 4 ≤ length o
+    → Put o at (a ∷ b ∷ c ∷ d ∷ []) (set (set (set (set o at a) (at + 1) b) (at + 2) c) (at + 3) d) (at + 4)
+unfolding put
+four_in o at a b c d i = record { puts = λ l h. (rw (add-one, add-two, add-three), omega arith) }
+
+pub eight_in : (o : List ℕ) (at a b c d e f g h : ℕ) → at + 8 ≤ length o
+    → Put o at (a ∷ b ∷ c ∷ d ∷ e ∷ f ∷ g ∷ h ∷ [])
+    (set (set (set (set (set (set (set (set o at a) (at + 1) b) (at + 2) c) (at + 3) d) (at + 4) e) (at + 5) f) (at + 6) g) (at + 7) h) (at + 8)
+unfolding put
+eight_in o at a b c d e f g h i =
+    record { puts = λ l k. (rw (add-one, add-two, add-three, add-four, add_five, add_six, add_seven), omega arith) }
 
 -- ---- what is left to be put: the invariant of a loop
 pub record Same (o₀ : List ℕ) (at₀ : ℕ) (whole : List ℕ) (o : List ℕ) (at : ℕ) (rest : List ℕ) : Type 0 where

@@ -1,7 +1,7 @@
 -- Laws of strings. Assumes nothing.
 use mathlib.Core.Path.{◌≡◌, refl, sym, ap, ap₂, ◌∙◌}
 use mathlib.Core.Bool.{Bool, true, false, false≢true, cond, not, ◌&&◌, and-eq-true_iff}
-use mathlib.Core.List.{List, [], ◌∷◌, ◌++◌}
+use mathlib.Core.List.{List, [], ◌∷◌}
 use Prim.Native.Nat.{ℕ, zero, suc, ◌+◌, ◌*◌, ◌-◌, ◌/◌, ◌%◌, ◌≤◌, ◌<◌}
 use native.Mathlib.Numerals.{add-one}
 use native.Mathlib.Omega.{arith}
@@ -9,8 +9,6 @@ use lib.ListN.{length, take, drop, get_or, set, length-drop, length-set, length-
 use lib.Seq.{drop-cons, take-add, take_all, take-take}
 use lib.Dec.{ltb, leb}
 use borrow.Author.Tests.{leb-true, ltb-true, ltb-false, ne_eqb}
-use Rattle.std.proofs.Common.{count_by}
-use Rattle.std.proofs.lemmas.List.Recursion.{is_count_by}
 use Rattle.sdp_bytes.specs.Ranges.{◌to◌, within}
 use Rattle.sdp_bytes.specs.Runs as runs
 use Rattle.sdp_bytes.specs.Runs.{run, run_len}
@@ -86,15 +84,6 @@ unfolding clean
 length-clean [] = omega arith
 length-clean (b ∷ s) = omega (arith, length-append (kept b) (clean s), length-kept b, length-clean s)
 
--- as many as those that are not left out
-pub clean-count : (s : List ℕ) → length (clean s) ≡ count_by (λ b. not (dropped b)) s
-unfolding clean kept
-clean-count = is_count_by (λ t. length (clean t)) (λ b. not (dropped b)) refl (λ b t. go b t (dropped b))
-  where
-    go : (b : ℕ) (t : List ℕ) (d : Bool) → length (cond d [] (b ∷ []) ++ clean t) ≡ cond (not d) (1 + length (clean t)) (length (clean t))
-    go b t true = refl
-    go b t false = omega arith
-
 -- ---- bytes above CR, the largest byte that is left out
 abbrev pub quiet : ℕ → Bool
 quiet = within (14 to 255)
@@ -153,3 +142,23 @@ module _ (o o₁ o₂ s : List ℕ) (byte : (i : ℕ) → get_or s i 0 < 256) (a
       stored h
       ∙ ap (λ (j : ℕ). put (put o at (take j s)) (at + k) (take 8 (drop k s))) (sym n)
       ∙ put_more o s at k h
+
+  pub stored_last : k + 8 ≡ length s → k ≤ i → i ≤ length s → at + length s ≤ length o → o₂ ≡ put o at s
+  stored_last n l h room =
+      stored (omega arith)
+      ∙ ap (put (put o at (take i s)) (at + k)) (take_all 8 (drop k s) (omega (arith, length-drop k s)))
+      ∙ put-over o s at i k l h room
+
+-- ---- stores one after the other
+-- o after the bytes of s up to k were stored from at on
+abbrev pub stores : ℕ → List ℕ → ℕ → List ℕ → List ℕ
+stores zero o at s = set o at (get_or s 0 0)
+stores (suc k) o at s = set (stores k o at s) (at + suc k) (get_or s (suc k) 0)
+
+pub length_stores : (k : ℕ) (o : List ℕ) (at : ℕ) (s : List ℕ) → length (stores k o at s) ≡ length o
+length_stores zero o at s = length-set o at (get_or s 0 0)
+length_stores (suc k) o at s = length-set (stores k o at s) (at + suc k) (get_or s (suc k) 0) ∙ length_stores k o at s
+
+-- the place of the next store
+pub next_in : (k : ℕ) (o : List ℕ) (at : ℕ) (s : List ℕ) → at + suc k < length o → at + suc k < length (stores k o at s)
+next_in k o at s h = omega (arith, length_stores k o at s)

@@ -1,8 +1,6 @@
 -- `sdp_put::Out::all` meets its contract. Assumes nothing.
 use Rattle.sdp_put.proofs.OutLaws.{put_part}
-use mathlib.Core.List.{◌++◌}
-use lib.ListN.{length, take, drop}
-use mathlib.Core.Path.{refl, ap, ◌∙◌}
+use mathlib.Core.Path.{refl}
 use native.Mathlib.Omega.{arith}
 use Rattle.sdp_put.proofs.Out.all.Goals as goal
 
@@ -11,6 +9,6 @@ returns c =
     record {
       same = refl;
       put = record {
-        puts = λ l h. (rw c.copy_from_slice.ensures.after (put_part _ _ _ _ _ _ c.min-at.ensures c.min-n.ensures (omega arith)), c.saturating_add-self.ensures);
+        puts = λ l h. (rw c.copy.ensures (put_part _ _ _ _ _ _ c.min-at.ensures c.min-n.ensures (omega arith)), c.saturating_add-self.ensures);
       };
     }
