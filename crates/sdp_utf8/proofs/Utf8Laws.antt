@@ -6,16 +6,17 @@ use native.Mathlib.Numerals.{add-one}
 use native.Mathlib.Decide.{dec_lt}
 use native.Mathlib.Omega.{arith}
 use mathlib.Core.Path.{◌≡◌, refl, sym, ap, ◌∙◌}
-use mathlib.Core.Bool.{Bool, true, false, ◌&&◌, ◌||◌, not, and-false, false≢true, cond}
+use mathlib.Core.Bool.{Bool, true, false, ◌&&◌, ◌||◌, not, and-false, and-true, false≢true, cond}
 use mathlib.Core.List.{List, [], ◌∷◌}
 use borrow.Author.Tests.{lt-ltb, le-ltb, le-leb, lt-leb, leb-true}
-use lib.Dec.{leb}
+use lib.Dec.{leb, ltb, eqb}
+use Rattle.std.proofs.lemmas.Bool.Decides.{nat_tests}
 use lib.ListN.{length, get_or, drop, drop_of_length-le, length-drop}
 use lib.Seq.{drop-cons}
 use Rattle.sdp_bytes.proofs.ScanLaws.{and_right, Reached, reached_on, run_passed, run-until, Steps}
 use Rattle.sdp_bytes.specs.Ranges.{Range, ◌to◌, within, fits, in_at}
 use Rattle.sdp_bytes.specs.Runs.{run_len}
-use Rattle.sdp_utf8.specs.Utf8.{char1, char2, char3, char4, char_len, end_from, utf8_end, stop_at, ascii, step_len}
+use Rattle.sdp_utf8.specs.Utf8.{tail, char1, char2, char3, char4, char_len, end_from, utf8_end, stop_at, ascii, step_len}
 
 or_elim : (a b : Bool) {P : Type 0} → (a ≡ true → P) → (b ≡ true → P) → (a || b) ≡ true → P
 or_elim true b p q e = p refl
@@ -130,6 +131,63 @@ fits_le (r ∷ rs) (b ∷ s) e = let h = fits_le rs s (and_right (within r b) (f
 
 pub fits_short : (rs : List Range) (s : List ℕ) → length s < length rs → fits rs s ≡ false
 fits_short rs s h = not_true (fits rs s) (λ e. omega (arith, fits_le rs s e))
+
+-- the rows of three and of four bytes, by their places
+pub fits_three : (r q t : Range) (s : List ℕ) → 3 ≤ length s
+    → fits (r ∷ q ∷ t ∷ []) s ≡ (within r (get_or s 0 0) && (within q (get_or s 1 0) && within t (get_or s 2 0)))
+unfolding fits
+fits_three r q t [] h = absurd (omega arith)
+fits_three r q t (a ∷ []) h = absurd (omega arith)
+fits_three r q t (a ∷ b ∷ []) h = absurd (omega arith)
+fits_three r q t (a ∷ b ∷ c ∷ s) h = rw (and-true (within t c))
+
+pub fits_four : (r q t u : Range) (s : List ℕ) → 4 ≤ length s
+    → fits (r ∷ q ∷ t ∷ u ∷ []) s ≡ (within r (get_or s 0 0) && (within q (get_or s 1 0) && (within t (get_or s 2 0) && within u (get_or s 3 0))))
+unfolding fits
+fits_four r q t u [] h = absurd (omega arith)
+fits_four r q t u (a ∷ []) h = absurd (omega arith)
+fits_four r q t u (a ∷ b ∷ []) h = absurd (omega arith)
+fits_four r q t u (a ∷ b ∷ c ∷ []) h = absurd (omega arith)
+fits_four r q t u (a ∷ b ∷ c ∷ d ∷ s) h = rw (and-true (within u d))
+
+-- the rows of three bytes at once: they differ in the second byte alone
+three_rows : (a b : ℕ) (t : Bool)
+    → (within (0xe0 to 0xef) a && (within tail b && t) && not (eqb a 0xe0 && ltb b 0xa0) && not (eqb a 0xed && ltb 0x9f b))
+    ≡ (within (0xe0 to 0xe0) a && (within (0xa0 to 0xbf) b && t) || within (0xe1 to 0xec) a && (within tail b && t)
+    || within (0xed to 0xed) a && (within (0x80 to 0x9f) b && t) || within (0xee to 0xef) a && (within tail b && t))
+three_rows a b t = grind (arith, nat_tests)
+
+pub char3_at : (s : List ℕ) → 3 ≤ length s
+    → (within (0xe0 to 0xef) (get_or s 0 0) && (within tail (get_or s 1 0) && within tail (get_or s 2 0)) && not (eqb (get_or s 0 0) 0xe0 && ltb (get_or s 1 0) 0xa0)
+    && not (eqb (get_or s 0 0) 0xed && ltb 0x9f (get_or s 1 0)))
+    ≡ char3 s
+char3_at s h =
+    rw (fits_three (0xe0 to 0xe0) (0xa0 to 0xbf) tail s h, fits_three (0xe1 to 0xec) tail tail s h, fits_three (0xed to 0xed) (0x80 to 0x9f) tail s h, fits_three (0xee to 0xef) tail tail s h)
+    (three_rows (get_or s 0 0) (get_or s 1 0) (within tail (get_or s 2 0)))
+
+-- and of four
+four_rows : (a b : ℕ) (t u : Bool)
+    → (within (0xf0 to 0xf4) a && (within tail b && t && u) && not (eqb a 0xf0 && ltb b 0x90) && not (eqb a 0xf4 && ltb 0x8f b))
+    ≡ (within (0xf0 to 0xf0) a && (within (0x90 to 0xbf) b && (t && u)) || within (0xf1 to 0xf3) a && (within tail b && (t && u))
+    || within (0xf4 to 0xf4) a && (within (0x80 to 0x8f) b && (t && u)))
+four_rows a b t u = grind (arith, nat_tests)
+
+pub char4_at : (s : List ℕ) → 4 ≤ length s
+    → (within (0xf0 to 0xf4) (get_or s 0 0) && (within tail (get_or s 1 0) && within tail (get_or s 2 0) && within tail (get_or s 3 0))
+    && not (eqb (get_or s 0 0) 0xf0 && ltb (get_or s 1 0) 0x90) && not (eqb (get_or s 0 0) 0xf4 && ltb 0x8f (get_or s 1 0)))
+    ≡ char4 s
+char4_at s h =
+    rw (fits_four (0xf0 to 0xf0) (0x90 to 0xbf) tail tail s h, fits_four (0xf1 to 0xf3) tail tail tail s h, fits_four (0xf4 to 0xf4) (0x80 to 0x8f) tail tail s h)
+    (four_rows (get_or s 0 0) (get_or s 1 0) (within tail (get_or s 2 0)) (within tail (get_or s 3 0)))
+
+-- fewer bytes begin with none of them
+pub none_three : (s : List ℕ) → length s < 3 → char3 s ≡ false
+none_three s h =
+    rw (fits_short (0xe0 to 0xe0 ∷ 0xa0 to 0xbf ∷ tail ∷ []) s h, fits_short (0xe1 to 0xec ∷ tail ∷ tail ∷ []) s h, fits_short (0xed to 0xed ∷ 0x80 to 0x9f ∷ tail ∷ []) s h, fits_short (0xee to 0xef ∷ tail ∷ tail ∷ []) s h)
+
+pub none_four : (s : List ℕ) → length s < 4 → char4 s ≡ false
+none_four s h =
+    rw (fits_short (0xf0 to 0xf0 ∷ 0x90 to 0xbf ∷ tail ∷ tail ∷ []) s h, fits_short (0xf1 to 0xf3 ∷ tail ∷ tail ∷ tail ∷ []) s h, fits_short (0xf4 to 0xf4 ∷ 0x80 to 0x8f ∷ tail ∷ tail ∷ []) s h)
 
 pick_le : (a b c d : Bool) (n : ℕ) → (a ≡ true → 1 ≤ n) → (b ≡ true → 2 ≤ n) → (c ≡ true → 3 ≤ n) → (d ≡ true → 4 ≤ n)
     → cond a 1 (cond b 2 (cond c 3 (cond d 4 0))) ≤ n

@@ -2,7 +2,7 @@
 #![tactic(auto)]
 
 ghost use Rattle.std.specs.Prelude.{◌≡◌, cond, [], ◌∷◌};
-ghost use Rattle.sdp_bytes.specs.Ranges.{◌to◌, in_at, fits};
+ghost use Rattle.sdp_bytes.specs.Ranges.{◌to◌, in_at, fits, within};
 ghost use Rattle.sdp_bytes.specs.Runs.{run_len};
 ghost use Rattle.sdp_utf8.specs.Utf8.{tail, char2, char3, char4, char_len, ascii, step_len, utf8_end, is_utf8};
 
@@ -16,31 +16,42 @@ fn is_two(s: &[u8]) -> bool
     matches!(s, [0xc2..=0xdf, 0x80..=0xbf, ..])
 }
 
-// Whether s begins with a character of three bytes.
-#[tactic(auto, using(crate::proofs::Utf8Laws::fits_places, crate::proofs::Utf8Laws::fits_short, std::proofs::lemmas::Bool::Decides::nat_tests))]
+// Whether b is one of lo..=hi.
+fn inside(b: u8, lo: u8, hi: u8) -> bool
+    ensures { result ≡ within (lo to hi) b }
+{
+    (lo <= b) & (b <= hi)
+}
+
+// Whether s begins with a character of three bytes: the four rows at once. They differ in the second byte alone, which E0 and ED ask more of.
+// As patterns the rows would be branches, which the processor guesses wrong where the characters of a text come from many blocks.
 fn is_three(s: &[u8]) -> bool
     ensures { result ≡ char3 s.now }
 {
-    matches!(
-        s,
-        [0xe0, 0xa0..=0xbf, 0x80..=0xbf, ..]
-            | [0xe1..=0xec, 0x80..=0xbf, 0x80..=0xbf, ..]
-            | [0xed, 0x80..=0x9f, 0x80..=0xbf, ..]
-            | [0xee..=0xef, 0x80..=0xbf, 0x80..=0xbf, ..]
-    )
+    match *s {
+        [a, b, c, ..] => {
+            let tails = inside(b, 0x80, 0xbf) & inside(c, 0x80, 0xbf);
+            let overlong = (a == 0xe0) & (b < 0xa0);
+            let surrogate = (a == 0xed) & (0x9f < b);
+            inside(a, 0xe0, 0xef) & tails & !overlong & !surrogate
+        }
+        _ => false,
+    }
 }
 
-// Whether s begins with a character of four bytes.
-#[tactic(auto, using(crate::proofs::Utf8Laws::fits_places, crate::proofs::Utf8Laws::fits_short, std::proofs::lemmas::Bool::Decides::nat_tests))]
+// Whether s begins with a character of four bytes: three rows at once, of which F0 and F4 ask more of the second byte.
 fn is_four(s: &[u8]) -> bool
     ensures { result ≡ char4 s.now }
 {
-    matches!(
-        s,
-        [0xf0, 0x90..=0xbf, 0x80..=0xbf, 0x80..=0xbf, ..]
-            | [0xf1..=0xf3, 0x80..=0xbf, 0x80..=0xbf, 0x80..=0xbf, ..]
-            | [0xf4, 0x80..=0x8f, 0x80..=0xbf, 0x80..=0xbf, ..]
-    )
+    match *s {
+        [a, b, c, d, ..] => {
+            let tails = inside(b, 0x80, 0xbf) & inside(c, 0x80, 0xbf) & inside(d, 0x80, 0xbf);
+            let overlong = (a == 0xf0) & (b < 0x90);
+            let beyond = (a == 0xf4) & (0x8f < b);
+            inside(a, 0xf0, 0xf4) & tails & !overlong & !beyond
+        }
+        _ => false,
+    }
 }
 
 // The length of the character that s begins with, 0 where it begins with none. The first byte tells which rows can fit.
