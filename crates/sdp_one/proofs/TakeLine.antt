@@ -71,27 +71,31 @@ states_once b ρ ls c g g' a a' t h k =
     ((λ d. record { named = (m d).named; zoned = (m d).zoned; begun = e d; empty = (n d).empty; ignored = (n d).ignored; kept = (n d).kept }), same h.holds.bytes k.holds.bytes)
 
 turned_once : (x : Lined) (f : State) (r r' : Turn) (a a' t : List ℕ) → Turned x f r a t → Turned x f r' a' t → (r ≡ r') × (seen_turn r a ≡ seen_turn r' a')
-turned_once (on (searching c)) f (Ok (Some g)) (Ok (Some g')) a a' t h k = let s = states_once false fresh no_stamps c g g' a a' t h k in (ap (λ (z : State). Ok (Some z)) s.0, s.1)
-turned_once (on (reading ρ ls c)) f (Ok (Some g)) (Ok (Some g')) a a' t h k = let s = states_once true ρ ls c g g' a a' t h k in (ap (λ (z : State). Ok (Some z)) s.0, s.1)
-turned_once (on x) f (Ok (Some g)) (Ok None) a a' t h k = absurd k
-turned_once (on x) f (Ok (Some g)) (Err e) a a' t h k = absurd k
-turned_once (on x) f (Ok None) r' a a' t h k = absurd h
-turned_once (on x) f (Err e) r' a a' t h k = absurd h
-turned_once (ended σ ls c) f (Ok (Some g)) r' a a' t h k = absurd h
-turned_once (ended σ ls c) f (Err e) r' a a' t h k = absurd h
-turned_once (ended σ ls c) f (Ok None) (Ok (Some g)) a a' t h k = absurd k
-turned_once (ended σ ls c) f (Ok None) (Err e) a a' t h k = absurd k
-turned_once (ended σ ls c) f (Ok None) (Ok None) a a' t h k = (refl, same h.1 k.1)
-turned_once (stopped x) f (Ok r) r' a a' t h k = absurd h
-turned_once (stopped x) f (Err (Unread y)) r' a a' t h k = absurd h
-turned_once (stopped x) f (Err (Stopped y)) (Ok r) a a' t h k = absurd k
-turned_once (stopped x) f (Err (Stopped y)) (Err (Unread z)) a a' t h k = absurd k
-turned_once (stopped x) f (Err (Stopped y)) (Err (Stopped y')) a a' t h k = (ap (λ (z : Answer). Err (Stopped z)) (same h.0 k.0), same h.1 k.1)
-turned_once (unread x) f (Ok r) r' a a' t h k = absurd h
-turned_once (unread x) f (Err (Stopped y)) r' a a' t h k = absurd h
-turned_once (unread x) f (Err (Unread y)) (Ok r) a a' t h k = absurd k
-turned_once (unread x) f (Err (Unread y)) (Err (Stopped z)) a a' t h k = absurd k
-turned_once (unread x) f (Err (Unread y)) (Err (Unread y')) a a' t h k = (ap (λ (z : Answer). Err (Unread z)) (same h.0 k.0), same h.1 k.1)
+turned_once (on (searching c)) f (Some (Ok g)) (Some (Ok g')) a a' t h k = let s = states_once false fresh no_stamps c g g' a a' t h k in (ap (λ (z : State). Some (Ok z)) s.0, s.1)
+turned_once (on (reading ρ ls c)) f (Some (Ok g)) (Some (Ok g')) a a' t h k = let s = states_once true ρ ls c g g' a a' t h k in (ap (λ (z : State). Some (Ok z)) s.0, s.1)
+turned_once (on x) f (Some (Ok g)) None a a' t h k = absurd k
+turned_once (on x) f (Some (Ok g)) (Some (Err e)) a a' t h k = absurd k
+turned_once (on x) f None r' a a' t h k = absurd h
+turned_once (on x) f (Some (Err e)) r' a a' t h k = absurd h
+turned_once (ended σ ls c) f (Some (Ok g)) r' a a' t h k = absurd h
+turned_once (ended σ ls c) f (Some (Err e)) r' a a' t h k = absurd h
+turned_once (ended σ ls c) f None (Some (Ok g)) a a' t h k = absurd k
+turned_once (ended σ ls c) f None (Some (Err e)) a a' t h k = absurd k
+turned_once (ended σ ls c) f None None a a' t h k = (refl, same h.1 k.1)
+turned_once (stopped x) f None r' a a' t h k = absurd h
+turned_once (stopped x) f (Some (Ok g)) r' a a' t h k = absurd h
+turned_once (stopped x) f (Some (Err (Unread y))) r' a a' t h k = absurd h
+turned_once (stopped x) f (Some (Err (Stopped y))) None a a' t h k = absurd k
+turned_once (stopped x) f (Some (Err (Stopped y))) (Some (Ok g)) a a' t h k = absurd k
+turned_once (stopped x) f (Some (Err (Stopped y))) (Some (Err (Unread z))) a a' t h k = absurd k
+turned_once (stopped x) f (Some (Err (Stopped y))) (Some (Err (Stopped y'))) a a' t h k = (ap (λ (z : Answer). Some (Err (Stopped z))) (same h.0 k.0), same h.1 k.1)
+turned_once (unread x) f None r' a a' t h k = absurd h
+turned_once (unread x) f (Some (Ok g)) r' a a' t h k = absurd h
+turned_once (unread x) f (Some (Err (Stopped y))) r' a a' t h k = absurd h
+turned_once (unread x) f (Some (Err (Unread y))) None a a' t h k = absurd k
+turned_once (unread x) f (Some (Err (Unread y))) (Some (Ok g)) a a' t h k = absurd k
+turned_once (unread x) f (Some (Err (Unread y))) (Some (Err (Stopped z))) a a' t h k = absurd k
+turned_once (unread x) f (Some (Err (Unread y))) (Some (Err (Unread y'))) a a' t h k = (ap (λ (z : Answer). Some (Err (Unread z))) (same h.0 k.0), same h.1 k.1)
 
 module _ (ρ : Reading Span) (t : List ℕ) where
   -- what takes a line by any step f

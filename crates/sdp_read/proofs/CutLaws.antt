@@ -117,11 +117,11 @@ module _ (s : List ℕ) (c : Cursor) where
       go End h = tt
 
   -- a line that a reading goes on past: further on, and one line more
-  pub goes_further : (g n : State) → Passes found g (Ok (Some n)) → Further s c then × (lines_in n ≡ lines_in g + 1)
+  pub goes_further : (g n : State) → Passes found g (Some (Ok n)) → Further s c then × (lines_in n ≡ lines_in g + 1)
   unfolding move_at
   goes_further g n = go (cut_at s c) cut_fine
     where
-      go : (k : Cut) → Fine k → Passes (move_by c.at c.line k).next g (Ok (Some n)) → Further s c (due (standing (move_by c.at c.line k))) × (lines_in n ≡ lines_in g + 1)
+      go : (k : Cut) → Fine k → Passes (move_by c.at c.line k).next g (Some (Ok n)) → Further s c (due (standing (move_by c.at c.line k))) × (lines_in n ≡ lines_in g + 1)
       go (Line l v d) h p = (h.0, p)
       go (Empty d) h p = (h, p)
       go (Refused f n) h p = absurd p

@@ -69,20 +69,20 @@ module _ (s : List ℕ) (short : length s ≤ longest_text) (from d : Cursor) (m
   stamped_on : (y : Lined) → lined ≡ y → Stamps s (stamps_on s g.so_far d) y (then s d)
   stamped_on y e = subst (λ (z : Lined). Stamps s (stamps_on s g.so_far d) z (then s d)) e (stamps_line s short d w g.so_far)
 
-  pub going_on : (n : State) → Turned lined m (Ok (Some n)) a' t → Going s from (then s d) n a' t
+  pub going_on : (n : State) → Turned lined m (Some (Ok n)) a' t → Going s from (then s d) n a' t
   going_on n h = go lined refl h
     where
-      go : (y : Lined) → lined ≡ y → Turned y m (Ok (Some n)) a' t → Going s from (then s d) n a' t
+      go : (y : Lined) → lined ≡ y → Turned y m (Some (Ok n)) a' t → Going s from (then s d) n a' t
       go (on x) e h = record { so_far = x; stands = h; left = left_on (on x) e; counted = g.counted ∙ counted_on (on x) e; stamped = g.stamped ∙ stamped_on (on x) e }
       go (ended σ ls k) e h = absurd h
       go (stopped y) e h = absurd h
       go (unread y) e h = absurd h
 
   -- the state has the counts of all lines
-  pub going_end : Turned lined m (Ok None) a' t → EndsFrom s from (Ok (counts_in m)) a' t
+  pub going_end : Turned lined m None a' t → EndsFrom s from (Ok (counts_in m)) a' t
   going_end h = go lined refl h
     where
-      go : (y : Lined) → lined ≡ y → Turned y m (Ok None) a' t → EndsFrom s from (Ok (counts_in m)) a' t
+      go : (y : Lined) → lined ≡ y → Turned y m None a' t → EndsFrom s from (Ok (counts_in m)) a' t
       go (on x) e h = absurd h
       go (ended σ ls k) e h =
           let q : counts_at s from ≡ k = g.counted ∙ counted_on (ended σ ls k) e in
@@ -91,10 +91,10 @@ module _ (s : List ℕ) (short : length s ≤ longest_text) (from d : Cursor) (m
       go (stopped x) e h = absurd h
       go (unread x) e h = absurd h
 
-  pub going_failed : (r : Failure) → Turned lined m (Err r) a' t → EndsFrom s from (Err r) a' t
+  pub going_failed : (r : Failure) → Turned lined m (Some (Err r)) a' t → EndsFrom s from (Err r) a' t
   going_failed r h = go lined refl r h
     where
-      go : (y : Lined) → lined ≡ y → (r : Failure) → Turned y m (Err r) a' t → EndsFrom s from (Err r) a' t
+      go : (y : Lined) → lined ≡ y → (r : Failure) → Turned y m (Some (Err r)) a' t → EndsFrom s from (Err r) a' t
       go (on x) e r h = absurd h
       go (ended σ ls k) e r h = absurd h
       go (stopped x) e (Stopped y) h = rw (left_on (stopped x) e) h
@@ -118,7 +118,7 @@ before_first s k ys w = record { reached = w; few = omega arith; going = λ r e.
 
 module _ (s : List ℕ) (short : length s ≤ longest_text) (from : Cursor) (ys : List ℕ) (k : Cutter) (m : State) (a : List ℕ) (b : Before s from ys k m a) (y : Cutter) (a' : List ℕ) where
   -- a line after which the run goes on
-  module _ (n : State) (e : Said s k m a (Ok (Some n)) y a') where
+  module _ (n : State) (e : Said s k m a (Some (Ok n)) y a') where
     passes : Further s (due k) (due y) × (lines_in n ≡ lines_in m + 1)
     passes = subst (λ (u : Cutter). Further s (due k) (due u) × (lines_in n ≡ lines_in m + 1)) (sym e.1) (goes_further s (due k) m n e.0.1)
 
@@ -142,12 +142,12 @@ module _ (s : List ℕ) (short : length s ≤ longest_text) (from : Cursor) (ys 
 
   -- past the last line, and at a refused one
   module _ (r : List ℕ) (q : ys ≡ area_of empty no_stamps r) where
-    pub at_last : Said s k m a (Ok None) y a' → EndsFrom s from (Ok (counts_in m)) a' r
+    pub at_last : Said s k m a None y a' → EndsFrom s from (Ok (counts_in m)) a' r
     at_last e =
         let g = b.going r q in
         going_end s short from (due k) m b.reached a a' r g (e.0.0 g.so_far r g.stands)
 
-    pub at_failed : (x : Failure) → Said s k m a (Err x) y a' → EndsFrom s from (Err x) a' r
+    pub at_failed : (x : Failure) → Said s k m a (Some (Err x)) y a' → EndsFrom s from (Err x) a' r
     at_failed x e =
         let g = b.going r q in
         going_failed s short from (due k) m b.reached a a' r g x (e.0.0 g.so_far r g.stands)

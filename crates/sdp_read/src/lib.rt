@@ -33,7 +33,7 @@ fn one_line(
     text: &[u8],
     area: &mut [u8],
     state: State,
-) -> Result<Option<State>, Failure>
+) -> Option<Result<State, Failure>>
     requires { (area_size ≤ length area.old) × ((length text.now ≤ longest_text) × Few state) }
     ensures { (Turns (λ x. line_at text.now x (due c.old))
         state result area.old area.new
@@ -51,8 +51,8 @@ fn read_lines(c: &mut Cutter, text: &[u8], area: &mut [u8]) -> Result<Counts, Fa
         → EndsFrom text.now (due c.old) result area.new t }
 {
     let mut state = State::default();
-    while let Some(next) = one_line(c, text, area, state)? {
-        state = next;
+    while let Some(turn) = one_line(c, text, area, state) {
+        state = turn?;
     }
     Ok(state.counts())
 }

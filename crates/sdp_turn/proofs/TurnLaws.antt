@@ -110,7 +110,7 @@ module _ (s : List ℕ) (n l : ℕ) (v : Span) (g : State) (a a' : List ℕ) whe
 
   -- m medias and o offsets were there before it, and the area a'' is there after its line was stamped
   pub good_kept : (m : Marks) (ms o : ℕ) (q : Role) (a'' : List ℕ) → ms ≡ num 2 a medias_at → o ≡ num 2 a offsets_at → q ≡ role_at ms l → a'' ≡ put_column (column_of q) o n a'
-      → Tells (role_in l) v.at.0 (bytes_of s v) (marks_in g) (Ok (Some m)) a a' → GoodTurns s n l v g (Ok (Some (kept_more g m))) a a''
+      → Tells (role_in l) v.at.0 (bytes_of s v) (marks_in g) (Ok (Some m)) a a' → GoodTurns s n l v g (Some (Ok (kept_more g m))) a a''
   good_kept m ms o q a'' counted before its is h = (λ ρ ls c t k. go ρ ls c t k (kind_of (role_in l ρ)) (step_of ρ) refl (h ρ (pairs ls ++ t) k.holds), kept-counted g m)
     where
       stamps : (ρ : Reading Span) (ls : List ℕ) (c : Counts) (t : List ℕ) → Carries true ρ ls c g a t → a'' ≡ put_column (column_of (role_in l ρ)) (length ρ.session.tables.offsets) n a'
@@ -123,17 +123,17 @@ module _ (s : List ℕ) (n l : ℕ) (v : Span) (g : State) (a a' : List ℕ) whe
           → Carries true τ (stamped n ρ.session τ.session ls) (one_kept c) (kept_more g m) a'' t
       goes_on ρ ls c t k τ e h = carried ρ ls c t k τ a'' (kept_more g m) (one_kept c) h refl (ap one_kept k.counts) (stamps ρ ls c t k ∙ put ρ ls c t k τ m e h)
 
-      go : (ρ : Reading Span) (ls : List ℕ) (c : Counts) (t : List ℕ) → Carries true ρ ls c g a t → (k : Kind) (x : Stepped Span) → step_of ρ ≡ x → Lands k x (marks_in g) (Ok (Some m)) a' (pairs ls ++ t) → Turned (after k ρ ls c x) g (Ok (Some (kept_more g m))) a'' t
+      go : (ρ : Reading Span) (ls : List ℕ) (c : Counts) (t : List ℕ) → Carries true ρ ls c g a t → (k : Kind) (x : Stepped Span) → step_of ρ ≡ x → Lands k x (marks_in g) (Ok (Some m)) a' (pairs ls ++ t) → Turned (after k ρ ls c x) g (Some (Ok (kept_more g m))) a'' t
       go ρ ls c t k unused x e h = absurd h
       go ρ ls c t k media (goes τ) e h = goes_on ρ ls c t k τ e h
       go ρ ls c t k media (stops w) e h = absurd h
       go ρ ls c t k other (goes τ) e h = goes_on ρ ls c t k τ e h
       go ρ ls c t k other (stops w) e h = absurd h
 
-  pub good_idle : Tells (role_in l) v.at.0 (bytes_of s v) (marks_in g) (Ok None) a a' → GoodTurns s n l v g (Ok (Some (ignored_more g))) a a'
+  pub good_idle : Tells (role_in l) v.at.0 (bytes_of s v) (marks_in g) (Ok None) a a' → GoodTurns s n l v g (Some (Ok (ignored_more g))) a a'
   good_idle h = (λ ρ ls c t k. go ρ ls c t k (kind_of (role_in l ρ)) (only (role_in l ρ)) (step_of ρ) refl (h ρ (pairs ls ++ t) k.holds), ignored_counted g)
     where
-      go : (ρ : Reading Span) (ls : List ℕ) (c : Counts) (t : List ℕ) → Carries true ρ ls c g a t → (k : Kind) → Only k (role_in l ρ) → (x : Stepped Span) → step_of ρ ≡ x → Lands k x (marks_in g) (Ok None) a' (pairs ls ++ t) → Turned (after k ρ ls c x) g (Ok (Some (ignored_more g))) a' t
+      go : (ρ : Reading Span) (ls : List ℕ) (c : Counts) (t : List ℕ) → Carries true ρ ls c g a t → (k : Kind) → Only k (role_in l ρ) → (x : Stepped Span) → step_of ρ ≡ x → Lands k x (marks_in g) (Ok None) a' (pairs ls ++ t) → Turned (after k ρ ls c x) g (Some (Ok (ignored_more g))) a' t
       go ρ ls c t k unused q (goes τ) e h =
           carried ρ ls c t k τ a' (ignored_more g) (one_ignored c) h k.begun_is (ap one_ignored k.counts)
           (ap (λ (x : Role). put_column (column_of x) (length ρ.session.tables.offsets) n a') (sym q) ∙ put ρ ls c t k τ (marks_in g) e h)
@@ -144,13 +144,13 @@ module _ (s : List ℕ) (n l : ℕ) (v : Span) (g : State) (a a' : List ℕ) whe
       go ρ ls c t k other q (stops w) e h = absurd h
 
   pub good_refused : (w : Wrong) (y : Answer) → ((ρ : Reading Span) → step_of ρ ≡ stops w → y ≡ wrong_at n v.at.0 w)
-      → Tells (role_in l) v.at.0 (bytes_of s v) (marks_in g) (Err w) a a' → GoodTurns s n l v g (Err (Stopped y)) a a'
+      → Tells (role_in l) v.at.0 (bytes_of s v) (marks_in g) (Err w) a a' → GoodTurns s n l v g (Some (Err (Stopped y))) a a'
   good_refused w y is h = (λ ρ ls c t k. go ρ ls c t k (kind_of (role_in l ρ)) (step_of ρ) refl (h ρ (pairs ls ++ t) k.holds), tt)
     where
       told : (ρ : Reading Span) (x : Wrong) → step_of ρ ≡ stops x → w ≡ x → y ≡ wrong_at n v.at.0 x
       told ρ x e q = is ρ (e ∙ ap stops (sym q)) ∙ ap (wrong_at n v.at.0) q
 
-      go : (ρ : Reading Span) (ls : List ℕ) (c : Counts) (t : List ℕ) → Carries true ρ ls c g a t → (k : Kind) (x : Stepped Span) → step_of ρ ≡ x → Lands k x (marks_in g) (Err w) a' (pairs ls ++ t) → Turned (after k ρ ls c x) g (Err (Stopped y)) a' t
+      go : (ρ : Reading Span) (ls : List ℕ) (c : Counts) (t : List ℕ) → Carries true ρ ls c g a t → (k : Kind) (x : Stepped Span) → step_of ρ ≡ x → Lands k x (marks_in g) (Err w) a' (pairs ls ++ t) → Turned (after k ρ ls c x) g (Some (Err (Stopped y))) a' t
       go ρ ls c t k unused x e h = absurd h
       go ρ ls c t k media (goes τ) e h = absurd h
       go ρ ls c t k media (stops x) e h = (told ρ x e h.0, behind-lines a' ls t k.lines h.1)
@@ -180,25 +180,25 @@ module _ (s : List ℕ) (g : State) (a : List ℕ) where
       turns (searching c) t k = rw k.begun_is (refl, k.holds.bytes)
       turns (reading ρ ls c) t k = rw k.begun_is (k.counts, k.holds.bytes)
 
-      passes : (b : Bool) → Passes End g (cond {A = Turn} b (Ok None) (Err (Unread no_version)))
+      passes : (b : Bool) → Passes End g (cond {A = Turn} b None (Some (Err (Unread no_version))))
       passes true = tt
       passes false = tt
 
-  pub turns_bad : (f : Fault) (n : LineNumber) → Turns (λ x. line_of s x (Refused f n)) g (Err (failure_of g.begun (answer (fault_number f) n.0 0))) a a × Passes (Refused f n) g (Err (failure_of g.begun (answer (fault_number f) n.0 0)))
+  pub turns_bad : (f : Fault) (n : LineNumber) → Turns (λ x. line_of s x (Refused f n)) g (Some (Err (failure_of g.begun (answer (fault_number f) n.0 0)))) a a × Passes (Refused f n) g (Some (Err (failure_of g.begun (answer (fault_number f) n.0 0))))
   turns_bad f n = (turns, passes g.begun)
     where
-      turns : Turns (λ x. line_of s x (Refused f n)) g (Err (failure_of g.begun (answer (fault_number f) n.0 0))) a a
+      turns : Turns (λ x. line_of s x (Refused f n)) g (Some (Err (failure_of g.begun (answer (fault_number f) n.0 0)))) a a
       turns (searching c) t k = rw k.begun_is (refl, k.holds.bytes)
       turns (reading ρ ls c) t k = rw k.begun_is (refl, behind-lines a ls t k.lines (tail_of k.holds))
 
-      passes : (b : Bool) → Passes (Refused f n) g (Err (failure_of b (answer (fault_number f) n.0 0)))
+      passes : (b : Bool) → Passes (Refused f n) g (Some (Err (failure_of b (answer (fault_number f) n.0 0))))
       passes true = tt
       passes false = tt
 
-  pub turns_empty : Turns (λ x. line_of s x Empty) g (Ok (Some (empty_more g))) a a × Passes Empty g (Ok (Some (empty_more g)))
+  pub turns_empty : Turns (λ x. line_of s x Empty) g (Some (Ok (empty_more g))) a a × Passes Empty g (Some (Ok (empty_more g)))
   turns_empty = (turns, empty-counted g)
     where
-      turns : Turns (λ x. line_of s x Empty) g (Ok (Some (empty_more g))) a a
+      turns : Turns (λ x. line_of s x Empty) g (Some (Ok (empty_more g))) a a
       turns (searching c) t k = record { begun_is = k.begun_is; holds = k.holds; lines = k.lines; counts = ap one_empty k.counts }
       turns (reading ρ ls c) t k = record { begun_is = k.begun_is; holds = k.holds; lines = k.lines; counts = ap one_empty k.counts }
 

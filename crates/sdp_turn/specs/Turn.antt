@@ -139,7 +139,7 @@ kept_more g m = record { named = m.named; zoned = m.zoned; begun = true; empty =
 -- ---- the code's answers
 -- a reading goes on with a state; the lines are at their end, and the state before it has their counts; or the reading fails
 abbrev pub Turn : Type 0
-Turn = Result (Option State) Failure
+Turn = Option (Result State Failure)
 
 -- a refusal, after the version line or before it
 abbrev pub failure_of : Bool → Answer → Failure
@@ -148,12 +148,12 @@ failure_of false x = Unread x
 
 -- no line is left
 abbrev pub end_turn : State → Turn
-end_turn g = cond g.begun (Ok None) (Err (Unread no_version))
+end_turn g = cond g.begun None (Some (Err (Unread no_version)))
 
 -- the first line that is not empty, by what it says
 abbrev pub opened_turn_to : State → Result (Unit {0}) Answer → Turn
-opened_turn_to g (Ok u) = Ok (Some (kept_more g (marks_in g)))
-opened_turn_to g (Err x) = Err (Unread x)
+opened_turn_to g (Ok u) = Some (Ok (kept_more g (marks_in g)))
+opened_turn_to g (Err x) = Some (Err (Unread x))
 
 -- a line of good form, as good_line
 abbrev pub opened_turn : List ℕ → State → ℕ → ℕ → Span → Turn
@@ -175,18 +175,20 @@ Stands (reading ρ ls c) g a t = Carries true ρ ls c g a t
 -- the code's answer for a line, where g was the state before it, and the area: after a refused line of a session only the bytes behind it
 -- still count
 abbrev pub Turned : Lined → State → Turn → List ℕ → List ℕ → Type 0
-Turned (on x) g (Ok (Some h)) a t = Stands x h a t
-Turned (on x) g (Ok None) a t = ⊥
-Turned (on x) g (Err e) a t = ⊥
-Turned (ended s ls c) g (Ok (Some h)) a t = ⊥
-Turned (ended s ls c) g (Ok None) a t = (counts_in g ≡ c) × (a ≡ area_of s ls t)
-Turned (ended s ls c) g (Err e) a t = ⊥
-Turned (stopped x) g (Ok r) a t = ⊥
-Turned (stopped x) g (Err (Stopped y)) a t = (y ≡ x) × (drop area_size a ≡ t)
-Turned (stopped x) g (Err (Unread y)) a t = ⊥
-Turned (unread x) g (Ok r) a t = ⊥
-Turned (unread x) g (Err (Stopped y)) a t = ⊥
-Turned (unread x) g (Err (Unread y)) a t = (y ≡ x) × (a ≡ area_of empty no_stamps t)
+Turned (on x) g (Some (Ok h)) a t = Stands x h a t
+Turned (on x) g None a t = ⊥
+Turned (on x) g (Some (Err e)) a t = ⊥
+Turned (ended s ls c) g (Some (Ok h)) a t = ⊥
+Turned (ended s ls c) g None a t = (counts_in g ≡ c) × (a ≡ area_of s ls t)
+Turned (ended s ls c) g (Some (Err e)) a t = ⊥
+Turned (stopped x) g (Some (Ok h)) a t = ⊥
+Turned (stopped x) g None a t = ⊥
+Turned (stopped x) g (Some (Err (Stopped y))) a t = (y ≡ x) × (drop area_size a ≡ t)
+Turned (stopped x) g (Some (Err (Unread y))) a t = ⊥
+Turned (unread x) g (Some (Ok h)) a t = ⊥
+Turned (unread x) g None a t = ⊥
+Turned (unread x) g (Some (Err (Stopped y))) a t = ⊥
+Turned (unread x) g (Some (Err (Unread y))) a t = (y ≡ x) × (a ≡ area_of empty no_stamps t)
 
 -- whatever the state and the area held
 abbrev pub Turns : (Standing → Lined) → State → Turn → List ℕ → List ℕ → Type 0
@@ -194,9 +196,9 @@ Turns f g r a a' = (x : Standing) (t : List ℕ) → Stands x g a t → Turned (
 
 -- a reading that goes on has one line more
 abbrev pub Counted : State → Turn → Type 0
-Counted g (Ok (Some h)) = lines_in h ≡ lines_in g + 1
-Counted g (Ok None) = Unit {0}
-Counted g (Err e) = Unit {0}
+Counted g (Some (Ok h)) = lines_in h ≡ lines_in g + 1
+Counted g None = Unit {0}
+Counted g (Some (Err e)) = Unit {0}
 
 -- a line of good form after the version line
 abbrev pub GoodTurns : List ℕ → ℕ → ℕ → Span → State → Turn → List ℕ → List ℕ → Type 0
@@ -205,9 +207,9 @@ GoodTurns s n l v g r a a' =
 
 -- a reading doesn't go on
 abbrev pub Stays : Turn → Type 0
-Stays (Ok (Some h)) = ⊥
-Stays (Ok None) = Unit {0}
-Stays (Err e) = Unit {0}
+Stays (Some (Ok h)) = ⊥
+Stays None = Unit {0}
+Stays (Some (Err e)) = Unit {0}
 
 -- a reading goes on only past a line
 abbrev pub Passes : Next → State → Turn → Type 0

@@ -1,7 +1,7 @@
 // Document 01, module 4: one line, by what the cutter found, and what it does to a reading.
 #![tactic(auto)]
 
-ghost use Rattle.std.specs.Prelude.{◌≡◌, ◌+◌, ◌^◌, ◌<◌, ◌≤◌, length};
+ghost use Rattle.std.specs.Prelude.{Some, ◌≡◌, ◌+◌, ◌^◌, ◌<◌, ◌≤◌, length};
 ghost use Rattle.sdp_numbers.specs.Refusals.{longest_text, encoding};
 ghost use Rattle.sdp_area.specs.Columns.{area_size};
 ghost use Rattle.sdp_turn.specs.Turn.{Inside, Few, marks_in, counts_in, empty_more, ignored_more, kept_more};
@@ -17,17 +17,17 @@ use sdp_roles::role_at;
 use sdp_stamp::stamp;
 use sdp_step::Marks;
 
-// What a reading carries from line to line beside the area: the marks, whether the version line is behind it, and how many
-// lines were kept, empty and ignored so far. In another order the compiled loop is slower (docs/SPEED.md). `Few` is no invariant
-// of it: each line adds one, and what bounds them all is the text, which a state doesn't have.
+// What a reading carries from line to line beside the area: the marks, how many lines were kept, empty and ignored so far, and whether
+// the version line is behind it. In another order, or with three flags side by side, the compiled loop is slower (docs/SPEED.md). `Few` is
+// no invariant of it: each line adds one, and what bounds them all is the text, which a state doesn't have.
 #[derive(Clone, Copy, Default)]
 pub struct State {
     pub named: bool,
     pub zoned: bool,
-    pub begun: bool,
     pub kept: u64,
     pub empty: u64,
     pub ignored: u64,
+    pub begun: bool,
 }
 
 // Why a reading fails: a line is refused; or the version is, or a line above it, and no line was read.
@@ -120,9 +120,9 @@ fn good_line(
     number: LineNumber,
     letter: u8,
     value: Span,
-) -> Result<Option<State>, Failure>
+) -> Result<State, Failure>
     requires { (area_size ≤ length area.old) × ((length text.now ≤ longest_text) × (Few state × (value.at.0 + value.len ≤ length text.now))) }
-    ensures { GoodTurns text.now number.0 letter value state result area.old area.new }
+    ensures { GoodTurns text.now number.0 letter value state (Some result) area.old area.new }
 {
     let at = value.at;
     let begin = at.0;
@@ -132,9 +132,9 @@ fn good_line(
     match take(area, at, state.marks(), number, letter, &text[begin..end]) {
         Ok(Some(marks)) => {
             stamp(area, role, before, number.0);
-            Ok(Some(state.one_kept(marks)))
+            Ok(state.one_kept(marks))
         }
-        Ok(None) => Ok(Some(state.one_ignored())),
+        Ok(None) => Ok(state.one_ignored()),
         Err(w) => Err(Failure::Stopped(wrong_at(number, at, w))),
     }
 }
@@ -146,15 +146,15 @@ fn opened_line(
     number: LineNumber,
     letter: u8,
     value: Span,
-) -> Result<Option<State>, Failure>
+) -> Result<State, Failure>
     requires { Few state × (value.at.0 + value.len ≤ length text.now) }
-    ensures { result ≡ opened_turn text.now state number.0 letter value }
+    ensures { Some result ≡ opened_turn text.now state number.0 letter value }
 {
     let at = value.at;
     let begin = at.0;
     let end = begin + value.len;
     opening_line(at, number, letter, &text[begin..end]).map_err(Failure::Unread)?;
-    Ok(Some(state.one_kept(state.marks())))
+    Ok(state.one_kept(state.marks()))
 }
 
 // The refusal of a line: before the version line, nothing was read.
@@ -168,13 +168,13 @@ fn refused(begun: bool, x: Answer) -> Failure
 }
 
 // No line is left: that is the end, or the version line is missing.
-fn at_end(state: State) -> Result<Option<State>, Failure>
+fn at_end(state: State) -> Option<Result<State, Failure>>
     ensures { result ≡ end_turn state }
 {
     if state.begun {
-        return Ok(None);
+        return None;
     }
-    Err(Failure::Unread(Answer::plain(6)))
+    Some(Err(Failure::Unread(Answer::plain(6))))
 }
 
 // What the cutter found, and what it does to a reading: the state after a line; none at the end of the lines.
@@ -183,7 +183,7 @@ pub fn turn_of(
     area: &mut [u8],
     state: State,
     next: Next,
-) -> Result<Option<State>, Failure>
+) -> Option<Result<State, Failure>>
     requires { (area_size ≤ length area.old) × ((length text.now ≤ longest_text) × (Few state × Inside text.now next)) }
     ensures { Turns (λ st. line_of text.now st next)
         state result area.old area.new × Passes next state result }
@@ -191,18 +191,18 @@ pub fn turn_of(
     match next {
         Next::End => at_end(state),
         Next::Refused { fault, line } => {
-            Err(refused(state.begun, Answer::on_line(fault.number(), line, 0)))
+            Some(Err(refused(state.begun, Answer::on_line(fault.number(), line, 0))))
         }
-        Next::Empty => Ok(Some(state.one_empty())),
+        Next::Empty => Some(Ok(state.one_empty())),
         Next::Found {
             number,
             letter,
             value,
         } => {
             if state.begun {
-                return good_line(text, area, state, number, letter, value);
+                return Some(good_line(text, area, state, number, letter, value));
             }
-            opened_line(text, state, number, letter, value)
+            Some(opened_line(text, state, number, letter, value))
         }
     }
 }

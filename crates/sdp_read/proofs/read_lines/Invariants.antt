@@ -5,8 +5,8 @@ use Rattle.sdp_cutter.specs.Cutter.{due}
 use Rattle.sdp_read.proofs.LoopLaws.{Before}
 use Rattle.sdp_read.proofs.read_lines.Given as goal
 
-abbrev pub invariant-loop-next : goal.invariant-loop-next
-invariant-loop-next l = Before l.text (due l.fn.c) l.fn.area l.c l.state l.area
+abbrev pub invariant-loop-turn : goal.invariant-loop-turn
+invariant-loop-turn l = Before l.text (due l.fn.c) l.fn.area l.c l.state l.area
 
-abbrev pub decreases-loop-next : goal.decreases-loop-next
-decreases-loop-next l = length l.text - l.c.at.0
+abbrev pub decreases-loop-turn : goal.decreases-loop-turn
+decreases-loop-turn l = length l.text - l.c.at.0
