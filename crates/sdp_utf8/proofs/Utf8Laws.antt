@@ -132,23 +132,17 @@ fits_le (r ∷ rs) (b ∷ s) e = let h = fits_le rs s (and_right (within r b) (f
 pub fits_short : (rs : List Range) (s : List ℕ) → length s < length rs → fits rs s ≡ false
 fits_short rs s h = not_true (fits rs s) (λ e. omega (arith, fits_le rs s e))
 
--- the rows of three and of four bytes, by their places
-pub fits_three : (r q t : Range) (s : List ℕ) → 3 ≤ length s
-    → fits (r ∷ q ∷ t ∷ []) s ≡ (within r (get_or s 0 0) && (within q (get_or s 1 0) && within t (get_or s 2 0)))
-unfolding fits
-fits_three r q t [] h = absurd (omega arith)
-fits_three r q t (a ∷ []) h = absurd (omega arith)
-fits_three r q t (a ∷ b ∷ []) h = absurd (omega arith)
-fits_three r q t (a ∷ b ∷ c ∷ s) h = rw (and-true (within t c))
+-- where s is long enough, only the bytes are asked, and not whether they are there
+abbrev pub within_at : List Range → List ℕ → ℕ → Bool
+within_at [] s i = true
+within_at (r ∷ rs) s i = within r (get_or s i 0) && within_at rs s (i + 1)
 
-pub fits_four : (r q t u : Range) (s : List ℕ) → 4 ≤ length s
-    → fits (r ∷ q ∷ t ∷ u ∷ []) s ≡ (within r (get_or s 0 0) && (within q (get_or s 1 0) && (within t (get_or s 2 0) && within u (get_or s 3 0))))
-unfolding fits
-fits_four r q t u [] h = absurd (omega arith)
-fits_four r q t u (a ∷ []) h = absurd (omega arith)
-fits_four r q t u (a ∷ b ∷ []) h = absurd (omega arith)
-fits_four r q t u (a ∷ b ∷ c ∷ []) h = absurd (omega arith)
-fits_four r q t u (a ∷ b ∷ c ∷ d ∷ s) h = rw (and-true (within u d))
+known_at : (rs : List Range) (s : List ℕ) (i : ℕ) → i + length rs ≤ length s → fits_at rs s i ≡ within_at rs s i
+known_at [] s i h = refl
+known_at (r ∷ rs) s i h = rw (lt-ltb i (length s) (omega arith), known_at rs s (i + 1) (omega arith))
+
+pub fits_known : (rs : List Range) (s : List ℕ) → length rs ≤ length s → fits rs s ≡ within_at rs s 0
+fits_known rs s h = fits_places rs s ∙ known_at rs s 0 (omega arith)
 
 -- the rows of three bytes at once: they differ in the second byte alone
 three_rows : (a b : ℕ) (t : Bool)
@@ -162,7 +156,7 @@ pub char3_at : (s : List ℕ) → 3 ≤ length s
     && not (eqb (get_or s 0 0) 0xed && ltb 0x9f (get_or s 1 0)))
     ≡ char3 s
 char3_at s h =
-    rw (fits_three (0xe0 to 0xe0) (0xa0 to 0xbf) tail s h, fits_three (0xe1 to 0xec) tail tail s h, fits_three (0xed to 0xed) (0x80 to 0x9f) tail s h, fits_three (0xee to 0xef) tail tail s h)
+    rw (fits_known (0xe0 to 0xe0 ∷ 0xa0 to 0xbf ∷ tail ∷ []) s h, fits_known (0xe1 to 0xec ∷ tail ∷ tail ∷ []) s h, fits_known (0xed to 0xed ∷ 0x80 to 0x9f ∷ tail ∷ []) s h, fits_known (0xee to 0xef ∷ tail ∷ tail ∷ []) s h, and-true (within tail (get_or s 2 0)))
     (three_rows (get_or s 0 0) (get_or s 1 0) (within tail (get_or s 2 0)))
 
 -- and of four
@@ -177,7 +171,7 @@ pub char4_at : (s : List ℕ) → 4 ≤ length s
     && not (eqb (get_or s 0 0) 0xf0 && ltb (get_or s 1 0) 0x90) && not (eqb (get_or s 0 0) 0xf4 && ltb 0x8f (get_or s 1 0)))
     ≡ char4 s
 char4_at s h =
-    rw (fits_four (0xf0 to 0xf0) (0x90 to 0xbf) tail tail s h, fits_four (0xf1 to 0xf3) tail tail tail s h, fits_four (0xf4 to 0xf4) (0x80 to 0x8f) tail tail s h)
+    rw (fits_known (0xf0 to 0xf0 ∷ 0x90 to 0xbf ∷ tail ∷ tail ∷ []) s h, fits_known (0xf1 to 0xf3 ∷ tail ∷ tail ∷ tail ∷ []) s h, fits_known (0xf4 to 0xf4 ∷ 0x80 to 0x8f ∷ tail ∷ tail ∷ []) s h, and-true (within tail (get_or s 3 0)))
     (four_rows (get_or s 0 0) (get_or s 1 0) (within tail (get_or s 2 0)) (within tail (get_or s 3 0)))
 
 -- fewer bytes begin with none of them

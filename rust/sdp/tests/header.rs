@@ -65,6 +65,7 @@ fn exported() -> Vec<Function> {
 fn no_output_is_read() {
     let (mut stores, mut made) = (0, 0);
     for name in ["sdp_put", "sdp_row", "sdp_table_row", "sdp_tables", "sdp_write"] {
+        let mut opened = String::new();
         for line in file(&format!("crates/{name}/src/lib.rt")).lines().map(str::trim) {
             if ["//", "ghost ", "ensures ", "requires ", "use "].iter().any(|start| line.starts_with(start)) {
                 continue;
@@ -83,11 +84,30 @@ fn no_output_is_read() {
             let places = line.matches("out[").count() - stored;
             assert_eq!((others, asked, places), (0, 0, 0), "{name}: {line}");
             assert!(!line.contains("&out") && (name == "sdp_put" || stored + handed + field == 0), "{name}: {line}");
+            if name == "sdp_put" {
+                // a call that the formatter breaks hands `out` on where it opens
+                let line = format!("{opened}{line}");
+                opened = if line.ends_with('(') { line } else { assert_outs(&line) };
+            }
             stores += stored;
             made += lent;
         }
     }
     assert_eq!((stores, made), (1 + 4 + 8 + 1, 1), "one byte, four digits, eight bytes, a byte of a short string; in fill");
+}
+
+/// In `sdp_put` every word `out` is a parameter that can be stored to, its length, a store, or what one of the functions with
+/// such a parameter is lent.
+fn assert_outs(line: &str) -> String {
+    let words = line.split(|c: char| !c.is_alphanumeric() && c != '_').filter(|word| *word == "out").count();
+    let lent = "byte_at two_at kept_at clean_at put4 four_at short_at number_at store8 copy_each copy_eights copy";
+    let calls: usize = lent.split(' ').map(|name| line.matches(&format!("{name}(out,")).count()).sum();
+    let known = calls
+        + line.matches("(out: &mut [u8], ").count()
+        + line.matches("out.len()").count()
+        + usize::from(line.starts_with("out[") && line.contains("] = "));
+    assert_eq!(words, known, "sdp_put: {line}");
+    String::new()
 }
 
 /// The fields of a struct that crosses to C, by the source: u64, arrays of it, or another such struct.

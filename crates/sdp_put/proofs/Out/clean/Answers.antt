@@ -1,1 +1,0 @@
--- `sdp_put::Out::clean` meets its contract. Assumes nothing.
