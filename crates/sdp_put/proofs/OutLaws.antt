@@ -33,14 +33,18 @@ put_out [] o at h = refl
 put_out (b ∷ bs) o at h =
     put_out bs (set o at b) (suc at) (omega (arith, length-set o at b)) ∙ set_out o at b h
 
+-- all of s, where there is room for it
+pub put_here : (o s : List ℕ) (at k : ℕ) → at + length s ≤ length o → k ≡ length s → take at o ++ (s ++ drop k (drop at o)) ≡ put o at s
+unfolding put
+put_here o s at k h e =
+    let d : drop (at + length s) o ≡ drop k (drop at o) = ap (λ (i : ℕ). drop i o) (let z : at + length s ≡ at + k = omega arith in z) ∙ sym (drop-drop k at o) in
+    sym (sets-eq s o at h ∙ append_assoc (take at o) s (drop (at + length s) o) ∙ ap (λ (x : List ℕ). take at o ++ (s ++ x)) d)
+
 -- as much of s as there is room for, in the place of what stands there
 module _ (o s : List ℕ) (at a n k : ℕ) (e : a ≡ min at (length o)) (f : n ≡ min (length s) (length o - a)) where
   placed_part : k ≡ n → take a o ++ (take n s ++ drop k (drop a o)) ≡ put o a (take n s)
-  unfolding put
   placed_part g =
-      let m : length (take n s) ≡ n = length-take-le n s (omega arith) in
-      let d : drop (a + length (take n s)) o ≡ drop k (drop a o) = ap (λ (i : ℕ). drop i o) (let z : a + length (take n s) ≡ a + k = omega arith in z) ∙ sym (drop-drop k a o) in
-      sym (sets-eq (take n s) o a (omega arith) ∙ append_assoc (take a o) (take n s) (drop (a + length (take n s)) o) ∙ ap (λ (x : List ℕ). take a o ++ (take n s ++ x)) d)
+      let m : length (take n s) ≡ n = length-take-le n s (omega arith) in put_here o (take n s) a k (omega arith) (omega arith)
 
   whole_part : put o a (take n s) ≡ put o at s
   whole_part = go (ltb (length s) (length o - a)) (ltb at (length o)) refl refl

@@ -32,8 +32,8 @@ impl Out<'_> {
         self.at = two_at(self.bytes, self.at, b, c);
     }
 
-    // A whole slice, as far as there is room.
-    pub fn all(&mut self, s: &[u8])
+    // What there is room for of a whole slice.
+    fn some(&mut self, s: &[u8])
         ensures { Puts self.old s.now self.new }
     {
         let at = self.at.min(self.bytes.len());
@@ -42,7 +42,21 @@ impl Out<'_> {
         self.at = self.at.saturating_add(s.len());
     }
 
+    // A whole slice, as far as there is room. How much is copied must not depend on the place where all of it fits: the next copies would
+    // wait for that.
+    pub fn all(&mut self, s: &[u8])
+        ensures { Puts self.old s.now self.new }
+    {
+        let at = self.at;
+        if self.bytes.len() < at || self.bytes.len() - at < s.len() {
+            return self.some(s);
+        }
+        copy(&mut self.bytes[at..at + s.len()], s);
+        self.at = at + s.len();
+    }
+
     // The bytes of s that are not left out. A short s is passed once.
+    #[inline(always)]
     fn clean(&mut self, s: &[u8])
         ensures { Puts self.old (clean s.now) self.new }
     {
@@ -54,6 +68,7 @@ impl Out<'_> {
     }
 
     // The len bytes of text from place on, without those that are left out.
+    #[inline(always)]
     pub fn text(&mut self, text: &[u8], place: usize, len: usize)
         ensures { Puts self.old (clean (part text.now place len)) self.new }
     {

@@ -1,5 +1,6 @@
 // The parts of a line and single lines of a session, put into an output, after writer.rs. p is a place in the area; what is read from there
 // on lies in it.
+// A line of strings is put by an Out of its own over the same slice: where all that sees it is inlined, its place stays in a register.
 #![tactic(auto)]
 
 ghost use Rattle.std.specs.Prelude.{[], ◌∷◌, ◌++◌, ◌+◌, ◌≤◌, length};
@@ -24,6 +25,7 @@ pub struct Source<'a> {
 }
 
 // The string whose place and length stand at p.
+#[inline(always)]
 pub fn put_string(out: &mut Out<'_>, s: Source<'_>, p: usize)
     requires { p + 4 ≤ length s.area.now }
     ensures { Puts out.old (clean (bytes_of s.entry.text.now (span_of s.entry.area.now p))) out.new }
@@ -38,9 +40,14 @@ pub fn put_string_line(out: &mut Out<'_>, letter: u8, s: Source<'_>, p: usize)
     requires { p + 4 ≤ length s.area.now }
     ensures { Puts out.old (string_line (bytes_of s.entry.text.now) letter (span_of s.entry.area.now p)) out.new }
 {
-    out.two(letter, b'=');
-    put_string(out, s, p);
-    out.two(13, 10);
+    let mut own = Out {
+        bytes: out.bytes,
+        at: out.at,
+    };
+    own.two(letter, b'=');
+    put_string(&mut own, s, p);
+    own.two(13, 10);
+    out.at = own.at;
 }
 
 // A line of one string, where it is present.
@@ -54,6 +61,7 @@ pub fn put_maybe_line(out: &mut Out<'_>, letter: u8, s: Source<'_>, p: usize)
     put_string_line(out, letter, s, p + 2);
 }
 
+#[inline(always)]
 fn put_spaced(out: &mut Out<'_>, s: Source<'_>, p: usize)
     requires { p + 4 ≤ length s.area.now }
     ensures { Puts out.old (spaced (clean (bytes_of s.entry.text.now (span_of s.entry.area.now p)))) out.new }
@@ -129,11 +137,16 @@ pub fn put_connection(out: &mut Out<'_>, s: Source<'_>, p: usize)
     requires { p + 12 ≤ length s.area.now }
     ensures { Puts out.old (connection_line (bytes_of s.entry.text.now) (connection_of s.entry.area.now p)) out.new }
 {
-    out.two(b'c', b'=');
-    put_string(out, s, p);
-    put_spaced(out, s, p + 4);
-    put_spaced(out, s, p + 8);
-    out.two(13, 10);
+    let mut own = Out {
+        bytes: out.bytes,
+        at: out.at,
+    };
+    own.two(b'c', b'=');
+    put_string(&mut own, s, p);
+    put_spaced(&mut own, s, p + 4);
+    put_spaced(&mut own, s, p + 8);
+    own.two(13, 10);
+    out.at = own.at;
 }
 
 pub fn put_session_connection(out: &mut Out<'_>, s: Source<'_>)
@@ -172,11 +185,16 @@ pub fn put_media_line(out: &mut Out<'_>, s: Source<'_>, p: usize)
     requires { p + 18 ≤ length s.area.now }
     ensures { Puts out.old (media_line (bytes_of s.entry.text.now) (media_of s.entry.area.now p)) out.new }
 {
-    out.two(b'm', b'=');
-    put_string(out, s, p);
-    put_spaced_number(out, get2(s.area, p + 4) as u64);
-    put_ports(out, s.area, p + 6);
-    put_spaced(out, s, p + 10);
-    put_spaced(out, s, p + 14);
-    out.two(13, 10);
+    let mut own = Out {
+        bytes: out.bytes,
+        at: out.at,
+    };
+    own.two(b'm', b'=');
+    put_string(&mut own, s, p);
+    put_spaced_number(&mut own, get2(s.area, p + 4) as u64);
+    put_ports(&mut own, s.area, p + 6);
+    put_spaced(&mut own, s, p + 10);
+    put_spaced(&mut own, s, p + 14);
+    own.two(13, 10);
+    out.at = own.at;
 }

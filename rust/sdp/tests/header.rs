@@ -60,10 +60,10 @@ fn exported() -> Vec<Function> {
 /// `ffi::fill_spare` lends memory that was not set. So in the crates that are lent an output a byte of it stands only where
 /// it is stored, and nothing else is asked of it than its length. The output is the field `bytes` of `Out`: `sdp_put` alone
 /// names it, and hands it on as `out` to functions of its own, but where `fill` makes an `Out` of what it is lent, and asks for
-/// its length before.
+/// its length before, and where a line of `sdp_row` makes an `Out` of its `own` of the one that it is lent.
 #[test]
 fn no_output_is_read() {
-    let (mut stores, mut made) = (0, 0);
+    let (mut stores, mut made, mut parts) = (0, 0, [0; 3]);
     for name in ["sdp_put", "sdp_row", "sdp_table_row", "sdp_tables", "sdp_write"] {
         let mut opened = String::new();
         for line in file(&format!("crates/{name}/src/lib.rt")).lines().map(str::trim) {
@@ -72,15 +72,20 @@ fn no_output_is_read() {
             }
             let stored = usize::from(line.starts_with("out[") && line.contains("] = "));
             let handed = line.matches("_at(self.bytes, self.at, ").count()
-                + usize::from(line.starts_with("copy(&mut self.bytes[at..at + n], "));
+                + ["n", "s.len()"].iter().filter(|n| line.starts_with(&format!("copy(&mut self.bytes[at..at + {n}], "))).count();
             let field = usize::from(line == "pub bytes: &'a mut [u8],");
             let lent = usize::from(line == "let mut out = Out { bytes: out, at: 0 };");
             let lengths = line.matches("self.bytes.len()").count();
-            let others = line.matches("bytes").count() - handed - field - lent - lengths;
+            let owned = ["let mut own = Out {", "bytes: out.bytes,", "out.at = own.at;"].map(|part| usize::from(line == part));
+            let others = line.matches("bytes").count() - handed - field - lent - lengths - 2 * owned[1];
             let methods = ["byte", "two", "all", "text", "number", "time", "offset"];
-            let calls: usize = methods.iter().map(|method| line.matches(&format!("out.{method}(")).count()).sum();
+            let called =
+                |lent: &str| methods.iter().map(|method| line.matches(&format!("{lent}.{method}(")).count()).sum::<usize>();
             let read = ["out.at", "out.len()"].iter().map(|asked| line.matches(asked).count()).sum::<usize>();
-            let asked = line.matches("out.").count() - calls - read;
+            let asked = line.matches("out.").count() - called("out") - read - owned[1];
+            let known = called("own") + line.matches("(&mut own, ").count() + owned[0] + owned[2];
+            let words = line.split(|c: char| !c.is_alphanumeric() && c != '_').filter(|word| *word == "own").count();
+            assert!(words == known && (name == "sdp_row" || words + owned[1] == 0), "{name}: {line}");
             let places = line.matches("out[").count() - stored;
             assert_eq!((others, asked, places), (0, 0, 0), "{name}: {line}");
             assert!(!line.contains("&out") && (name == "sdp_put" || stored + handed + field == 0), "{name}: {line}");
@@ -91,9 +96,11 @@ fn no_output_is_read() {
             }
             stores += stored;
             made += lent;
+            parts = [0, 1, 2].map(|k| parts[k] + owned[k]);
         }
     }
     assert_eq!((stores, made), (1 + 4 + 8 + 1, 1), "one byte, four digits, eight bytes, a byte of a short string; in fill");
+    assert_eq!(parts, [3; 3], "lines of one string, c and m lines: made of the lent one, whose place is set at the end");
 }
 
 /// In `sdp_put` every word `out` is a parameter that can be stored to, its length, a store, or what one of the functions with
