@@ -42,8 +42,8 @@ impl Out<'_> {
         self.at = self.at.saturating_add(s.len());
     }
 
-    // A whole slice, as far as there is room. How much is copied must not depend on the place where all of it fits: the next copies would
-    // wait for that.
+    // A whole slice, as far as there is room. That all of it fits is a branch: a least of two would make each copy wait for the place that the
+    // one before it leaves.
     pub fn all(&mut self, s: &[u8])
         ensures { Puts self.old s.now self.new }
     {

@@ -1,6 +1,7 @@
 // The parts of a line and single lines of a session, put into an output, after writer.rs. p is a place in the area; what is read from there
 // on lies in it.
-// A line of strings is put by an Out of its own over the same slice: where all that sees it is inlined, its place stays in a register.
+// An m line, a c line and a line of one string are put by an Out of their own over the same slice: as all that sees it is inlined, its place
+// stays in a register. The o line comes once.
 #![tactic(auto)]
 
 ghost use Rattle.std.specs.Prelude.{[], ◌∷◌, ◌++◌, ◌+◌, ◌≤◌, length};
